@@ -1,0 +1,1 @@
+// The definition of an answer alone: it has no function.

@@ -1,0 +1,60 @@
+// Control codes, and the byte after ESC that each of them is (draft 000, clause 1).
+ghost use mathlib.Core.Path.{_≡_};
+ghost use Prim.Native.Nat.{_+_, _≤_};
+ghost use Rattle.codes.specs.Codes.{reads, writes, counted, answerOf};
+
+// What a byte says. A value above 63 or an identifier above 31 has no byte.
+pub enum Code {
+    Time(u8),
+    Interrupt(u8),
+    Acknowledge(u8),
+    Reserved,
+}
+
+// What writing a code gives: its byte, or refusal 5.
+pub enum Written {
+    Byte(u8),
+    Refused,
+}
+
+// The code of a byte. Every byte has one.
+pub fn read(byte: u8) -> Code
+    ensures { λ r. ⌜ r ≡ reads byte ⌝ }
+{
+    if byte < 64 {
+        return Code::Time(byte);
+    }
+    if byte < 128 {
+        return Code::Reserved;
+    }
+    if byte < 160 {
+        return Code::Interrupt(byte - 128);
+    }
+    if byte < 192 {
+        return Code::Acknowledge(byte - 160);
+    }
+    Code::Reserved
+}
+
+// The byte of a code: the one that reads as it. Reserved has no writer.
+pub fn write(code: Code) -> Written
+    ensures { λ r. ⌜ answerOf r ≡ writes code ⌝ }
+{
+    match code {
+        Code::Time(value) => placed(0, 63, value),
+        Code::Interrupt(k) => placed(128, 31, k),
+        Code::Acknowledge(k) => placed(160, 31, k),
+        Code::Reserved => Written::Refused,
+    }
+}
+
+// The byte of a value, counted from the byte `first`.
+fn placed(first: u8, most: u8, value: u8) -> Written
+    requires { ⌜ first + most ≤ 255 ⌝ }
+    ensures { λ r. ⌜ answerOf r ≡ counted first most value ⌝ }
+{
+    if most < value {
+        return Written::Refused;
+    }
+    Written::Byte(first + value)
+}
