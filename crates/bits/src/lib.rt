@@ -2,7 +2,7 @@
 // Every function takes any number for a place. A place above 31 is in no set.
 ghost use mathlib.Core.Path.{_≡_};
 ghost use Rattle.bits.specs.Set.{bit, join as Set·join, leave as Set·leave, size};
-ghost use Rattle.bits.specs.First.{firstFrom};
+ghost use Rattle.bits.specs.First.{Finds};
 
 // Where the first member stands.
 pub enum Found {
@@ -50,7 +50,7 @@ pub fn count(x: u32) -> u32
 // The first member of x at or after the place next, going round from 31 to 0. The mask is split at
 // next: the lowest one at or above it, and where there is none, the lowest one of all.
 pub fn first(x: u32, next: u32) -> Found
-    ensures { λ r. ⌜ r ≡ firstFrom x next ⌝ }
+    ensures { λ r. ⌜ Finds x next r ⌝ }
 {
     if x == 0 {
         return Found::Nowhere;

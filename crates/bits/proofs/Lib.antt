@@ -1,0 +1,4 @@
+pub mod Sets
+pub mod Trailing
+pub mod Firsts
+pub mod Unique
