@@ -1,0 +1,23 @@
+use mathlib.Core.Path.{_≡_, ap}
+use Prim.Native.Nat.{ℕ}
+use lib.Dec.{eqb}
+use Rattle.device.specs.Permissions.{mayReceive}
+use borrow.Author.Needs.{needs}
+use Rattle.device.proofs.may_receive.Statement.{statement}
+use Rattle.device.proofs.may_receive.Tie as tie
+
+mul-get : tie.Need-mul-get
+mul-get c = search needs
+
+add-get : tie.Need-add-get
+add-get c = search needs
+
+get-requires : tie.Need-get-requires
+get-requires c κs = search needs
+
+returns : tie.Need-returns
+unfolding mayReceive
+returns c = ap (λ (b : ℕ). eqb b 1) (c .get .ensures)
+
+pub may-receive-spec : {M : Type 1} → statement M
+may-receive-spec = tie.close (tie.spec mul-get add-get get-requires returns)
