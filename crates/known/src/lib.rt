@@ -1,0 +1,1 @@
+// Known values of the definitions, computed: it has no function.
