@@ -3,54 +3,40 @@ use borrow.Author.Needs.{needs}
 use Rattle.codes.specs.Codes.{writes, answerOf}
 use Rattle.codes.proofs.write.Statement.{statement}
 use Rattle.codes.proofs.write.Tie as tie
-use Rattle.codes.proofs.write.Reads as reads
-use Rattle.codes.proofs.write.Lts as lts
-use Rattle.codes.proofs.placed.Reads as placed-reads
 
--- src/lib.rt:44:20
 enum-known-code : tie.Need-enum-known-code
 enum-known-code c = search needs
 
--- src/lib.rt:44:30
 placed-requires : tie.Need-placed-requires
 placed-requires c κs = search needs
 
--- src/lib.rt:45:25
 enum-known-code-2 : tie.Need-enum-known-code-2
 enum-known-code-2 c = search needs
 
--- src/lib.rt:45:31
 placed-requires-2 : tie.Need-placed-requires-2
 placed-requires-2 c κs = search needs
 
--- src/lib.rt:46:27
 enum-known-code-3 : tie.Need-enum-known-code-3
 enum-known-code-3 c = search needs
 
--- src/lib.rt:46:33
 placed-requires-3 : tie.Need-placed-requires-3
 placed-requires-3 c κs = search needs
 
--- src/lib.rt:47:27
 enum-told : tie.Need-enum-told
 enum-told c = search needs
 
--- src/lib.rt:40:1
 returns : tie.Need-returns
 unfolding writes
 returns c = c .placed .ensures ∙ sym (ap writes (c .before .before .code .given .1))
 
--- src/lib.rt:40:1
 returns-2 : tie.Need-returns-2
 unfolding writes
 returns-2 c = c .placed2 .ensures ∙ sym (ap writes (c .before .before .code2 .given .1))
 
--- src/lib.rt:40:1
 returns-3 : tie.Need-returns-3
 unfolding writes
 returns-3 c = c .placed3 .ensures ∙ sym (ap writes (c .before .before .code3 .given .1))
 
--- src/lib.rt:40:1
 returns-4 : tie.Need-returns-4
 unfolding writes answerOf
 returns-4 c = sym (ap writes (c .enum-told .given .1))
