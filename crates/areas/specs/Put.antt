@@ -1,9 +1,9 @@
--- RULES, "Areas": a word is put into an area whole, or not at all.
+-- RULES, "Areas": a word is put into an area whole, or not at all, and so an area is copied.
 use mathlib.Core.Path.{_≡_}
 use mathlib.Core.Bool.{cond}
 use mathlib.Core.List.{List, _++_}
 use Prim.Native.Nat.{ℕ, _+_}
-use lib.Dec.{leb}
+use lib.Dec.{eqb, leb}
 use lib.ListN.{length, take, drop}
 
 -- the area with the word at a place, if the whole word has room there
@@ -22,3 +22,7 @@ pub record Puts (area : List ℕ) (at : ℕ) (word after : List ℕ) (place : �
 -- what was written stands in front, and behind it the area is as it was before
 unfoldable pub over : List ℕ → List ℕ → List ℕ
 over written before = written ++ drop (length written) before
+
+-- an area is copied into one of its length; one of another length stays as it was
+unfoldable pub copied : List ℕ → List ℕ → List ℕ
+copied from to = cond (eqb (length to) (length from)) from to

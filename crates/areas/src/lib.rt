@@ -1,8 +1,11 @@
-// Areas that a caller lends: a word put into one whole, or not at all.
+// Areas that a caller lends: a word put into one whole, or not at all, and whole areas copied or
+// filled.
 ghost use mathlib.Core.Path.{_≡_};
 ghost use Prim.Native.Nat.{_+_};
 ghost use lib.Dec.{leb};
-ghost use Rattle.areas.specs.Put.{Puts};
+ghost use lib.ListN.{length};
+ghost use Rattle.areas.specs.Put.{Puts, copied};
+ghost use Rattle.areas.specs.Table.{table};
 
 // Puts the word at a place of the area, and answers the place after it. A word with no room for all
 // of it changes nothing, and the answer is the place itself.
@@ -29,4 +32,29 @@ pub fn has_room(length: usize, at: usize, size: usize) -> bool
         return false;
     }
     size <= length - at
+}
+
+// Makes the area `dst` the same as `src`. An area of another length stays as it was.
+pub fn copy(src: &[u32], dst: &mut [u32])
+    ensures { λ _. ⌜ now (dst .exit) ≡ copied (now (src .entry)) (now (dst .entry)) ⌝ }
+{
+    if dst.len() != src.len() {
+        return;
+    }
+    let mut i = 0;
+    while i < src.len() {
+        dst[i] = src[i];
+        i += 1;
+    }
+}
+
+// Makes every word of the area the value.
+pub fn fill(area: &mut [u32], value: u32)
+    ensures { λ _. ⌜ now (area .exit) ≡ table (length (now (area .entry))) (λ _. value) ⌝ }
+{
+    let mut i = 0;
+    while i < area.len() {
+        area[i] = value;
+        i += 1;
+    }
 }

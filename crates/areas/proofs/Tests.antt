@@ -1,0 +1,55 @@
+-- Tests joined by "and" and "or", and the test of every place.
+use mathlib.Core.Path.{_≡_, refl, sym, ap, ap₂, _∙_}
+use mathlib.Core.Bool.{Bool, true, false, _&&_, _||_, false≢true}
+use mathlib.Core.Logic.{_⊎_, inl, inr}
+use Prim.Native.Nat.{ℕ, zero, suc, _<_}
+use native.Mathlib.Decide.{ℕ-discrete}
+use native.Mathlib.Omega.{arith}
+use Rattle.areas.specs.Table.{every}
+
+pub and-left : (a b : Bool) → (a && b) ≡ true → a ≡ true
+and-left true b e = refl
+and-left false b e = e
+
+pub and-right : (a b : Bool) → (a && b) ≡ true → b ≡ true
+and-right true b e = e
+and-right false b e = absurd (false≢true e)
+
+pub both : (a b : Bool) → a ≡ true → b ≡ true → (a && b) ≡ true
+both true b p q = q
+both false b p q = p
+
+pub or-cases : (a b : Bool) → (a || b) ≡ true → (a ≡ true) ⊎ (b ≡ true)
+or-cases true b e = inl refl
+or-cases false b e = inr e
+
+pub or-left : (a b : Bool) → a ≡ true → (a || b) ≡ true
+or-left true b e = refl
+or-left false b e = absurd (false≢true e)
+
+pub or-right : (a b : Bool) → b ≡ true → (a || b) ≡ true
+or-right true b e = refl
+or-right false b e = e
+
+pub every-at : (n : ℕ) (f : ℕ → Bool) → every n f ≡ true → (i : ℕ) → i < n → f i ≡ true
+unfolding every
+every-at zero f e i h = absurd (omega arith)
+every-at (suc n) f e i h =
+    elim (ℕ-discrete i n) [ yes q ↦ ap f q ∙ and-right (every n f) (f n) e | no q ↦ every-at n f (and-left (every n f) (f n) e) i (omega arith) ]
+
+pub every-all : (n : ℕ) (f : ℕ → Bool) → ((i : ℕ) → i < n → f i ≡ true) → every n f ≡ true
+unfolding every
+every-all zero f h = refl
+every-all (suc n) f h = both (every n f) (f n) (every-all n f (λ i l. h i (omega arith))) (h n (omega arith))
+
+pub every-not : (n : ℕ) (f : ℕ → Bool) (i : ℕ) → i < n → f i ≡ false → every n f ≡ false
+every-not n f i h e = by-test (every n f) refl
+  where
+    by-test : (t : Bool) → every n f ≡ t → every n f ≡ false
+    by-test false p = p
+    by-test true p = absurd (false≢true (sym e ∙ every-at n f p i h))
+
+pub every-same : (n : ℕ) (f g : ℕ → Bool) → ((i : ℕ) → i < n → f i ≡ g i) → every n f ≡ every n g
+unfolding every
+every-same zero f g h = refl
+every-same (suc n) f g h = ap₂ (λ (a b : Bool). a && b) (every-same n f g (λ i l. h i (omega arith))) (h n (omega arith))

@@ -1,0 +1,53 @@
+use mathlib.Core.Path.{refl}
+use Prim.Native.Nat.{_-_}
+use native.Mathlib.Omega.{arith}
+use lib.ListN.{length}
+use borrow.Author.Needs.{needs}
+use Rattle.areas.proofs.Written.{Written, none, turn, done}
+use Rattle.areas.proofs.fill.Statement.{statement}
+use Rattle.areas.proofs.fill.Tie as tie
+
+abbrev Inv-loop : tie.InvT-loop
+Inv-loop area₀ value i₀ area i = Written (length area₀) (λ _. value) area i
+
+abbrev μ-loop : tie.MeasureT-loop
+μ-loop area₀ value i₀ area i = length area₀ - i
+
+loop-holds : tie.Need-loop-holds Inv-loop μ-loop
+loop-holds c = none refl
+
+mul-area : tie.Need-mul-area Inv-loop μ-loop
+mul-area c = search needs
+
+slice-write-area : tie.Need-slice-write-area Inv-loop μ-loop
+slice-write-area c = search needs
+
+add-i : tie.Need-add-i Inv-loop μ-loop
+add-i c = search needs
+
+loop-less : tie.Need-loop-less Inv-loop μ-loop
+loop-less c = search needs
+
+loop-again : tie.Need-loop-again Inv-loop μ-loop
+loop-again c = turn (c .before .loop .inv) (omega arith)
+
+same-length : tie.Need-same-length Inv-loop μ-loop
+same-length c = search needs
+
+returns : tie.Need-returns Inv-loop μ-loop
+returns c = done (c .before .loop .inv) (omega arith)
+
+pub fill-spec : {M : Type 1} → statement M
+fill-spec =
+    tie.close
+    (tie.spec
+    Inv-loop
+    μ-loop
+    loop-holds
+    mul-area
+    slice-write-area
+    add-i
+    loop-less
+    loop-again
+    same-length
+    returns)
