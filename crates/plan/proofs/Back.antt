@@ -1,0 +1,85 @@
+-- From an accepted file to its plan: the plan has the shape of its types, is right in memory, and is written as that file.
+use mathlib.Core.Path.{_≡_, refl}
+use mathlib.Core.Bool.{Bool, true, false, cond}
+use mathlib.Core.List.{List, [], _∷_}
+use mathlib.Core.Logic.{dite}
+use Prim.Native.Nat.{ℕ, zero, suc, _+_, _*_, _/_, _%_, _<_}
+use native.Mathlib.Decide.{decLt}
+use native.Mathlib.Omega.{arith}
+use lib.Dec.{eqb, ltb}
+use lib.ListN.{getD, List·getD-eq-default}
+use Rattle.areas.specs.Table.{table}
+use Rattle.areas.proofs.Tables.{length-table, getD-table}
+use Rattle.plan.specs.Block.{block, byte}
+use Rattle.plan.specs.Fields.{entry, nobody, peerIn}
+use Rattle.plan.specs.Refusals.{deviceBlock, countIn, peerOf, verdict, accepts}
+use Rattle.plan.specs.Reading.{column, planOf}
+use Rattle.plan.specs.Steps.Memory.{at, right}
+use Rattle.plan.specs.Steps.File.{fileOf}
+use Rattle.plan.proofs.Shape.{Numbers, Shaped}
+use Rattle.plan.proofs.Good.{Good, good}
+use Rattle.plan.proofs.Runs.{block-bytes}
+use Rattle.plan.proofs.Rows.{two-small, four-small}
+use Rattle.plan.proofs.Match.{match-of, match-right, match-file}
+
+-- ---- tables of small numbers
+
+small-either : (t : Bool) (a b : ℕ) {k : ℕ} → a < k → b < k → cond t a b < k
+small-either true a b h l = h
+small-either false a b h l = l
+
+numbers-table : (n : ℕ) (f : ℕ → ℕ) (k : ℕ) → 0 < k → ((i : ℕ) → f i < k) → Numbers (table n f) n k
+numbers-table n f k h l =
+    record {
+      long = length-table n f;
+      small = λ i. dite (decLt i n)
+          (λ g. rw (getD-table n f i 0 g) (l i))
+          (λ g. rw (List·getD-eq-default (table n f) 0 {n = i} (omega (arith, length-table n f))) h);
+    }
+
+numbers-two : (a b k : ℕ) → a < k → b < k → Numbers (a ∷ b ∷ []) 2 k
+numbers-two a b k h l = record { long = refl; small = small }
+  where
+    small : (i : ℕ) → at (a ∷ b ∷ []) i < k
+    small zero = h
+    small (suc zero) = l
+    small (suc (suc i)) = omega arith
+
+numbers-column : (n : ℕ) (f : ℕ → ℕ) (k : ℕ) → 0 < k → ((i : ℕ) → f i < k) → Numbers (column n f) 32 k
+unfolding column
+numbers-column n f k h l = numbers-table 32 _ k h (λ d. small-either (ltb d n) (f d) 0 (l d) h)
+
+small-peer : (s : List ℕ) → ((i : ℕ) → byte s i < 256) → (p : ℕ) → peerIn s p < 65536
+unfolding peerIn
+small-peer s h p =
+    small-either (eqb (entry s p 0) 255) nobody (8 * entry s p 0 + entry s p 1) (omega arith) (omega (arith, h (12 + 4 * p + 0), h (12 + 4 * p + 1)))
+
+-- ---- the plan of a file of bytes
+
+module _ (file : List ℕ) (small : (i : ℕ) → getD file i 0 < 256) where
+  pub shaped : Shaped (planOf file)
+  unfolding planOf
+  shaped =
+      let head = block-bytes file 0 small in
+      let row : (d i : ℕ) → byte (deviceBlock file d) i < 256 = λ d. block-bytes file (1 + d) small in
+      record {
+        loads = numbers-two _ _ 65536 (two-small (block file 0) 4 head) (two-small (block file 0) 2 head);
+        role = numbers-column _ _ 256 (omega arith) (λ d. row d 2);
+        ports = numbers-column _ _ 256 (omega arith) (λ d. row d 3);
+        source = numbers-column _ _ 4294967296 (omega arith) (λ d. four-small (deviceBlock file d) 4 (row d));
+        handler = numbers-column _ _ 4294967296 (omega arith) (λ d. four-small (deviceBlock file d) 8 (row d));
+        permissions = numbers-table 256 _ 256 (omega arith) (λ q. small-either (ltb (q / 8) (countIn file)) _ 0 (row (q / 8) (12 + 4 * (q % 8) + 2)) (omega arith));
+        rows = length-table 32 _;
+        row = λ d h. rw (getD-table 32 (λ e. table 8 (λ p. cond (ltb e (countIn file)) (peerOf file e p) nobody)) d [] h)
+            (numbers-table 8 _ 65536 (omega arith) (λ p. small-either (ltb d (countIn file)) _ nobody (small-peer (deviceBlock file d) (row d) p) (omega arith)));
+      }
+
+  module _ (e : verdict file ≡ accepts) where
+    found : Good file
+    found = good file e
+
+    pub read-right : right (planOf file) ≡ true
+    read-right = match-right (planOf file) file (match-of file) found
+
+    pub read-file : fileOf (planOf file) ≡ file
+    read-file = match-file (planOf file) file (match-of file) found small

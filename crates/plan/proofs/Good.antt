@@ -1,0 +1,116 @@
+-- What it is that a file is accepted: the fact of each test, by name.
+use mathlib.Core.Path.{_≡_, ap}
+use mathlib.Core.Bool.{true}
+use mathlib.Core.List.{List, _++_}
+use Prim.Native.Nat.{ℕ, _+_, _*_, _≤_, _<_}
+use native.Mathlib.Omega.{arith}
+use lib.ListN.{length}
+use Rattle.areas.specs.Table.{joined}
+use Rattle.plan.specs.Block.{block, byte}
+use Rattle.plan.specs.Fields.{checked, zerosFrom, devicesIn, routerLoadIn, nodeLoadIn, devicesFit, loadsFit, headerFits, roleIn, portsIn, sourceIn, handlerIn, portsFit, masksFit, entryFits, deviceFits, joins}
+use Rattle.plan.specs.Refusals.{Test, test, accepts, lengthFits, headerTests, deviceTests, joinTests, deviceBlock, countIn, portsOf, peerOf, tests, verdict}
+use Rattle.areas.proofs.Facts.{facts}
+use Rattle.plan.proofs.Firsts.{AllPass, Numbered, first-accepts, accepts-all, all-append, all-front, all-back, all-joined, all-at, all-table, all-table-at, numbered-append, numbered-joined, numbered-table}
+
+-- ---- the facts
+
+pub record GoodHeader (s : List ℕ) : Type 0 where
+  pub check : checked s ≡ true
+  pub mark : byte s 0 ≡ 1
+  pub devices : devicesFit (devicesIn s) ≡ true
+  pub loads : loadsFit (routerLoadIn s) (nodeLoadIn s) ≡ true
+  pub zeros : zerosFrom 6 s ≡ true
+
+pub record GoodDevice (n d : ℕ) (s : List ℕ) : Type 0 where
+  pub check : checked s ≡ true
+  pub mark : byte s 0 ≡ 2
+  pub number : byte s 1 ≡ d
+  pub ports : portsFit (roleIn s) (portsIn s) ≡ true
+  pub masks : masksFit (roleIn s) (sourceIn s) (handlerIn s) ≡ true
+  pub entries : (p : ℕ) → p < 8 → entryFits n s p ≡ true
+  pub zeros : zerosFrom 44 s ≡ true
+
+pub record Good (file : List ℕ) : Type 0 where
+  pub long : length file ≡ 512 * (1 + countIn file)
+  pub header : GoodHeader (block file 0)
+  pub device : (d : ℕ) → d < countIn file → GoodDevice (countIn file) d (deviceBlock file d)
+  pub joined : (d : ℕ) → d < countIn file → (p : ℕ) → p < 8 → joins (portsOf file) (peerOf file) d p ≡ true
+
+-- 1 to 32 devices
+pub devices-fit : (n : ℕ) → devicesFit n ≡ true → (1 ≤ n) × (n ≤ 32)
+unfolding devicesFit
+devices-fit n e = simp facts at e
+
+-- ---- the tests of one block
+
+module _ (s : List ℕ) where
+  -- the length that the count asks for is one that a file may have
+  fitting : (n : ℕ) → n ≤ 32 → length s ≡ 512 * (1 + n) → lengthFits s ≡ true
+  unfolding lengthFits
+  fitting n h e = simp facts (omega arith)
+
+  module _ (n d : ℕ) where
+    device-good : AllPass (deviceTests n d s) → GoodDevice n d s
+    unfolding deviceTests deviceFits
+    device-good p =
+        let f = simp facts at p in
+        record {
+          check = f .0;
+          mark = f .1 .0 .0;
+          number = f .1 .0 .1;
+          ports = f .1 .1 .0 .0 .0;
+          masks = f .1 .1 .0 .0 .1;
+          entries = f .1 .1 .0 .1;
+          zeros = f .1 .1 .1 .0;
+        }
+
+    good-device : GoodDevice n d s → AllPass (deviceTests n d s)
+    unfolding deviceTests deviceFits
+    good-device g = simp facts (g .check, ((g .mark, g .number), (((g .ports, g .masks), g .entries), (g .zeros, tt))))
+
+-- ---- the tests of a file
+
+module _ (file : List ℕ) where
+  -- the tests of the devices' blocks and those of their connections, which follow the six of the length, of block 0 and of the count
+  abbrev blocks : List Test
+  blocks = joined (countIn file) (λ d. deviceTests (countIn file) d (deviceBlock file d))
+
+  abbrev connections : List Test
+  connections = joined (countIn file) (joinTests (portsOf file) (peerOf file))
+
+  numbered : Numbered (tests file)
+  unfolding tests headerTests deviceTests joinTests
+  numbered =
+      let devices : Numbered (blocks ++ connections) =
+      numbered-append blocks connections
+      (numbered-joined (λ d. deviceTests (countIn file) d (deviceBlock file d)) (countIn file) (λ d. omega arith))
+      (numbered-joined (joinTests (portsOf file) (peerOf file)) (countIn file)
+      (λ d. numbered-table 8 (λ p. test 26 (1 + d) (joins (portsOf file) (peerOf file) d p)) (λ p. omega arith))) in
+      (omega arith, (omega arith, (omega arith, (omega arith, (omega arith, (omega arith, devices))))))
+
+  pub good : verdict file ≡ accepts → Good file
+  unfolding verdict tests headerTests headerFits joinTests
+  good e =
+      let p : AllPass (tests file) = accepts-all (tests file) numbered (ap (λ v. v .number) e) in
+      let f = simp facts at p in
+      let r : AllPass (blocks ++ connections) = p .1 .1 .1 .1 .1 .1 in
+      record {
+        long = f .1 .1 .1 .1 .1 .0;
+        header = record { check = f .1 .0; mark = f .1 .1 .0; devices = f .1 .1 .1 .0 .0; loads = f .1 .1 .1 .0 .1; zeros = f .1 .1 .1 .1 .0 };
+        device = λ d h. device-good (deviceBlock file d) (countIn file) d (all-at _ (countIn file) (all-front blocks connections r) d h);
+        joined = λ d h. all-table-at 8 _ (all-at _ (countIn file) (all-back blocks connections r) d h);
+      }
+
+  pub accepted : Good file → verdict file ≡ accepts
+  unfolding verdict tests headerTests headerFits joinTests
+  accepted g =
+      let devices : AllPass (blocks ++ connections) =
+      all-append blocks connections
+      (all-joined _ (countIn file) (λ d h. good-device (deviceBlock file d) (countIn file) d (g .device d h)))
+      (all-joined _ (countIn file) (λ d h. all-table 8 _ (g .joined d h))) in
+      let h : GoodHeader (block file 0) = g .header in
+      first-accepts (tests file)
+      (simp facts (
+        fitting file (countIn file) (devices-fit (countIn file) (h .devices) .1) (g .long),
+        (h .check, (h .mark, ((h .devices, h .loads), (h .zeros, (g .long, devices))))),
+      ))

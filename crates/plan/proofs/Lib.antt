@@ -1,0 +1,16 @@
+pub mod Back
+pub mod Entries
+pub mod Firsts
+pub mod Good
+pub mod Joined
+pub mod Match
+pub mod Owned
+pub mod Peers
+pub mod Round
+pub mod Rows
+pub mod Runs
+pub mod Sealed
+pub mod Shape
+pub mod Small
+pub mod There
+pub mod Unique

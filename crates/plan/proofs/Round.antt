@@ -1,0 +1,143 @@
+-- The theorems of plan files: what is held is what is right in memory, reading and writing undo each other, and the first refusal found wins.
+use mathlib.Core.Path.{_≡_, refl, sym, ap, _∙_}
+use mathlib.Core.Bool.{Bool, true, false, cond, _&&_, false≢true}
+use mathlib.Core.List.{List, [], _∷_}
+use mathlib.Core.Logic.{dite}
+use Prim.Native.Nat.{ℕ, zero, suc, _*_, _≤_, _<_}
+use native.Mathlib.Decide.{decLt}
+use native.Mathlib.Omega.{arith}
+use lib.Dec.{eqb, leb, ltb}
+use lib.ListN.{length, getD, List·getD-eq-default}
+use borrow.Author.Tests.{ltb-true, eqb-true}
+use Rattle.areas.proofs.Facts.{facts}
+use Rattle.areas.proofs.Tests.{and-left, and-right}
+use Rattle.plan.specs.Fields.{nobody}
+use Rattle.plan.specs.Refusals.{Test, test, Verdict, accepts, first, tests, verdict}
+use Rattle.plan.specs.Reading.{Accepted, Held, zeros}
+use Rattle.plan.specs.declared.Plan.{Plan}
+use Rattle.plan.specs.Steps.Memory.{portRight, rowRight, right}
+use Rattle.plan.specs.Steps.File.{fileOf}
+use Rattle.plan.proofs.Firsts.{fails}
+use Rattle.plan.proofs.Shape.{Shaped}
+use Rattle.plan.proofs.Good.{devices-fit}
+pub use Rattle.plan.proofs.There.{length-file}
+use Rattle.plan.proofs.There.{right-says, right-good}
+use Rattle.plan.proofs.Back.{shaped, read-right, read-file}
+
+-- ---- an accepted file and its plan
+
+module _ (file : List ℕ) (plan : Plan) (a : Accepted file plan) where
+  -- an accepted file, read and written again, gives the same bytes
+  pub read-and-written : fileOf plan ≡ file
+  read-and-written = ap fileOf (a .plan-of) ∙ read-file file (a .bytes) (a .right)
+
+  -- the plan is right in memory, and has the shape of its types
+  accepted-right : right plan ≡ true
+  accepted-right = ap right (a .plan-of) ∙ read-right file (a .bytes) (a .right)
+
+  accepted-shaped : Shaped plan
+  accepted-shaped = rw (a .plan-of) (shaped file (a .bytes))
+
+-- two accepted files of one plan are the same file
+pub one-file : (file other : List ℕ) (plan : Plan) → Accepted file plan → Accepted other plan → file ≡ other
+one-file file other plan a b = sym (read-and-written file plan a) ∙ read-and-written other plan b
+
+module _ (plan : Plan) where
+  pub held-right : Held plan → right plan ≡ true
+  unfolding Held
+  held-right h = accepted-right (h .0) plan (h .1)
+
+  pub held-shaped : Held plan → Shaped plan
+  unfolding Held
+  held-shaped h = accepted-shaped (h .0) plan (h .1)
+
+  pub right-accepted : Shaped plan → right plan ≡ true → Accepted (fileOf plan) plan
+  right-accepted s e = right-good plan (right-says plan e) s
+
+  pub right-held : Shaped plan → right plan ≡ true → Held plan
+  unfolding Held
+  right-held s e = (fileOf plan, right-accepted s e)
+
+  -- the test in memory is true exactly of the plans that some accepted file holds
+  pub checks-agree : Shaped plan → (right plan ≡ true → Held plan) × (Held plan → right plan ≡ true)
+  checks-agree s = (right-held s, held-right)
+
+  -- a held plan, written and read, gives the same plan
+  pub written-and-read : Held plan → Accepted (fileOf plan) plan
+  written-and-read h = right-accepted (held-shaped h) (held-right h)
+
+  pub held-devices : Held plan → (1 ≤ plan .core .devices) × (plan .core .devices ≤ 32)
+  held-devices h = devices-fit (plan .core .devices) (right-says plan (held-right h) .devices)
+
+-- a peer is a port or nobody
+some-peer : (n ports p peer permissions : ℕ) → n ≤ 32 → portRight n ports p peer permissions ≡ true → peer ≤ nobody
+unfolding portRight
+some-peer n ports p peer permissions h e = by-test (ltb p ports && ltb peer (8 * n)) refl e
+  where
+    by-test : (b : Bool) → (ltb p ports && ltb peer (8 * n)) ≡ b → cond b (leb permissions 15) (eqb peer nobody && eqb permissions 0) ≡ true → peer ≤ nobody
+    by-test true q e = omega (arith, ltb-true peer (8 * n) (and-right (ltb p ports) (ltb peer (8 * n)) q))
+    by-test false q e = omega (arith, eqb-true peer nobody (and-left (eqb peer nobody) (eqb permissions 0) e))
+
+pub held-peers : (plan : Plan) → Held plan → (d p : ℕ) → getD (getD (plan .peers) d []) p 0 ≤ nobody
+unfolding rowRight
+held-peers plan h d p =
+    let right = right-says plan (held-right plan h) in
+    let shape = held-shaped plan h in
+    dite (decLt d 32)
+    (λ l. dite (decLt p 8)
+    (λ m. let row = simp facts at (right .rows d l) in some-peer _ _ p _ _ (held-devices plan h .1) (row .1 p m))
+    (λ m. omega (arith, List·getD-eq-default (getD (plan .peers) d []) 0 (past (shape .row d l .long) m))))
+    (λ l. omega (arith, ap (λ row. getD row p 0) (List·getD-eq-default (plan .peers) [] (past (shape .rows) l))))
+  where
+    past : {n size i : ℕ} → n ≡ size → (i < size → ⊥) → n ≤ i
+    past e l = omega arith
+
+pub zeros-not-held : Held zeros → ⊥
+unfolding zeros
+zeros-not-held h = omega (arith, held-devices zeros h)
+
+-- ---- the first found wins
+
+-- what stands past the end of the tests
+abbrev pub none : Test
+none = test 0 0 true
+
+-- test i of some
+abbrev pub nth : List Test → ℕ → Test
+nth ts i = getD ts i none
+
+-- the answer to some tests: all are passed and nothing is wrong; or one is not passed, and it is the first such
+pub data Answers (ts : List Test) (v : Verdict) : Type 0 where
+  nothing : ((j : ℕ) → j < length ts → nth ts j .passes ≡ true) → v ≡ accepts → Answers ts v
+  found : (i : ℕ) → i < length ts → nth ts i .passes ≡ false → ((j : ℕ) → j < i → nth ts j .passes ≡ true) → v ≡ fails (nth ts i) → Answers ts v
+
+-- one more test in front
+earlier : (t : Test) (ts : List Test) (n : ℕ) → t .passes ≡ true → ((j : ℕ) → j < n → nth ts j .passes ≡ true) → (j : ℕ) → j < suc n → nth (t ∷ ts) j .passes ≡ true
+earlier t ts n e h zero l = e
+earlier t ts n e h (suc j) l = h j (omega arith)
+
+-- the reader's answer is one
+pub first-refusal : (ts : List Test) → Answers ts (first ts)
+unfolding first
+first-refusal [] = nothing (λ j h. absurd (omega arith)) refl
+first-refusal (t ∷ ts) = by-test (t .passes) refl (first-refusal ts)
+  where
+    by-test : (b : Bool) → t .passes ≡ b → Answers ts (first ts) → Answers (t ∷ ts) (cond b (first ts) (fails t))
+    by-test false e a = found 0 (omega arith) e (λ j h. absurd (omega arith)) refl
+    by-test true e (nothing p q) = nothing (earlier t ts (length ts) e p) q
+    by-test true e (found i l n p q) = found (suc i) (omega arith) n (earlier t ts i e p) q
+
+-- and there is no other
+pub one-answer : (ts : List Test) (v w : Verdict) → Answers ts v → Answers ts w → v ≡ w
+one-answer ts v w (nothing p q) (nothing r s) = q ∙ sym s
+one-answer ts v w (nothing p q) (found i l n r s) = absurd (false≢true (sym n ∙ p i l))
+one-answer ts v w (found i l n p q) (nothing r s) = absurd (false≢true (sym n ∙ r i l))
+one-answer ts v w (found i l n p q) (found k m o r s) =
+    dite (decLt i k) (λ h. absurd (false≢true (sym n ∙ r i h)))
+    (λ h. dite (decLt k i) (λ g. absurd (false≢true (sym o ∙ p k g)))
+    (λ g. let same : i ≡ k = omega arith in q ∙ ap (λ x. fails (nth ts x)) same ∙ sym s))
+
+-- so what the reader says of a file is the first thing wrong with it
+pub verdict-first : (file : List ℕ) → Answers (tests file) (verdict file)
+unfolding verdict
+verdict-first file = first-refusal (tests file)

@@ -1,0 +1,44 @@
+-- Each public function's promise allows one result.
+use mathlib.Core.Path.{_≡_, sym, ap₂, _∙_}
+use mathlib.Core.Bool.{Bool}
+use mathlib.Core.List.{List, []}
+use Prim.Native.Nat.{ℕ, min}
+use lib.ListN.{getD}
+use Rattle.areas.specs.Table.{joined}
+use Rattle.plan.specs.Fields.{devicesFit, loadsFit, portsFit, masksFit}
+use Rattle.plan.specs.Refusals.{first, joinTests}
+use Rattle.answers.specs.Decides.{Decides}
+use Rattle.answers.proofs.Unique.{decides-once}
+use Rattle.plan.specs.Reading.{Held}
+use Rattle.plan.specs.declared.Core.{Core}
+use Rattle.plan.specs.declared.Plan.{Plan}
+
+pub whole-unique : (core : Core) (peers : List (List ℕ)) (r s : Plan)
+    → (r .core ≡ core) × (r .peers ≡ peers) → (s .core ≡ core) × (s .peers ≡ peers) → r ≡ s
+whole-unique core peers r s p q =
+    ap₂ (λ (c : Core) (ps : List (List ℕ)). record { core = c; peers = ps }) (p .0 ∙ sym (q .0)) (p .1 ∙ sym (q .1))
+
+pub peers-of-unique : (plan : Plan) (r s : List (List ℕ)) → r ≡ plan .peers → s ≡ plan .peers → r ≡ s
+peers-of-unique plan r s p q = p ∙ sym q
+
+pub devices-fit-unique : (n : ℕ) (r s : Bool) → r ≡ devicesFit n → s ≡ devicesFit n → r ≡ s
+devices-fit-unique n r s p q = p ∙ sym q
+
+pub loads-fit-unique : (router node : ℕ) (r s : Bool) → r ≡ loadsFit router node → s ≡ loadsFit router node → r ≡ s
+loads-fit-unique router node r s p q = p ∙ sym q
+
+pub ports-fit-unique : (role ports : ℕ) (r s : Bool) → r ≡ portsFit role ports → s ≡ portsFit role ports → r ≡ s
+ports-fit-unique role ports r s p q = p ∙ sym q
+
+pub masks-fit-unique : (role source handler : ℕ) (r s : Bool) → r ≡ masksFit role source handler → s ≡ masksFit role source handler → r ≡ s
+masks-fit-unique role source handler r s p q = p ∙ sym q
+
+module _ (n : ℕ) (ports : List ℕ) (peers : List (List ℕ)) where
+  abbrev found : ℕ
+  found = first (joined (min n 32) (joinTests (λ e. getD ports e 0) (λ e q. getD (getD peers e []) q 0))) .at
+
+  pub bad-block-unique : (r s : ℕ) → r ≡ found → s ≡ found → r ≡ s
+  bad-block-unique r s p q = p ∙ sym q
+
+pub is-held-unique : (plan : Plan) (r s : Bool) → Decides (Held plan) r → Decides (Held plan) s → r ≡ s
+is-held-unique plan r s p q = decides-once r s p q

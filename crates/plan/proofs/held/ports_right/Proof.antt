@@ -1,0 +1,84 @@
+-- `plan::held::ports_right` meets its contract. The invariant: the ports before p are right. Assumes nothing.
+use mathlib.Core.Path.{_≡_, sym, _∙_}
+use mathlib.Core.Bool.{true}
+use mathlib.Core.List.{[]}
+use Prim.Native.Nat.{ℕ, _+_, _-_, _*_, _<_, _≤_}
+use native.Mathlib.Omega.{arith}
+use lib.ListN.{getD}
+use borrow.Author.Count.{below-none, below-more}
+use borrow.Author.Tests.{not-true, not-false}
+use Rattle.areas.proofs.Tests.{every-all, every-not}
+use Rattle.plan.specs.Steps.Memory.{portRight}
+use borrow.Author.Needs.{needs}
+use Rattle.plan.proofs.held.ports_right.Statement.{statement}
+use Rattle.plan.proofs.held.ports_right.Tie as tie
+
+abbrev Inv-loop : tie.InvT-loop
+Inv-loop n ports d permissions peers p₀ p =
+    (p ≤ 8) × ((i : ℕ) → i < p → portRight n ports i (getD (getD peers d []) i 0) (getD permissions (8 * d + i) 0) ≡ true)
+
+abbrev μ-loop : tie.MeasureT-loop
+μ-loop n ports d permissions peers p₀ p = 8 - p
+
+loop-holds : tie.Need-loop-holds Inv-loop μ-loop
+loop-holds c = (omega arith, below-none _)
+
+mul-port-right : tie.Need-mul-port-right Inv-loop μ-loop
+mul-port-right c = search needs
+
+mul-port-right-2 : tie.Need-mul-port-right-2 Inv-loop μ-loop
+mul-port-right-2 c = search needs
+
+index-1-port-right : tie.Need-index-1-port-right Inv-loop μ-loop
+index-1-port-right c = search needs
+
+index-2-port-right : tie.Need-index-2-port-right Inv-loop μ-loop
+index-2-port-right c = search needs
+
+mul-port-right-3 : tie.Need-mul-port-right-3 Inv-loop μ-loop
+mul-port-right-3 c = search needs
+
+add-port-right : tie.Need-add-port-right Inv-loop μ-loop
+add-port-right c = search needs
+
+element-copy-out-port-right : tie.Need-element-copy-out-port-right Inv-loop μ-loop
+element-copy-out-port-right c = search needs
+
+port-right-requires : tie.Need-port-right-requires Inv-loop μ-loop
+port-right-requires c κs = search needs
+
+returns : tie.Need-returns Inv-loop μ-loop
+returns c = sym (every-not 8 _ _ (omega arith) (sym (c .before .port-right .ensures) ∙ not-true _ (c .if1 .taken)))
+
+add-p : tie.Need-add-p Inv-loop μ-loop
+add-p c = search needs
+
+loop-less : tie.Need-loop-less Inv-loop μ-loop
+loop-less c = omega arith
+
+loop-again : tie.Need-loop-again Inv-loop μ-loop
+loop-again c = (omega arith, below-more _ _ (c .before .before .before .before .before .loop .inv .1) (sym (c .before .port-right .ensures) ∙ not-false _ (c .if1 .left)))
+
+returns-2 : tie.Need-returns-2 Inv-loop μ-loop
+returns-2 c = sym (every-all 8 _ (λ i l. c .before .loop .inv .1 i (omega arith)))
+
+pub ports-right-spec : {M : Type 1} → statement M
+ports-right-spec =
+    tie.close
+    (tie.spec
+    Inv-loop
+    μ-loop
+    loop-holds
+    mul-port-right
+    mul-port-right-2
+    index-1-port-right
+    index-2-port-right
+    mul-port-right-3
+    add-port-right
+    element-copy-out-port-right
+    port-right-requires
+    returns
+    add-p
+    loop-less
+    loop-again
+    returns-2)

@@ -1,0 +1,124 @@
+-- `plan::joins::joins` meets its contract: each test by its branch. Assumes nothing.
+use mathlib.Core.Path.{_≡_, sym}
+use mathlib.Core.Bool.{Bool, true, false, not, _&&_}
+use Prim.Native.Nat.{ℕ, _+_, _*_, _/_, _%_, _<_}
+use native.Mathlib.Omega.{arith}
+use lib.Dec.{eqb}
+use lib.ListN.{getD, List·getD-eq-default}
+use denote.Ref.{now}
+use borrow.Author.Needs.{needs, zero≤}
+use borrow.Author.Tests.{eq-eqb, ne-eqb, lt-ltb, le-ltb}
+use Rattle.plan.specs.Fields.{joins as Fields·joins}
+use Rattle.plan.proofs.joins.joins.Statement.{statement}
+use Rattle.plan.proofs.joins.joins.Tie as tie
+
+-- a connection to a port that exists, by whether it points back
+leads : (ports : ℕ → ℕ) (peer : ℕ → ℕ → ℕ) (d p q : ℕ) (back : Bool) → q ≡ peer d p → (q ≡ 256 → ⊥) → q % 8 < ports (q / 8)
+    → eqb (peer (q / 8) (q % 8)) (8 * d + p) ≡ back → Fields·joins ports peer d p ≡ (back && not (eqb q (8 * d + p)))
+unfolding Fields·joins
+leads ports peer d p q back e n l b = simp (← e, ne-eqb _ _ n, lt-ltb _ _ l, b)
+
+mul-wide : tie.Need-mul-wide
+mul-wide c = search needs
+
+mul-wide-2 : tie.Need-mul-wide-2
+mul-wide-2 c = search needs
+
+index-1-wide : tie.Need-index-1-wide
+index-1-wide c = search needs
+
+index-2-wide : tie.Need-index-2-wide
+index-2-wide c = search needs
+
+wide-requires : tie.Need-wide-requires
+wide-requires c κs = search needs
+
+returns : tie.Need-returns
+unfolding Fields·joins
+returns c = simp (← c .before .wide .ensures, eq-eqb _ _ (c .if1 .taken))
+
+returns-2 : tie.Need-returns-2
+unfolding Fields·joins
+returns-2 c =
+    let w = c .before .before .wide in
+    let all = now (c .before .before .before .before .args .ports) in
+    let none : getD all (w .result / 8) 0 ≡ 0 = List·getD-eq-default all 0 (omega arith) in
+    simp (← w .ensures, ne-eqb _ _ (c .before .if1 .left), none, le-ltb (w .result % 8) 0 zero≤)
+
+element-copy-out-wide8 : tie.Need-element-copy-out-wide8
+element-copy-out-wide8 c = search needs
+
+wide8-requires : tie.Need-wide8-requires
+wide8-requires c κs = search needs
+
+returns-3 : tie.Need-returns-3
+unfolding Fields·joins
+returns-3 c =
+    simp (← c .before .before .before .before .before .wide .ensures, ne-eqb _ _ (c .before .before .before .before .if1 .left), ← c .before .wide8 .ensures, le-ltb _ _ (c .if3 .taken))
+
+mul-wide-3 : tie.Need-mul-wide-3
+mul-wide-3 c = search needs
+
+mul-wide-4 : tie.Need-mul-wide-4
+mul-wide-4 c = search needs
+
+index-1-wide-2 : tie.Need-index-1-wide-2
+index-1-wide-2 c = search needs
+
+index-2-wide-2 : tie.Need-index-2-wide-2
+index-2-wide-2 c = search needs
+
+wide-requires-2 : tie.Need-wide-requires-2
+wide-requires-2 c κs = search needs
+
+mul-if4 : tie.Need-mul-if4
+mul-if4 c = search needs
+
+add-if4 : tie.Need-add-if4
+add-if4 c = search needs
+
+returns-4 : tie.Need-returns-4
+returns-4 c =
+    let e = c .before .before .before in
+    let w = e .before .before .before .before .before .wide in
+    let some = e .before .before .before .before .if1 .left in
+    sym (leads _ _ _ _ (w .result) false (w .ensures) some (rw (← e .before .wide8 .ensures) (e .if3 .left)) (rw (← c .before .wide2 .ensures) (ne-eqb _ _ (c .if4 .taken))))
+
+mul-result : tie.Need-mul-result
+mul-result c = search needs
+
+add-result : tie.Need-add-result
+add-result c = search needs
+
+returns-5 : tie.Need-returns-5
+returns-5 c =
+    let e = c .before .before .before in
+    let w = e .before .before .before .before .before .wide in
+    let some = e .before .before .before .before .if1 .left in
+    sym (leads _ _ _ _ (w .result) true (w .ensures) some (rw (← e .before .wide8 .ensures) (e .if3 .left)) (rw (← c .before .wide2 .ensures) (eq-eqb _ _ (c .if4 .left))))
+
+pub joins-spec : {M : Type 1} → statement M
+joins-spec =
+    tie.close
+    (tie.spec
+    mul-wide
+    mul-wide-2
+    index-1-wide
+    index-2-wide
+    wide-requires
+    returns
+    returns-2
+    element-copy-out-wide8
+    wide8-requires
+    returns-3
+    mul-wide-3
+    mul-wide-4
+    index-1-wide-2
+    index-2-wide-2
+    wide-requires-2
+    mul-if4
+    add-if4
+    returns-4
+    mul-result
+    add-result
+    returns-5)

@@ -1,0 +1,97 @@
+-- RULES, "Plan file": what each field of a block may hold.
+use mathlib.Core.Bool.{Bool, cond, not, _&&_, _||_}
+use mathlib.Core.List.{List}
+use Prim.Native.Nat.{ℕ, _+_, _-_, _*_, _/_, _%_}
+use lib.Bits.{bitAnd}
+use lib.Dec.{eqb, ltb, leb}
+use Rattle.areas.specs.Table.{every}
+use Rattle.plan.specs.Block.{byte, two, four, check}
+
+-- ---- any block
+
+-- bytes 510 and 511 hold the check
+unfoldable pub checked : List ℕ → Bool
+checked s = eqb (two s 510) (check s)
+
+-- the bytes from one on up to 509 are zero
+unfoldable pub zerosFrom : ℕ → List ℕ → Bool
+zerosFrom from s = every (510 - from) (λ i. eqb (byte s (from + i)) 0)
+
+-- ---- block 0
+
+abbrev pub devicesIn : List ℕ → ℕ
+devicesIn s = byte s 1
+
+abbrev pub routerLoadIn : List ℕ → ℕ
+routerLoadIn s = two s 2
+
+abbrev pub nodeLoadIn : List ℕ → ℕ
+nodeLoadIn s = two s 4
+
+-- 1 to 32 devices; loads of at least 1, the routers' not above the nodes'
+unfoldable pub devicesFit : ℕ → Bool
+devicesFit n = leb 1 n && leb n 32
+
+unfoldable pub loadsFit : ℕ → ℕ → Bool
+loadsFit router node = leb 1 router && leb 1 node && leb router node
+
+unfoldable pub headerFits : List ℕ → Bool
+headerFits s = devicesFit (devicesIn s) && loadsFit (routerLoadIn s) (nodeLoadIn s)
+
+-- ---- the block of a device
+
+abbrev pub roleIn : List ℕ → ℕ
+roleIn s = byte s 2
+
+abbrev pub portsIn : List ℕ → ℕ
+portsIn s = byte s 3
+
+abbrev pub sourceIn : List ℕ → ℕ
+sourceIn s = four s 4
+
+abbrev pub handlerIn : List ℕ → ℕ
+handlerIn s = four s 8
+
+-- a node (0) has one port, a router (1) one to eight; there is no other role
+unfoldable pub portsFit : ℕ → ℕ → Bool
+portsFit role ports = cond (eqb role 0) (eqb ports 1) (eqb role 1 && leb 1 ports && leb ports 8)
+
+-- a node's masks have no common bit, a router's are both 0
+unfoldable pub masksFit : ℕ → ℕ → ℕ → Bool
+masksFit role source handler = cond (eqb role 0) (eqb (bitAnd source handler) 0) (eqb source 0 && eqb handler 0)
+
+-- byte j of the entry of port p
+abbrev pub entry : List ℕ → ℕ → ℕ → ℕ
+entry s p j = byte s (12 + 4 * p + j)
+
+-- 255, 255, 0, 0
+unfoldable pub unconnected : List ℕ → ℕ → Bool
+unconnected s p = eqb (entry s p 0) 255 && eqb (entry s p 1) 255 && eqb (entry s p 2) 0 && eqb (entry s p 3) 0
+
+-- a device below n, a port below 8, permissions 0 to 15, zero
+unfoldable pub connected : ℕ → List ℕ → ℕ → Bool
+connected n s p = ltb (entry s p 0) n && ltb (entry s p 1) 8 && leb (entry s p 2) 15 && eqb (entry s p 3) 0
+
+-- an existing port is connected or not, an absent one is not
+unfoldable pub entryFits : ℕ → List ℕ → ℕ → Bool
+entryFits n s p = cond (ltb p (portsIn s)) (connected n s p || unconnected s p) (unconnected s p)
+
+unfoldable pub deviceFits : ℕ → List ℕ → Bool
+deviceFits n s = portsFit (roleIn s) (portsIn s) && masksFit (roleIn s) (sourceIn s) (handlerIn s) && every 8 (entryFits n s)
+
+-- ---- connections
+
+-- the number for no peer
+abbrev pub nobody : ℕ
+nobody = 256
+
+-- the peer of port p: 8 x its device + its port, or nobody
+unfoldable pub peerIn : List ℕ → ℕ → ℕ
+peerIn s p = cond (eqb (entry s p 0) 255) nobody (8 * entry s p 0 + entry s p 1)
+
+-- of what each device's number of ports and each port's peer are: the connection of port p of device d, if it has one, leads to a
+-- port that exists, that points back, and that is not the port itself
+unfoldable pub joins : (ℕ → ℕ) → (ℕ → ℕ → ℕ) → ℕ → ℕ → Bool
+joins ports peer d p =
+    let q = peer d p in
+    eqb q nobody || (ltb (q % 8) (ports (q / 8)) && eqb (peer (q / 8) (q % 8)) (8 * d + p) && not (eqb q (8 * d + p)))

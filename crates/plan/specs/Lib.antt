@@ -1,0 +1,6 @@
+pub mod Block
+pub mod Fields
+pub mod Refusals
+pub mod Reading
+pub mod Writing
+pub mod Steps

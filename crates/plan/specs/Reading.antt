@@ -1,0 +1,77 @@
+-- RULES, "Plan file": the plan that a file holds, and what the reader answers.
+use mathlib.Core.Path.{_≡_}
+use mathlib.Core.Bool.{cond}
+use mathlib.Core.List.{List, [], _∷_}
+use Prim.Native.Nat.{ℕ, _/_, _%_, _<_}
+use lib.Dec.{eqb, ltb}
+use lib.ListN.{getD, replicate}
+use Rattle.areas.specs.Table.{table}
+use Rattle.plan.specs.Block.{block}
+use Rattle.plan.specs.Fields.{routerLoadIn, nodeLoadIn, roleIn, sourceIn, handlerIn, entry, nobody}
+use Rattle.plan.specs.Refusals.{accepts, verdict, countIn, deviceBlock, portsOf, peerOf}
+use Rattle.plan.specs.declared.Plan.{Plan}
+use Rattle.plan.specs.declared.Read.{Read}
+
+-- ---- the plan of a file
+
+-- a value for each of n devices, and for those that are absent 0
+unfoldable pub column : ℕ → (ℕ → ℕ) → List ℕ
+column n f = table 32 (λ d. cond (ltb d n) (f d) 0)
+
+-- loads stand by role, the node's first; permissions by port 8 x d + p; peers by device and port. Absent devices have 0 and no peers;
+-- the entries of absent ports say the same
+unfoldable pub planOf : List ℕ → Plan
+planOf file =
+    let n = countIn file in
+    record {
+      core =
+          record {
+            devices = n;
+            loads = nodeLoadIn (block file 0) ∷ routerLoadIn (block file 0) ∷ [];
+            role = column n (λ d. roleIn (deviceBlock file d));
+            ports = column n (portsOf file);
+            source = column n (λ d. sourceIn (deviceBlock file d));
+            handler = column n (λ d. handlerIn (deviceBlock file d));
+            permissions = table 256 (λ q. cond (ltb (q / 8) n) (entry (deviceBlock file (q / 8)) (q % 8) 2) 0);
+          };
+      peers = table 32 (λ d. table 8 (λ p. cond (ltb d n) (peerOf file d p) nobody));
+    }
+
+-- all zeros, which no file holds
+unfoldable pub zeros : Plan
+zeros =
+    record {
+      core =
+          record {
+            devices = 0;
+            loads = replicate 2 0;
+            role = replicate 32 0;
+            ports = replicate 32 0;
+            source = replicate 32 0;
+            handler = replicate 32 0;
+            permissions = replicate 256 0;
+          };
+      peers = replicate 32 (replicate 8 0);
+    }
+
+-- ---- accepted files, and the plans that they hold
+
+-- a file of bytes in which nothing is wrong, and its plan
+pub record Accepted (file : List ℕ) (plan : Plan) : Type 0 where
+  pub bytes : (i : ℕ) → getD file i 0 < 256
+  pub right : verdict file ≡ accepts
+  pub plan-of : plan ≡ planOf file
+
+-- some accepted file reads as the plan
+unfoldable pub Held : Plan → Type 0
+Held plan = (file : List ℕ) × Accepted file plan
+
+-- ---- what the reader answers: number and block, and the plan, all zeros beside a refusal
+
+unfoldable pub reads : List ℕ → Read
+reads file =
+    record {
+      number = verdict file .number;
+      block = verdict file .at;
+      plan = cond (eqb (verdict file .number) 0) (planOf file) zeros;
+    }

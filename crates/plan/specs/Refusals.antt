@@ -1,0 +1,78 @@
+-- RULES, "Plan file": the reader's refusals, in their order; the first found wins.
+use mathlib.Core.Bool.{Bool, cond, _&&_}
+use mathlib.Core.List.{List, [], _∷_, _++_}
+use Prim.Native.Nat.{ℕ, _+_, _*_, _%_}
+use lib.Dec.{eqb, leb}
+use lib.ListN.{length}
+use Rattle.areas.specs.Table.{table, joined}
+use Rattle.plan.specs.Block.{block, byte}
+use Rattle.plan.specs.Fields.{checked, zerosFrom, devicesIn, headerFits, portsIn, deviceFits, peerIn, joins}
+
+-- a test: the number and the block that it is refused with, and whether the file passes
+pub record Test : Type 0 where
+  pub number : ℕ
+  pub at : ℕ
+  pub passes : Bool
+
+abbrev pub test : ℕ → ℕ → Bool → Test
+test number at passes = record { number = number; at = at; passes = passes }
+
+-- what the reader says of a file: a number and a block; 0 and 0 where nothing is wrong
+pub record Verdict : Type 0 where
+  pub number : ℕ
+  pub at : ℕ
+
+abbrev pub accepts : Verdict
+accepts = record { number = 0; at = 0 }
+
+-- the first test that is not passed
+unfoldable pub first : List Test → Verdict
+first [] = accepts
+first (t ∷ ts) = cond (t .passes) (first ts) (record { number = t .number; at = t .at })
+
+-- 512 to 16,896 bytes, in whole blocks
+unfoldable pub lengthFits : List ℕ → Bool
+lengthFits file = leb 512 (length file) && leb (length file) 16896 && eqb (length file % 512) 0
+
+-- block 0: the check, byte 0, the fields, the zeros
+unfoldable pub headerTests : List ℕ → List Test
+headerTests s =
+    test 21 0 (checked s) ∷ test 22 0 (eqb (byte s 0) 1) ∷ test 23 0 (headerFits s) ∷ test 24 0 (zerosFrom 6 s) ∷ []
+
+-- block 1 + d of n devices: the check, bytes 0 and 1, the fields, the zeros
+unfoldable pub deviceTests : ℕ → ℕ → List ℕ → List Test
+deviceTests n d s =
+    test 21 (1 + d) (checked s)
+    ∷ test 22 (1 + d) (eqb (byte s 0) 2 && eqb (byte s 1) d)
+    ∷ test 23 (1 + d) (deviceFits n s)
+    ∷ test 24 (1 + d) (zerosFrom 44 s)
+    ∷ []
+
+-- the connections of device d, by port
+unfoldable pub joinTests : (ℕ → ℕ) → (ℕ → ℕ → ℕ) → ℕ → List Test
+joinTests ports peer d = table 8 (λ p. test 26 (1 + d) (joins ports peer d p))
+
+module _ (file : List ℕ) where
+  -- the block of device d
+  abbrev pub deviceBlock : ℕ → List ℕ
+  deviceBlock d = block file (1 + d)
+
+  abbrev pub countIn : ℕ
+  countIn = devicesIn (block file 0)
+
+  abbrev pub portsOf : ℕ → ℕ
+  portsOf d = portsIn (deviceBlock d)
+
+  abbrev pub peerOf : ℕ → ℕ → ℕ
+  peerOf d p = peerIn (deviceBlock d) p
+
+  unfoldable pub tests : List Test
+  tests =
+      (test 20 0 (lengthFits file) ∷ [])
+      ++ headerTests (block file 0)
+      ++ (test 25 0 (eqb (length file) (512 * (1 + countIn))) ∷ [])
+      ++ joined countIn (λ d. deviceTests countIn d (deviceBlock d))
+      ++ joined countIn (joinTests portsOf peerOf)
+
+  unfoldable pub verdict : Verdict
+  verdict = first tests

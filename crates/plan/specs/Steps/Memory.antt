@@ -1,0 +1,41 @@
+-- What a plan looks like in memory that some accepted file holds, as one computed test.
+use mathlib.Core.Bool.{Bool, cond, _&&_}
+use mathlib.Core.List.{List, []}
+use Prim.Native.Nat.{ℕ, _+_, _*_}
+use lib.Dec.{eqb, ltb, leb}
+use lib.ListN.{getD}
+use Rattle.areas.specs.Table.{every}
+use Rattle.plan.specs.Fields.{devicesFit, loadsFit, portsFit, masksFit, nobody, joins}
+use Rattle.plan.specs.declared.Core.{Core}
+use Rattle.plan.specs.declared.Plan.{Plan}
+
+-- what stands in the peers at a device and a port
+abbrev pub peerAt : List (List ℕ) → ℕ → ℕ → ℕ
+peerAt peers d p = getD (getD peers d []) p 0
+
+abbrev pub at : List ℕ → ℕ → ℕ
+at l d = getD l d 0
+
+-- an existing port has a peer among n devices and permissions up to 15, or neither; an absent one neither
+unfoldable pub portRight : ℕ → ℕ → ℕ → ℕ → ℕ → Bool
+portRight n ports p peer permissions =
+    cond (ltb p ports && ltb peer (8 * n)) (leb permissions 15) (eqb peer nobody && eqb permissions 0)
+
+-- a device's numbers fit its role; those of an absent device are 0
+unfoldable pub deviceRight : ℕ → ℕ → ℕ → ℕ → ℕ → ℕ → Bool
+deviceRight n d role ports source handler =
+    cond (ltb d n) (portsFit role ports && masksFit role source handler) (eqb role 0 && eqb ports 0 && eqb source 0 && eqb handler 0)
+
+-- device d, with its ports
+unfoldable pub rowRight : Core → List (List ℕ) → ℕ → Bool
+rowRight core peers d =
+    deviceRight (core .devices) d (at (core .role) d) (at (core .ports) d) (at (core .source) d) (at (core .handler) d)
+    && every 8 (λ p. portRight (core .devices) (at (core .ports) d) p (peerAt peers d p) (at (core .permissions) (8 * d + p)))
+
+-- the whole plan
+unfoldable pub right : Plan → Bool
+right plan =
+    devicesFit (plan .core .devices)
+    && loadsFit (at (plan .core .loads) 1) (at (plan .core .loads) 0)
+    && every 32 (rowRight (plan .core) (plan .peers))
+    && every (plan .core .devices) (λ d. every 8 (joins (at (plan .core .ports)) (peerAt (plan .peers)) d))

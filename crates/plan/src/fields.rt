@@ -1,0 +1,53 @@
+// What the numbers of a plan may be, whether they come from a file or stand in memory.
+ghost use mathlib.Core.Path.{_≡_};
+ghost use Rattle.plan.specs.Fields.{devicesFit, loadsFit, portsFit, masksFit};
+
+pub fn devices_fit(n: usize) -> bool
+    ensures { λ r. ⌜ r ≡ devicesFit n ⌝ }
+{
+    if n < 1 {
+        return false;
+    }
+    n <= 32
+}
+
+pub fn loads_fit(router: usize, node: usize) -> bool
+    ensures { λ r. ⌜ r ≡ loadsFit router node ⌝ }
+{
+    if router < 1 {
+        return false;
+    }
+    if node < 1 {
+        return false;
+    }
+    router <= node
+}
+
+// Does the role allow this number of ports?
+pub fn ports_fit(role: u8, ports: u8) -> bool
+    ensures { λ r. ⌜ r ≡ portsFit role ports ⌝ }
+{
+    if role == 0 {
+        return ports == 1;
+    }
+    if role != 1 {
+        return false;
+    }
+    if ports < 1 {
+        return false;
+    }
+    ports <= 8
+}
+
+// Does the role allow these masks?
+pub fn masks_fit(role: u8, source: u32, handler: u32) -> bool
+    ensures { λ r. ⌜ r ≡ masksFit role source handler ⌝ }
+{
+    if role == 0 {
+        return source & handler == 0;
+    }
+    if source != 0 {
+        return false;
+    }
+    handler == 0
+}

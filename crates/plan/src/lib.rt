@@ -1,0 +1,56 @@
+// The plan of a network in memory: its parts, what its fields may hold, and whether a file holds it.
+ghost use mathlib.Core.Path.{_≡_};
+
+mod fields;
+mod held;
+mod joins;
+
+pub use fields::devices_fit;
+pub use fields::loads_fit;
+pub use fields::masks_fit;
+pub use fields::ports_fit;
+pub use held::is_held;
+pub use joins::bad_block;
+
+// The numbers and flat arrays of a plan. Loads stand by role, the node's first. Permissions stand
+// by port, 8 x device + port. Absent devices and ports have 0 everywhere.
+pub struct Core {
+    pub devices: usize,
+    pub loads: [u16; 2],
+    pub role: [u8; 32],
+    pub ports: [u8; 32],
+    pub source: [u32; 32],
+    pub handler: [u32; 32],
+    pub permissions: [u8; 256],
+}
+
+// The whole plan. A peer is 8 x its device + its port; 256 is no peer.
+pub struct Plan {
+    pub core: Core,
+    pub peers: [[u16; 8]; 32],
+}
+
+// What reading a file gives: 0 and its plan, or a refusal with the block, beside a plan of zeros.
+pub struct Read {
+    pub number: u32,
+    pub block: u32,
+    pub plan: Plan,
+}
+
+// A plan of its two parts. An array of arrays as a field costs a proof by hand, so only this
+// function and the next one name it.
+pub fn whole(core: Core, peers: [[u16; 8]; 32]) -> Plan
+    ensures { λ r. ⌜ (r .core ≡ core) × (r .peers ≡ peers) ⌝ }
+{
+    Plan {
+        core: core,
+        peers: peers,
+    }
+}
+
+// The peers of a plan.
+pub fn peers_of(plan: Plan) -> [[u16; 8]; 32]
+    ensures { λ r. ⌜ r ≡ plan .peers ⌝ }
+{
+    plan.peers
+}
