@@ -1,0 +1,132 @@
+-- What the reader answers, of what the scan and the search of the connections say.
+use mathlib.Core.Path.{_≡_, refl, sym, ap, _∙_}
+use mathlib.Core.Bool.{_&&_}
+use mathlib.Core.List.{List, [], _++_}
+use mathlib.Core.Logic.{_⊎_, inl, inr}
+use Prim.Native.Nat.{ℕ, _+_, _*_, _≤_, _<_, min}
+use native.Mathlib.Omega.{arith}
+use lib.ListN.{length, getD}
+use borrow.Author.Tests.{ne-eqb, eqb-true}
+use Rattle.areas.specs.Table.{joined, every}
+use Rattle.areas.proofs.Tests.{and-right, every-at}
+use Rattle.plan.specs.Block.{block}
+use Rattle.plan.specs.Fields.{portsFit, masksFit, roleIn, portsIn, sourceIn, handlerIn, entryFits, deviceFits}
+use Rattle.plan.specs.Refusals.{Test, Verdict, accepts, first, deviceTests, joinTests, deviceBlock, countIn, portsOf, peerOf, tests, verdict}
+use Rattle.plan.specs.Reading.{planOf, zeros, reads}
+use Rattle.plan.specs.declared.Core.{Core}
+use Rattle.plan.specs.declared.Plan.{Plan}
+use Rattle.plan.specs.declared.Read.{Read}
+use Rattle.plan.proofs.Firsts.{AllPass, Numbered, Stops, passes-or-stops, first-accepts, first-stops, accepts-all, all-front, all-back, all-at, stops-front, numbered-append, numbered-joined}
+use Rattle.planfile.specs.declared.reader.Place.{Place}
+use Rattle.planfile.specs.Scan.{ofDevice, scanTests, scanned}
+use Rattle.planfile.proofs.Joins.{Leads, entry-leads, same-tests, devices-held, ports-held, peer-held}
+use Rattle.planfile.proofs.Marked.{Each, stops-each, each-joined, each-table, first-behind}
+use Rattle.planfile.proofs.Scans.{header, long, counted, devices, few, header-numbered, device-numbered}
+
+abbrev answer : ℕ → ℕ → Plan → Read
+answer number block plan = record { number = number; block = block; plan = plan }
+
+-- the search of the connections of a plan's parts
+abbrev pub badIn : Core → List (List ℕ) → Verdict
+badIn core peers = first (joined (min (core .devices) 32) (joinTests (λ e. getD (core .ports) e 0) (λ e q. getD (getD peers e []) q 0)))
+
+module _ (file : List ℕ) where
+  abbrev connections : List Test
+  connections = joined (countIn file) (joinTests (portsOf file) (peerOf file))
+
+  -- ---- the answer by the verdict
+
+  refused : {v : Verdict} → verdict file ≡ v → (v .number ≡ 0 → ⊥) → answer (v .number) (v .at) zeros ≡ reads file
+  unfolding reads
+  refused {v} e z = sym (rw (e, ne-eqb (v .number) 0 z))
+
+  accepted : verdict file ≡ accepts → answer 0 0 (planOf file) ≡ reads file
+  unfolding reads
+  accepted e = sym (rw e)
+
+  -- ---- the scan refuses
+
+  scan-decides : {v : Verdict} → Stops (scanTests file) v → verdict file ≡ v
+  unfolding verdict tests scanTests
+  scan-decides s = first-stops (stops-front connections s)
+
+  by-scan : (scanned file .number ≡ 0 → ⊥) → answer (scanned file .number) (scanned file .block) zeros ≡ reads file
+  unfolding scanned
+  by-scan z =
+      elim (passes-or-stops (scanTests file)) [
+        | inl p ↦ absurd (z (ap (λ (v : Verdict). v .number) (first-accepts (scanTests file) p)))
+        | inr s ↦ refused (scan-decides s) z
+      ]
+
+  pub scan-refuses : {place : Place} {plan : Plan} → place ≡ scanned file → (place .number ≡ 0 → ⊥) → plan ≡ zeros → answer (place .number) (place .block) plan ≡ reads file
+  scan-refuses {place} e z o = rw (o, e) (by-scan (rw e at z))
+
+  -- ---- the scan does not
+
+  scan-numbered : Numbered (scanTests file)
+  unfolding scanTests
+  scan-numbered =
+      numbered-append (long file ++ header file ++ counted file) (devices file)
+      (numbered-append (long file ++ header file) (counted file) (numbered-append (long file) (header file) (omega arith, tt) (header-numbered (block file 0))) (omega arith, tt))
+      (numbered-joined (ofDevice file) (countIn file) (λ d. device-numbered (countIn file) d (deviceBlock file d)))
+
+  -- all tests but those of the connections are passed
+  pub scan-passes : {place : Place} → place ≡ scanned file → place .number ≡ 0 → AllPass (scanTests file)
+  unfolding scanned
+  scan-passes e z = accepts-all (scanTests file) scan-numbered (ap (λ (place : Place). place .number) (sym e) ∙ z)
+
+  module _ (p : AllPass (scanTests file)) where
+    front : AllPass (long file ++ header file ++ counted file)
+    unfolding scanTests
+    front = all-front (long file ++ header file ++ counted file) (devices file) p
+
+    pub counts : length file ≡ 512 * (1 + countIn file)
+    counts = eqb-true _ _ (all-back (long file ++ header file) (counted file) front .0)
+
+    pub count-few : countIn file ≤ 32
+    count-few = let h = all-front (long file ++ header file) (counted file) front in few file (h .0) (h .1)
+
+    leads : (d q : ℕ) → d < countIn file → q < 8 → Leads (countIn file) (peerOf file d q)
+    unfolding scanTests deviceTests deviceFits
+    leads d q h l =
+        let s = deviceBlock file d in
+        let n = countIn file in
+        let all = all-at (ofDevice file) n (all-back (long file ++ header file ++ counted file) (devices file) p) d h in
+        entry-leads n s q (every-at 8 (entryFits n s) (and-right (portsFit (roleIn s) (portsIn s) && masksFit (roleIn s) (sourceIn s) (handlerIn s)) (every 8 (entryFits n s)) (all .1 .1 .0)) q l)
+
+    -- the connections are those of the plan
+    bad-in : badIn (planOf file .core) (planOf file .peers) ≡ first connections
+    bad-in =
+        let f = count-few in
+        let e : min (planOf file .core .devices) 32 ≡ countIn file = omega (arith, devices-held file) in
+        rw (e, ← same-tests (countIn file) _ _ _ _ (ports-held file f) (λ d q h. peer-held file f d h q) leads)
+
+    decided : verdict file ≡ first connections
+    unfolding verdict tests scanTests
+    decided = first-behind (scanTests file) connections p
+
+    -- each test of a connection is refused with 26 and the block of a device
+    marked : Each (λ k a. (k ≡ 26) × (0 < a)) connections
+    unfolding joinTests
+    marked = each-joined _ (joinTests (portsOf file) (peerOf file)) (λ d. each-table _ 8 _ (λ i. (refl, omega arith))) (countIn file)
+
+    settled : (verdict file ≡ accepts) ⊎ ((verdict file .number ≡ 26) × (0 < verdict file .at))
+    settled =
+        elim (passes-or-stops connections) [
+          | inl q ↦ inl (decided ∙ first-accepts connections q)
+          | inr s ↦ inr (rw decided (stops-each (λ k a. (k ≡ 26) × (0 < a)) marked s))
+        ]
+
+    module _ {bad : ℕ} (e : bad ≡ badIn (planOf file .core) (planOf file .peers) .at) where
+      place : bad ≡ verdict file .at
+      place = e ∙ ap (λ (v : Verdict). v .at) (bad-in ∙ sym decided)
+
+      pub search-refuses : {plan : Plan} → (bad ≡ 0 → ⊥) → plan ≡ zeros → answer 26 bad plan ≡ reads file
+      search-refuses z o =
+          elim settled [
+            | inl a ↦ absurd (z (place ∙ ap (λ (v : Verdict). v .at) a))
+            | inr k ↦ rw (o, place, ← k .0) (refused refl (λ n. omega arith))
+          ]
+
+      pub search-accepts : {plan : Plan} → bad ≡ 0 → plan ≡ planOf file → answer 0 0 plan ≡ reads file
+      search-accepts z o = rw o (elim settled [ inl a ↦ accepted a | inr k ↦ absurd (omega (arith, place)) ])

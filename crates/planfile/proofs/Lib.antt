@@ -1,0 +1,9 @@
+pub mod Answers
+pub mod Joins
+pub mod Marked
+pub mod Places
+pub mod Plans
+pub mod Scans
+pub mod Unique
+pub mod Writes
+pub mod Written

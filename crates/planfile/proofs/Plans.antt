@@ -1,0 +1,42 @@
+-- The parts of a plan, as the loops make them.
+use mathlib.Core.Path.{_≡_, refl, sym, ap₂, _∙_}
+use mathlib.Core.Bool.{Bool, true, false, cond}
+use mathlib.Core.List.{List}
+use mathlib.Core.Logic.{dite}
+use Prim.Native.Nat.{ℕ, _*_, _/_, _%_}
+use native.Mathlib.Decide.{decLt}
+use native.Mathlib.Omega.{arith}
+use lib.Dec.{ltb}
+use lib.ListN.{replicate, length-replicate, getD-replicate}
+use borrow.Author.Tests.{lt-ltb, le-ltb}
+use Rattle.areas.specs.Table.{table}
+use Rattle.areas.proofs.Tables.{is-table, same-table}
+use Rattle.plan.specs.Fields.{entry, nobody, peerIn}
+use Rattle.plan.specs.Refusals.{countIn, deviceBlock}
+use Rattle.plan.specs.Reading.{planOf}
+use Rattle.plan.specs.declared.Plan.{Plan}
+use Rattle.areas.proofs.Filled.{filling}
+
+pub same-plan : {p q : Plan} → p .core ≡ q .core → p .peers ≡ q .peers → p ≡ q
+same-plan e g = ap₂ (λ c ps. record { core = c; peers = ps }) e g
+
+-- 8 ports for each device
+ports-below : (q n : ℕ) → ltb q (8 * n) ≡ ltb (q / 8) n
+ports-below q n =
+    dite (decLt q (8 * n))
+    (λ h. lt-ltb q (8 * n) h ∙ sym (lt-ltb (q / 8) n (omega arith)))
+    (λ h. le-ltb q (8 * n) (omega arith) ∙ sym (le-ltb (q / 8) n (omega arith)))
+
+module _ (file : List ℕ) where
+  pub permissions-of : {n : ℕ} → n ≡ countIn file → table 256 (filling 0 (λ k. entry (deviceBlock file (k / 8)) (k % 8) 2) (8 * n)) ≡ planOf file .core .permissions
+  unfolding planOf
+  permissions-of {n} e = same-table 256 _ _ (λ q h. rw (ports-below q n, e))
+
+  -- a row of a device, or of none
+  row : (t : Bool) (f : ℕ → ℕ) → cond t (table 8 f) (replicate 8 nobody) ≡ table 8 (λ p. cond t (f p) nobody)
+  row true f = refl
+  row false f = is-table 8 (λ p. nobody) (replicate 8 nobody) 0 (length-replicate 8 nobody) (λ i h. getD-replicate 8 i nobody 0 h)
+
+  pub peers-of : {n : ℕ} → n ≡ countIn file → table 32 (filling (replicate 8 nobody) (λ d. table 8 (peerIn (deviceBlock file d))) n) ≡ planOf file .peers
+  unfolding planOf
+  peers-of {n} e = same-table 32 _ _ (λ d h. row (ltb d n) (peerIn (deviceBlock file d)) ∙ rw e)

@@ -1,0 +1,65 @@
+use mathlib.Core.Path.{sym}
+use Prim.Native.Nat.{_-_, _+_}
+use native.Mathlib.Omega.{arith}
+use borrow.Author.Needs.{needs}
+use Rattle.plan.specs.Reading.{column}
+use Rattle.plan.specs.Refusals.{deviceBlock}
+use Rattle.plan.specs.Block.{byte}
+use Rattle.planfile.proofs.Places.{byte-in}
+use Rattle.areas.proofs.Filled.{Filled, filled-none, filled-more, filled-all}
+use Rattle.planfile.proofs.build.column.Statement.{statement}
+use Rattle.planfile.proofs.build.column.Tie as tie
+
+abbrev Inv-loop : tie.InvT-loop
+Inv-loop file n i out₀ d₀ out d = Filled 32 n 0 (λ e. byte (deviceBlock file e) i) d out
+
+abbrev μ-loop : tie.MeasureT-loop
+μ-loop file n i out₀ d₀ out d = n - d
+
+loop-holds : tie.Need-loop-holds Inv-loop μ-loop
+loop-holds c = filled-none (omega arith)
+
+add-out : tie.Need-add-out Inv-loop μ-loop
+add-out c = search needs
+
+mul-out : tie.Need-mul-out Inv-loop μ-loop
+mul-out c = search needs
+
+add-out-2 : tie.Need-add-out-2 Inv-loop μ-loop
+add-out-2 c = search needs
+
+shared-slice-read-out : tie.Need-shared-slice-read-out Inv-loop μ-loop
+shared-slice-read-out c = search needs
+
+array-write-out : tie.Need-array-write-out Inv-loop μ-loop
+array-write-out c = search needs
+
+add-d : tie.Need-add-d Inv-loop μ-loop
+add-d c = search needs
+
+loop-less : tie.Need-loop-less Inv-loop μ-loop
+loop-less c = search needs
+
+loop-again : tie.Need-loop-again Inv-loop μ-loop
+loop-again c = let a = c .before .before .before .args in filled-more (c .before .before .loop .inv) (c .before .loop-test .taken) (sym (byte-in (a .file .now) (1 + c .before .before .loop .d) (a .i) (omega arith)))
+
+returns : tie.Need-returns Inv-loop μ-loop
+unfolding column
+returns c = filled-all (c .before .loop .inv) (c .loop-test .left)
+
+pub column-spec : {M : Type 1} → statement M
+column-spec =
+    tie.close
+    (tie.spec
+    Inv-loop
+    μ-loop
+    loop-holds
+    add-out
+    mul-out
+    add-out-2
+    shared-slice-read-out
+    array-write-out
+    add-d
+    loop-less
+    loop-again
+    returns)

@@ -1,0 +1,98 @@
+use mathlib.Core.List.{List}
+use mathlib.Core.Path.{_≡_, sym, _∙_}
+use Prim.Native.Nat.{ℕ, _+_, _-_, _/_, _<_}
+use native.Mathlib.Omega.{arith}
+use lib.ListN.{length}
+use borrow.Author.Tests.{le-ltb}
+use borrow.Author.Needs.{needs}
+use Rattle.plan.specs.Block.{block, byte}
+use Rattle.plan.specs.Refusals.{first, headerTests, deviceTests}
+use Rattle.planfile.specs.Scan.{refusalIn}
+use Rattle.planfile.proofs.Scans.{part-block, header-refusal, device-refusal}
+use Rattle.planfile.proofs.Places.{count-in}
+use Rattle.planfile.proofs.reader.refusal_in.Statement.{statement}
+use Rattle.planfile.proofs.reader.refusal_in.Tie as tie
+
+of-header : (file : List ℕ) (b : ℕ) → b ≡ 0 → b < length file / 512 → first (headerTests (block file b)) .number ≡ refusalIn file b
+of-header file b e h = rw e (sym (header-refusal file (omega arith)))
+
+of-device : (file : List ℕ) (b : ℕ) → (b ≡ 0 → ⊥) → b < length file / 512 → first (deviceTests (byte file 1) (b - 1) (block file b)) .number ≡ refusalIn file b
+of-device file b z h =
+    let e : b - 1 + 1 ≡ b = omega arith in
+    let g : 1 + (b - 1) ≡ b = omega arith in
+    rw (← count-in) (sym (rw (e, g) at (device-refusal file (b - 1) (omega arith))))
+
+returns : tie.Need-returns
+unfolding refusalIn
+returns c = simp (le-ltb _ _ (c .if1 .taken))
+
+mul-start : tie.Need-mul-start
+mul-start c = search needs
+
+add-end : tie.Need-add-end
+add-end c = search needs
+
+sub-header-refusal : tie.Need-sub-header-refusal
+sub-header-refusal c = search needs
+
+part-header-refusal-start : tie.Need-part-header-refusal-start
+part-header-refusal-start c = search needs
+
+part-header-refusal-end : tie.Need-part-header-refusal-end
+part-header-refusal-end c = search needs
+
+header-refusal-requires : tie.Need-header-refusal-requires
+header-refusal-requires c κs = search needs
+
+returns-2 : tie.Need-returns-2
+returns-2 c =
+    let a = c .before .before .before .before .before .args in
+    c .header-refusal .ensures ∙ rw part-block (of-header (a .file .now) (a .b) (c .before .before .if2 .taken) (omega arith))
+
+shared-slice-read-wide : tie.Need-shared-slice-read-wide
+shared-slice-read-wide c = search needs
+
+wide-requires : tie.Need-wide-requires
+wide-requires c κs = search needs
+
+sub-device-refusal : tie.Need-sub-device-refusal
+sub-device-refusal c = search needs
+
+sub-device-refusal-2 : tie.Need-sub-device-refusal-2
+sub-device-refusal-2 c = search needs
+
+part-device-refusal-start : tie.Need-part-device-refusal-start
+part-device-refusal-start c = search needs
+
+part-device-refusal-end : tie.Need-part-device-refusal-end
+part-device-refusal-end c = search needs
+
+device-refusal-requires : tie.Need-device-refusal-requires
+device-refusal-requires c κs = search needs
+
+returns-3 : tie.Need-returns-3
+returns-3 c =
+    let a = c .before .before .before .before .before .before .before .args in
+    c .device-refusal .ensures
+    ∙ rw (part-block, c .before .before .wide .ensures .0) (of-device (a .file .now) (a .b) (c .before .before .before .before .if2 .left) (omega arith))
+
+pub refusal-in-spec : {M : Type 1} → statement M
+refusal-in-spec =
+    tie.close
+    (tie.spec
+    returns
+    mul-start
+    add-end
+    sub-header-refusal
+    part-header-refusal-start
+    part-header-refusal-end
+    header-refusal-requires
+    returns-2
+    shared-slice-read-wide
+    wide-requires
+    sub-device-refusal
+    sub-device-refusal-2
+    part-device-refusal-start
+    part-device-refusal-end
+    device-refusal-requires
+    returns-3)

@@ -1,0 +1,8 @@
+// The plan file: 512-byte blocks, read into a plan in memory and written from one.
+mod block;
+mod build;
+mod reader;
+mod writer;
+
+pub use reader::read;
+pub use writer::write;

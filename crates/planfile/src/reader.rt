@@ -1,0 +1,149 @@
+// The reader: the refusals in their order, the first found wins; then the plan.
+ghost use mathlib.Core.Path.{_≡_};
+ghost use Prim.Native.Nat.{_+_, _*_, _≤_};
+ghost use lib.ListN.{length};
+ghost use Rattle.plan.specs.Refusals.{lengthFits, countIn};
+ghost use Rattle.plan.specs.Reading.{reads};
+ghost use Rattle.planfile.specs.Scan.{refusalIn, scanned, deviceScan};
+use crate::block;
+use crate::build;
+use plan::Read;
+
+// The reader knows the file and the block that it has come to.
+pub struct Reader<'a> {
+    pub file: &'a [u8],
+    pub block: usize,
+}
+
+// A number and the block that goes with it.
+pub struct Place {
+    pub number: u32,
+    pub block: u32,
+}
+
+// The refusal that a block of a file gets by itself, or 0; a block that the file does not have in
+// full is a fault of its length.
+fn refusal_in(file: &[u8], b: usize) -> u32
+    ensures { λ r. ⌜ r ≡ refusalIn (now (file .entry)) b ⌝ }
+{
+    if file.len() / 512 <= b {
+        return 20;
+    }
+    let start = 512 * b;
+    let end = start + 512;
+    if b == 0 {
+        return block::header_refusal(&file[start..end]);
+    }
+    block::device_refusal(block::wide(file[1]), b - 1, &file[start..end])
+}
+
+fn at<'a>(file: &'a [u8], block: usize) -> Reader<'a>
+    ensures { λ r. ⌜ (r .file ≡ file .entry) × (r .block ≡ block) ⌝ }
+{
+    Reader { file, block }
+}
+
+fn here<'a>(reader: Reader<'a>) -> u32
+    ensures { λ r. ⌜ r ≡ refusalIn (now (reader .entry .file)) (reader .entry .block) ⌝ }
+{
+    refusal_in(reader.file, reader.block)
+}
+
+// The refusal of a block, for whoever has a file and a number.
+fn refusal_at(file: &[u8], b: usize) -> u32
+    ensures { λ r. ⌜ r ≡ refusalIn (now (file .entry)) b ⌝ }
+{
+    here(at(file, b))
+}
+
+fn length_fits(file: &[u8]) -> bool
+    ensures { λ r. ⌜ r ≡ lengthFits (now (file .entry)) ⌝ }
+{
+    let n = file.len();
+    if n < 512 {
+        return false;
+    }
+    if 16896 < n {
+        return false;
+    }
+    n % 512 == 0
+}
+
+// The first refusal among the blocks of n devices.
+fn scan_devices(file: &[u8], n: usize) -> Place
+    requires { ⌜ (n ≤ 32) × (length (now file) ≡ 512 * (1 + n)) × (n ≡ countIn (now file)) ⌝ }
+    ensures { λ r. ⌜ r ≡ deviceScan (now (file .entry)) ⌝ }
+{
+    for d in 0..n {
+        let number = refusal_at(file, d + 1);
+        if number != 0 {
+            return Place {
+                number: number,
+                block: (d + 1) as u32,
+            };
+        }
+    }
+    Place {
+        number: 0,
+        block: 0,
+    }
+}
+
+// The first refusal of all but the connections, which are searched in the plan.
+fn scan(file: &[u8]) -> Place
+    ensures { λ r. ⌜ r ≡ scanned (now (file .entry)) ⌝ }
+{
+    if !length_fits(file) {
+        return Place {
+            number: 20,
+            block: 0,
+        };
+    }
+    let number = refusal_at(file, 0);
+    if number != 0 {
+        return Place {
+            number: number,
+            block: 0,
+        };
+    }
+    let n = block::wide(file[1]);
+    if file.len() != 512 * (1 + n) {
+        return Place {
+            number: 25,
+            block: 0,
+        };
+    }
+    scan_devices(file, n)
+}
+// Reads a plan file, of any length and any bytes.
+pub fn read(file: &[u8]) -> Read
+    ensures { λ r. ⌜ r ≡ reads (now (file .entry)) ⌝ }
+{
+    let place = scan(file);
+    if place.number != 0 {
+        let plan = build::blank();
+        return Read {
+            number: place.number,
+            block: place.block,
+            plan: plan,
+        };
+    }
+    let core = build::core_of(file);
+    let peers = build::peers_of(file);
+    let ports = core.ports;
+    let bad = plan::bad_block(core.devices, ports, peers);
+    if bad != 0 {
+        let plan = build::blank();
+        return Read {
+            number: 26,
+            block: bad,
+            plan: plan,
+        };
+    }
+    let plan = plan::whole(core, peers);
+    Read {
+        number: 0,
+        block: 0,
+        plan: plan,
+    }
+}
