@@ -1,17 +1,15 @@
 -- The laws of a set: what is in it after a place joined or left, its bound, that equal members make equal sets, and its size.
 use mathlib.Core.Path.{_≡_, refl, sym, ap, _∙_}
-use mathlib.Core.Bool.{Bool, true, false, cond}
 use mathlib.Core.Logic.{_≢_, dite}
 use Prim.Native.Nat.{ℕ, zero, suc, _+_, _-_, _*_, _/_, _%_, _^_, _≤_, _<_, min, max}
 use native.Mathlib.Nat.{div-one, div-div-eq-div-mul, pow-suc, mul-comm, one-mul}
 use native.Mathlib.Decide.{decLt, ℕ-discrete}
 use native.Mathlib.Omega.{arith}
-use lib.Dec.{ltb}
 use lib.Bits.{bitOr, bitAnd, or-step, and-step, or-lt, and-le-l}
 use lib.Count.{ones, ones-step, ones-le}
 use lib.Pow.{pow-lt, shl-exact}
 use borrow.Author.Tests.{lt-ltb, le-ltb}
-use Rattle.bits.specs.Set.{bit, join, leave, sizeBelow, size}
+use Rattle.bits.specs.Set.{bit, join, leave, sizeBelow}
 
 -- ---- one bit
 

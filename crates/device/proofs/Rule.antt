@@ -9,7 +9,6 @@ use Rattle.device.specs.Permissions.{mayReceive}
 use Rattle.device.specs.Reaction.{marked, kept, ruled}
 use Rattle.device.specs.declared.Action.{Action}
 use Rattle.device.specs.declared.Action.the-variants.{LinkError, Ignored, Forwarded, Told}
-use Rattle.device.specs.declared.Reaction.{Reaction}
 
 module _ (router running : Bool) (permissions register kind k : ℕ) (code : Code) where
   pub stopped : running ≡ false → kept router running permissions register (LinkError code) ≡ ruled router running permissions register kind k code

@@ -1,7 +1,6 @@
 // What one device does with a byte that arrives at one of its ports (draft 000, 2.2 and 2.3).
 // An Interrupt-Code and an acknowledge go by one rule, over the kind: 0 interrupt, 1 acknowledge.
 ghost use mathlib.Core.Path.{_≡_};
-ghost use Prim.Native.Nat.{_<_};
 ghost use Rattle.device.specs.Permissions.{maySend, mayReceive};
 ghost use Rattle.device.specs.Reaction.{marked as Reaction·marked, ruled as Reaction·ruled, reacts};
 use codes::Code;

@@ -1,5 +1,4 @@
 // Bytes written out as text, a line for each: its number, and the code that it is.
-ghost use mathlib.Core.Path.{_≡_};
 ghost use mathlib.Core.List.{_++_};
 ghost use Prim.Native.Nat.{_+_, _≤_};
 ghost use lib.ListN.{length};

@@ -1,7 +1,6 @@
 use mathlib.Core.Path.{sym}
 use Rattle.bits.specs.Set.{size}
 use Rattle.bits.proofs.Sets.{size-ones}
-use borrow.Author.Needs.{needs}
 use Rattle.bits.proofs.count.Statement.{statement}
 use Rattle.bits.proofs.count.Tie as tie
 

@@ -1,4 +1,4 @@
-use mathlib.Core.Path.{_≡_, sym, ap, _∙_}
+use mathlib.Core.Path.{sym, ap, _∙_}
 use borrow.Author.Needs.{needs}
 use Rattle.codes.specs.Codes.{writes, answerOf}
 use Rattle.codes.proofs.write.Statement.{statement}

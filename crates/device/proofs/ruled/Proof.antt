@@ -1,4 +1,4 @@
-use mathlib.Core.Path.{_≡_, sym, ap, _∙_}
+use mathlib.Core.Path.{sym, _∙_}
 use borrow.Author.Tests.{not-true, not-false}
 use Rattle.device.proofs.Rule.{stopped, forbidden, opposite, taken}
 use borrow.Author.Needs.{needs}

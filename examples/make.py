@@ -1,0 +1,135 @@
+#!/usr/bin/env python3
+"""Makes the example plans beside this script, from the rules of the plan file alone (docs/RULES.md).
+
+usage: make.py [FOLDER]     writes NAME.plan for each plan below; without FOLDER, beside this script
+"""
+import pathlib
+import sys
+
+NODE, ROUTER = 0, 1
+
+
+class Plan:
+    """Devices in order, joined port to port."""
+
+    def __init__(self, router_load, node_load):
+        self.loads = (router_load, node_load)
+        self.devices = []
+
+    def add(self, role, ports, source=(), handler=()):
+        self.devices.append({"role": role, "ports": ports, "source": mask(source), "handler": mask(handler),
+                             "entries": [(255, 255, 0, 0)] * 8})
+        return len(self.devices) - 1
+
+    def node(self, source=(), handler=()):
+        return self.add(NODE, 1, source, handler)
+
+    def router(self, ports):
+        return self.add(ROUTER, ports)
+
+    def join(self, a, b, permissions=15):
+        """Joins port a = (device, port) and port b."""
+        for (d, p), (e, q) in ((a, b), (b, a)):
+            assert self.devices[d]["entries"][p] == (255, 255, 0, 0) and p < self.devices[d]["ports"]
+            self.devices[d]["entries"][p] = (e, q, permissions, 0)
+
+    def file(self):
+        router, node = self.loads
+        blocks = [sealed(bytes([1, len(self.devices)]) + two(router) + two(node))]
+        for d, device in enumerate(self.devices):
+            fields = bytes([2, d, device["role"], device["ports"]]) + four(device["source"]) + four(device["handler"])
+            blocks.append(sealed(fields + b"".join(bytes(e) for e in device["entries"])))
+        return b"".join(blocks)
+
+
+def mask(identifiers):
+    return sum(1 << k for k in set(identifiers))
+
+
+def two(n):
+    return n.to_bytes(2, "little")
+
+
+def four(n):
+    return n.to_bytes(4, "little")
+
+
+def sealed(fields):
+    """A block: the fields, zeros, and the weighted check."""
+    body = fields + bytes(510 - len(fields))
+    return body + two(sum((i + 1) * b for i, b in enumerate(body)) % 65521)
+
+
+def three():
+    """A source, a router and a handler in a row."""
+    plan = Plan(100, 200)
+    a, r, b = plan.node(source=[5]), plan.router(2), plan.node(handler=[5])
+    plan.join((a, 0), (r, 0))
+    plan.join((r, 1), (b, 0))
+    return plan
+
+
+def ring():
+    """Four routers in a ring, a node at each: a code can come round again."""
+    plan = Plan(1000, 1200)
+    routers = [plan.router(3) for _ in range(4)]
+    for i, r in enumerate(routers):
+        n = plan.node(source=[i], handler=[(i + 2) % 4])
+        plan.join((r, 0), (n, 0))
+    for i, r in enumerate(routers):
+        plan.join((r, 1), (routers[(i + 1) % 4], 2))
+    return plan
+
+
+def tree():
+    """A tree of seven routers with two nodes at each of its four leaves: six links between the farthest nodes (004, figure 1)."""
+    plan = Plan(1000, 1200)
+    root = plan.router(2)
+    inner = [plan.router(3) for _ in range(2)]
+    leaves = [plan.router(3) for _ in range(4)]
+    for i, r in enumerate(inner):
+        plan.join((root, i), (r, 0))
+    for i, r in enumerate(leaves):
+        plan.join((inner[i // 2], 1 + i % 2), (r, 0))
+        for j in range(2):
+            k = 2 * i + j
+            n = plan.node(source=[k], handler=[(k + 4) % 8])
+            plan.join((r, 1 + j), (n, 0))
+    return plan
+
+
+def torus():
+    """A torus of three by three routers with a node at each: four links between the farthest nodes, ten on the longest way (004, figure 2)."""
+    plan = Plan(1000, 1200)
+    routers = [plan.router(5) for _ in range(9)]
+    for i in range(9):
+        n = plan.node(source=[i], handler=[(i + 4) % 9])
+        plan.join((routers[i], 0), (n, 0))
+    for row in range(3):
+        for column in range(3):
+            here = routers[3 * row + column]
+            plan.join((here, 1), (routers[3 * row + (column + 1) % 3], 2))
+            plan.join((here, 3), (routers[3 * ((row + 1) % 3) + column], 4))
+    return plan
+
+
+def full():
+    """32 devices: eight routers in a ring with chords, three nodes at each; every identifier has its source and its handler."""
+    plan = Plan(2000, 2400)
+    routers = [plan.router(6) for _ in range(8)]
+    for i in range(24):
+        source = [i] + ([24 + i] if i < 8 else [])
+        handler = [(i + 12) % 24] + ([24 + i - 12] if 12 <= i < 20 else [])
+        n = plan.node(source=source, handler=handler)
+        plan.join((routers[i // 3], i % 3), (n, 0))
+    for i, r in enumerate(routers):
+        plan.join((r, 3), (routers[(i + 1) % 8], 4))
+    for i in range(4):
+        plan.join((routers[i], 5), (routers[i + 4], 5))
+    return plan
+
+
+if __name__ == "__main__":
+    folder = pathlib.Path(sys.argv[1] if len(sys.argv) > 1 else pathlib.Path(__file__).parent)
+    for make in (three, ring, tree, torus, full):
+        (folder / f"{make.__name__}.plan").write_bytes(make().file())
