@@ -27,9 +27,9 @@ class Plan:
     def router(self, ports):
         return self.add(ROUTER, ports)
 
-    def join(self, a, b, permissions=15):
-        """Joins port a = (device, port) and port b."""
-        for (d, p), (e, q) in ((a, b), (b, a)):
+    def join(self, a, b, near=15, far=15):
+        """Joins port a = (device, port), with the permissions near, and port b, with the permissions far."""
+        for (d, p), (e, q), permissions in ((a, b, near), (b, a, far)):
             assert self.devices[d]["entries"][p] == (255, 255, 0, 0) and p < self.devices[d]["ports"]
             self.devices[d]["entries"][p] = (e, q, permissions, 0)
 
@@ -129,7 +129,57 @@ def full():
     return plan
 
 
+def loop():
+    """A router with two of its ports joined to each other."""
+    plan = Plan(100, 200)
+    a, r, b = plan.node(source=[1]), plan.router(4), plan.node(handler=[1])
+    plan.join((a, 0), (r, 0))
+    plan.join((r, 1), (r, 2))
+    plan.join((r, 3), (b, 0))
+    return plan
+
+
+def brief():
+    """A source, a router and a handler in a row, with loads so short that a code times out."""
+    plan = Plan(3, 5)
+    a, r, b = plan.node(source=[5]), plan.router(2), plan.node(handler=[5])
+    plan.join((a, 0), (r, 0))
+    plan.join((r, 1), (b, 0))
+    return plan
+
+
+def mute():
+    """A source that may not send, and a router with a port that leads nowhere."""
+    plan = Plan(100, 200)
+    a, r = plan.node(source=[5]), plan.router(2)
+    plan.join((a, 0), (r, 0), near=14)
+    return plan
+
+
+def incident():
+    """A triangle of routers. Five sources keep the way round by the third router busy, so a copy of interrupt 7 comes late."""
+    plan = Plan(1000, 1200)
+    routers = [plan.router(3), plan.router(3), plan.router(7)]
+    for r, node in ((0, plan.node(source=[7])), (1, plan.node(handler=[7]))):
+        plan.join((routers[r], 2), (node, 0))
+    for i in range(3):
+        plan.join((routers[i], 0), (routers[(i + 1) % 3], 1))
+    for i in range(5):
+        plan.join((routers[2], 2 + i), (plan.node(source=[8 + i]), 0))
+    return plan
+
+
+def mesh():
+    """32 routers, all 256 ports joined: the busiest network there can be."""
+    plan = Plan(1000, 1200)
+    routers = [plan.router(8) for _ in range(32)]
+    for i in range(32):
+        for j in range(4):
+            plan.join((routers[i], 2 * j), (routers[(i + j + 1) % 32], 2 * j + 1))
+    return plan
+
+
 if __name__ == "__main__":
     folder = pathlib.Path(sys.argv[1] if len(sys.argv) > 1 else pathlib.Path(__file__).parent)
-    for make in (three, ring, tree, torus, full):
+    for make in (three, ring, tree, torus, full, loop, brief, mute, incident, mesh):
         (folder / f"{make.__name__}.plan").write_bytes(make().file())
