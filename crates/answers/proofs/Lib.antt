@@ -1,1 +1,2 @@
+pub mod Outcomes
 pub mod Unique

@@ -35,6 +35,13 @@ module _ {S : Type 0} {f : ℕ → S → S} {m : ℕ} where
 
 -- ---- what holds after the turns
 
+-- what each turn of two loops keeps between them, all keep
+pub keeps-both : {S : Type 0} (f g : ℕ → S → S) (R : S → S → Type 0) (m : ℕ) → ((j : ℕ) (s t : S) → j < m → R s t → R (f j s) (g j t))
+    → (s t : S) → R s t → R (upTo f m s) (upTo g m t)
+unfolding upTo
+keeps-both f g R zero h s t r = r
+keeps-both f g R (suc m) h s t r = h m (upTo f m s) (upTo g m t) (omega arith) (keeps-both f g R m (λ j u v l. h j u v (omega arith)) s t r)
+
 module _ {S : Type 0} (f : ℕ → S → S) where
   -- what held after k turns, and every turn from there on keeps
   pub keeps-from : (P : S → Type 0) (k m : ℕ) → k ≤ m → ((j : ℕ) (s : S) → k ≤ j → j < m → P s → P (f j s)) → (s : S) → P (upTo f k s) → P (upTo f m s)

@@ -4,18 +4,18 @@ use mathlib.Core.Bool.{Bool, true, false, cond, _&&_, false≢true}
 use mathlib.Core.List.{List, [], _∷_}
 use mathlib.Core.Logic.{dite}
 use Prim.Native.Nat.{ℕ, zero, suc, _*_, _≤_, _<_}
-use native.Mathlib.Decide.{decLt}
+use native.Mathlib.Decide.{decLt, ℕ-discrete}
 use native.Mathlib.Omega.{arith}
 use lib.Dec.{eqb, leb, ltb}
 use lib.ListN.{length, getD, List·getD-eq-default}
-use borrow.Author.Tests.{ltb-true, eqb-true}
+use borrow.Author.Tests.{ltb-true, eqb-true, eq-eqb, ne-eqb}
 use Rattle.areas.proofs.Facts.{facts}
 use Rattle.areas.proofs.Tests.{and-left, and-right}
-use Rattle.plan.specs.Fields.{nobody}
+use Rattle.plan.specs.Fields.{portsFit, masksFit, nobody}
 use Rattle.plan.specs.Refusals.{Test, test, Verdict, accepts, first, tests, verdict}
 use Rattle.plan.specs.Reading.{Accepted, Held, zeros}
 use Rattle.plan.specs.declared.Plan.{Plan}
-use Rattle.plan.specs.Steps.Memory.{portRight, rowRight, right}
+use Rattle.plan.specs.Steps.Memory.{portRight, deviceRight, rowRight, right}
 use Rattle.plan.specs.Steps.File.{fileOf}
 use Rattle.plan.proofs.Firsts.{fails}
 use Rattle.plan.proofs.Shape.{Shaped}
@@ -68,6 +68,29 @@ module _ (plan : Plan) where
 
   pub held-devices : Held plan → (1 ≤ plan .core .devices) × (plan .core .devices ≤ 32)
   held-devices h = devices-fit (plan .core .devices) (right-says plan (held-right h) .devices)
+
+-- a device is a node or a router, and has few ports
+few-ports : (role ports : ℕ) → portsFit role ports ≡ true → (role < 2) × (ports ≤ 8)
+unfolding portsFit
+few-ports role ports e =
+    elim (ℕ-discrete role 0) [
+      | yes z ↦ (omega arith, omega (arith, eqb-true ports 1 (simp (eq-eqb role 0 z) at e)))
+      | no n ↦ let f = simp facts at (simp (ne-eqb role 0 n) at e) in (omega arith, omega arith)
+    ]
+
+device-few : (n d role ports source handler : ℕ) → deviceRight n d role ports source handler ≡ true → (role < 2) × (ports ≤ 8)
+unfolding deviceRight
+device-few n d role ports source handler e = by-test (ltb d n) e
+  where
+    by-test : (b : Bool) → cond b (portsFit role ports && masksFit role source handler) (eqb role 0 && eqb ports 0 && eqb source 0 && eqb handler 0) ≡ true → (role < 2) × (ports ≤ 8)
+    by-test true e = few-ports role ports (and-left (portsFit role ports) (masksFit role source handler) e)
+    by-test false e = let f = simp facts at e in (omega arith, omega arith)
+
+pub held-few : (plan : Plan) → Held plan → (d : ℕ) → d < 32 → (getD (plan .core .role) d 0 < 2) × (getD (plan .core .ports) d 0 ≤ 8)
+unfolding rowRight
+held-few plan h d l =
+    let row = simp facts at (right-says plan (held-right plan h) .rows d l) in
+    device-few (plan .core .devices) d _ _ _ _ (row .0)
 
 -- a peer is a port or nobody
 some-peer : (n ports p peer permissions : ℕ) → n ≤ 32 → portRight n ports p peer permissions ≡ true → peer ≤ nobody
