@@ -29,7 +29,7 @@ unfolding bit
 bit-or zero a b = omega (arith, or-step a b)
 bit-or (suc k) a b = ap (λ (x : ℕ). bit x k) (omega (arith, or-step a b)) ∙ bit-or k (a / 2) (b / 2)
 
-bit-and : (k a b : ℕ) → bit (bitAnd a b) k ≡ min (bit a k) (bit b k)
+pub bit-and : (k a b : ℕ) → bit (bitAnd a b) k ≡ min (bit a k) (bit b k)
 unfolding bit
 bit-and zero a b = omega (arith, and-step a b)
 bit-and (suc k) a b = ap (λ (x : ℕ). bit x k) (omega (arith, and-step a b)) ∙ bit-and k (a / 2) (b / 2)

@@ -1,0 +1,81 @@
+-- Each public function's promise allows one answer and one exit of the areas.
+use mathlib.Core.Path.{_≡_, sym, ap, _∙_}
+use mathlib.Core.Bool.{Bool}
+use mathlib.Core.List.{List}
+use Prim.Native.Nat.{ℕ, _+_, _*_, _<_}
+use native.Mathlib.Decide.{ℕ-discrete}
+use native.Mathlib.Omega.{arith}
+use Rattle.answers.specs.Decides.{Decides}
+use Rattle.answers.specs.Ordered.{Condition, Outcome}
+use Rattle.answers.proofs.Unique.{decides-once, ordered-once, outcome-once}
+use Rattle.plan.specs.declared.Plan.{Plan}
+use Rattle.bench.specs.State.{State}
+use Rattle.bench.specs.Sound.{Sound}
+use Rattle.bench.specs.Calls.{started, startAsks, called, callAsks, unlinked, linked, linkAsks, reset, resetAsks}
+use Rattle.bench.specs.Playing.{Areas, roundAsks, Plays}
+use Rattle.bench.specs.Settling.{Least, Pair, settleAsks, after, Settles}
+
+-- one number, and one state after the call
+abbrev pub Once : List Condition → State → State → Type 0
+Once asks before done = (r s : ℕ) (a b : State) → Outcome asks before done r a → Outcome asks before done s b → (r ≡ s) × (a ≡ b)
+
+module _ (plan : Plan) (state : State) where
+  pub is-sound-unique : (r s : Bool) → Decides (Sound plan state) r → Decides (Sound plan state) s → r ≡ s
+  is-sound-unique r s p q = decides-once r s p q
+
+  pub start-unique : Once (startAsks plan state) state (started plan)
+  start-unique = outcome-once (startAsks plan state) state (started plan)
+
+  module _ (device : ℕ) where
+    pub request-unique : (k : ℕ) → Once (callAsks plan 0 device k state) state (called plan 0 device k state)
+    request-unique k = outcome-once (callAsks plan 0 device k state) state (called plan 0 device k state)
+
+    pub acknowledge-unique : (k : ℕ) → Once (callAsks plan 1 device k state) state (called plan 1 device k state)
+    acknowledge-unique k = outcome-once (callAsks plan 1 device k state) state (called plan 1 device k state)
+
+    pub link-stop-unique : (port : ℕ) → Once (linkAsks plan 1 device port state) state (unlinked plan (8 * device + port) state)
+    link-stop-unique port = outcome-once (linkAsks plan 1 device port state) state (unlinked plan (8 * device + port) state)
+
+    pub link-start-unique : (port : ℕ) → Once (linkAsks plan 0 device port state) state (linked plan (8 * device + port) state)
+    link-start-unique port = outcome-once (linkAsks plan 0 device port state) state (linked plan (8 * device + port) state)
+
+    pub reset-unique : Once (resetAsks plan device state) state (reset plan device state)
+    reset-unique = outcome-once (resetAsks plan device state) state (reset plan device state)
+
+pub round-unique : (plan : Plan) (old : State) (before : Areas) (m n v w : ℕ) (a b : Areas)
+    → Plays plan old before m v a → Plays plan old before n w b → (m ≡ n) × (v ≡ w) × (a ≡ b)
+round-unique plan old before m n v w a b p q =
+    let e = ordered-once (roundAsks plan old before) m n (p .answers) (q .answers) in
+    elim (ℕ-discrete m 0) [
+      | yes z ↦ let y = sym e ∙ z in (e, p .made z .1 ∙ sym (q .made y .1), p .made z .0 ∙ sym (q .made y .0))
+      | no z ↦ let y : n ≡ 0 → ⊥ = λ u. z (e ∙ u) in (e, p .kept z .1 ∙ sym (q .kept y .1), p .kept z .0 ∙ sym (q .kept y .0))
+    ]
+
+-- neither of two least numbers is below the other
+least-once : (plan : Plan) (s : State) (m n : ℕ) → Least plan s m → Least plan s n → m ≡ n
+least-once plan s m n p q =
+    let a : m < n → ⊥ = λ l. q .least m l (p .quiet) in
+    let b : n < m → ⊥ = λ l. p .least n l (q .quiet) in
+    omega arith
+
+pub settle-unique : (plan : Plan) (before : Pair) (allowance m n v w : ℕ) (a b : Pair)
+    → Settles plan before allowance m v a → Settles plan before allowance n w b → (m ≡ n) × (v ≡ w) × (a ≡ b)
+settle-unique plan before allowance m n v w a b p q = let r = by-number (ℕ-discrete m 0) (ℕ-discrete m 12) in (e, r .0, r .1)
+  where
+    e : m ≡ n
+    e = ordered-once (settleAsks plan before allowance) m n (p .answers) (q .answers)
+
+    by-number : Dec (m ≡ 0) → Dec (m ≡ 12) → (v ≡ w) × (a ≡ b)
+    by-number (yes z) d =
+        let x = p .made z in
+        let y = q .made (sym e ∙ z) in
+        let s = least-once plan (before .state) v w (x .0) (y .0) in
+        (s, x .1 ∙ ap (after plan (before .state)) s ∙ sym (y .1))
+    by-number (no z) (yes t) =
+        let x = p .still t in
+        let y = q .still (sym e ∙ t) in
+        (x .0 ∙ sym (y .0), x .1 ∙ sym (y .1))
+    by-number (no z) (no t) =
+        let x = p .kept z t in
+        let y = q .kept (λ u. z (e ∙ u)) (λ u. t (e ∙ u)) in
+        (x .0 ∙ sym (y .0), x .1 ∙ sym (y .1))

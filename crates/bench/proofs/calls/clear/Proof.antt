@@ -1,0 +1,66 @@
+-- `bench::calls::clear` meets its contract. The invariant: the words before word i are 0, each by one turn. Assumes nothing.
+use mathlib.Core.Path.{_≡_, refl}
+use Prim.Native.Nat.{_+_, _-_, _*_}
+use native.Mathlib.Omega.{arith}
+use lib.ListN.{length, length-set}
+use borrow.Author.Needs.{needs}
+use Rattle.areas.proofs.Loops.{After, none, turn, done}
+use Rattle.bench.specs.State.{put}
+use Rattle.bench.specs.Calls.{cleared}
+use Rattle.bench.proofs.calls.clear.Statement.{statement}
+use Rattle.bench.proofs.calls.clear.Tie as tie
+
+abbrev Inv-loop : tie.InvT-loop
+Inv-loop state₀ d i₀ state i = After (λ i t. put t (33 * d + i) 0) 33 i state₀ state × (length state ≡ 2080)
+
+abbrev μ-loop : tie.MeasureT-loop
+μ-loop state₀ d i₀ state i = 33 - i
+
+loop-holds : tie.Need-loop-holds Inv-loop μ-loop
+loop-holds c = (none, omega arith)
+
+mul-state : tie.Need-mul-state Inv-loop μ-loop
+mul-state c = search needs
+
+add-state : tie.Need-add-state Inv-loop μ-loop
+add-state c = search needs
+
+mul-state-2 : tie.Need-mul-state-2 Inv-loop μ-loop
+mul-state-2 c = search needs
+
+slice-write-state : tie.Need-slice-write-state Inv-loop μ-loop
+slice-write-state c = search needs
+
+add-i : tie.Need-add-i Inv-loop μ-loop
+add-i c = search needs
+
+loop-less : tie.Need-loop-less Inv-loop μ-loop
+loop-less c = search needs
+
+loop-again : tie.Need-loop-again Inv-loop μ-loop
+unfolding put
+loop-again c = (turn (c .before .loop .inv .0) (omega arith) refl, simp length-set (c .before .loop .inv .1))
+
+same-length : tie.Need-same-length Inv-loop μ-loop
+same-length c = search needs
+
+returns : tie.Need-returns Inv-loop μ-loop
+unfolding cleared
+returns c = λ plan. done (c .before .loop .inv .0) (omega arith)
+
+pub clear-spec : {M : Type 1} → statement M
+clear-spec =
+    tie.close
+    (tie.spec
+    Inv-loop
+    μ-loop
+    loop-holds
+    mul-state
+    add-state
+    mul-state-2
+    slice-write-state
+    add-i
+    loop-less
+    loop-again
+    same-length
+    returns)

@@ -1,0 +1,100 @@
+-- `bench::calls::empty` meets its contract. The invariant: the ports before port p are emptied, each by one turn. Assumes nothing.
+use mathlib.Core.Path.{_≡_}
+use Prim.Native.Nat.{_+_, _-_, _*_}
+use native.Mathlib.Nat.{add-zero}
+use native.Mathlib.Omega.{arith}
+use lib.ListN.{length, length-set}
+use borrow.Author.Needs.{needs}
+use Rattle.areas.proofs.Loops.{After, none, turn, done}
+use Rattle.bench.specs.State.{put, portAt}
+use Rattle.bench.specs.Calls.{emptied}
+use Rattle.bench.proofs.calls.empty.Statement.{statement}
+use Rattle.bench.proofs.calls.empty.Tie as tie
+
+abbrev Inv-loop : tie.InvT-loop
+Inv-loop state₀ d p₀ state p =
+    After (λ p t. put (put (put t (portAt (8 * d + p) 0) 0) (portAt (8 * d + p) 1) 0) (portAt (8 * d + p) 2) 0) 8 p state₀ state × (length state ≡ 2080)
+
+abbrev μ-loop : tie.MeasureT-loop
+μ-loop state₀ d p₀ state p = 8 - p
+
+loop-holds : tie.Need-loop-holds Inv-loop μ-loop
+loop-holds c = (none, omega arith)
+
+mul-at : tie.Need-mul-at Inv-loop μ-loop
+mul-at c = search needs
+
+add-at : tie.Need-add-at Inv-loop μ-loop
+add-at c = search needs
+
+mul-at-2 : tie.Need-mul-at-2 Inv-loop μ-loop
+mul-at-2 c = search needs
+
+add-at-2 : tie.Need-add-at-2 Inv-loop μ-loop
+add-at-2 c = search needs
+
+mul-state : tie.Need-mul-state Inv-loop μ-loop
+mul-state c = search needs
+
+slice-write-state : tie.Need-slice-write-state Inv-loop μ-loop
+slice-write-state c = search needs
+
+add-state : tie.Need-add-state Inv-loop μ-loop
+add-state c = search needs
+
+mul-state-2 : tie.Need-mul-state-2 Inv-loop μ-loop
+mul-state-2 c = search needs
+
+slice-write-state-2 : tie.Need-slice-write-state-2 Inv-loop μ-loop
+slice-write-state-2 c = simp length-set (omega arith)
+
+add-state-2 : tie.Need-add-state-2 Inv-loop μ-loop
+add-state-2 c = search needs
+
+mul-state-3 : tie.Need-mul-state-3 Inv-loop μ-loop
+mul-state-3 c = search needs
+
+slice-write-state-3 : tie.Need-slice-write-state-3 Inv-loop μ-loop
+slice-write-state-3 c = simp length-set (omega arith)
+
+add-p : tie.Need-add-p Inv-loop μ-loop
+add-p c = search needs
+
+loop-less : tie.Need-loop-less Inv-loop μ-loop
+loop-less c = search needs
+
+loop-again : tie.Need-loop-again Inv-loop μ-loop
+unfolding put
+loop-again c = (turn (c .before .loop .inv .0) (omega arith) (rw add-zero), simp length-set (c .before .loop .inv .1))
+
+same-length : tie.Need-same-length Inv-loop μ-loop
+same-length c = search needs
+
+returns : tie.Need-returns Inv-loop μ-loop
+unfolding emptied
+returns c = λ plan. done (c .before .loop .inv .0) (omega arith)
+
+pub empty-spec : {M : Type 1} → statement M
+empty-spec =
+    tie.close
+    (tie.spec
+    Inv-loop
+    μ-loop
+    loop-holds
+    mul-at
+    add-at
+    mul-at-2
+    add-at-2
+    mul-state
+    slice-write-state
+    add-state
+    mul-state-2
+    slice-write-state-2
+    add-state-2
+    mul-state-3
+    slice-write-state-3
+    add-p
+    loop-less
+    loop-again
+    same-length
+    returns)

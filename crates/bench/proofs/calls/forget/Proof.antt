@@ -1,0 +1,20 @@
+-- `bench::calls::forget` meets its contract: each arm by its test. Assumes nothing.
+use borrow.Author.Tests.{eq-eqb, ne-eqb}
+use borrow.Author.Needs.{needs}
+use Rattle.bench.proofs.calls.forget.Statement.{statement}
+use Rattle.bench.proofs.calls.forget.Tie as tie
+
+returns : tie.Need-returns
+returns c = λ plan. rw (eq-eqb _ _ (c .if1 .taken))
+
+clear-requires : tie.Need-clear-requires
+clear-requires c κs = search needs
+
+same-length : tie.Need-same-length
+same-length c = search needs
+
+returns-2 : tie.Need-returns-2
+returns-2 c = λ plan. rw (ne-eqb _ _ (c .before .before .before .before .if1 .left)) (c .before .before .clear .ensures plan)
+
+pub forget-spec : {M : Type 1} → statement M
+forget-spec = tie.close (tie.spec returns clear-requires same-length returns-2)

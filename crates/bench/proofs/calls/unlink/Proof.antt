@@ -1,0 +1,67 @@
+-- `bench::calls::unlink` meets its contract: four calls in turn. Assumes nothing.
+use mathlib.Core.Path.{_≡_}
+use Prim.Native.Nat.{ℕ, _/_}
+use borrow.Author.Needs.{needs}
+use Rattle.plan.specs.declared.Plan.{Plan}
+use Rattle.bench.specs.State.{State}
+use Rattle.bench.specs.Network.{peer}
+use Rattle.bench.specs.Calls.{halted, forgotten, unlinked}
+use Rattle.bench.proofs.calls.unlink.Statement.{statement}
+use Rattle.bench.proofs.calls.unlink.Tie as tie
+
+-- both ports are halted, then both ends forget
+in-turn : (plan : Plan) (q far : ℕ) (s s₁ s₂ s₃ s₄ : State) → far ≡ peer plan q → s₁ ≡ halted plan q s → s₂ ≡ halted plan far s₁
+    → s₃ ≡ forgotten plan (q / 8) s₂ → s₄ ≡ forgotten plan (far / 8) s₃ → s₄ ≡ unlinked plan q s
+unfolding unlinked
+in-turn plan q far s s₁ s₂ s₃ s₄ p a b c d = rw (d, c, b, a, p)
+
+far-end-requires : tie.Need-far-end-requires
+far-end-requires c κs = search needs
+
+cast-far : tie.Need-cast-far
+cast-far c = search needs
+
+halt-requires : tie.Need-halt-requires
+halt-requires c κs = search needs
+
+halt-requires-2 : tie.Need-halt-requires-2
+halt-requires-2 c κs = search needs
+
+element-copy-out-forget : tie.Need-element-copy-out-forget
+element-copy-out-forget c = search needs
+
+forget-requires : tie.Need-forget-requires
+forget-requires c κs = search needs
+
+element-copy-out-forget-2 : tie.Need-element-copy-out-forget-2
+element-copy-out-forget-2 c = search needs
+
+forget-requires-2 : tie.Need-forget-requires-2
+forget-requires-2 c κs = search needs
+
+same-length : tie.Need-same-length
+same-length c = search needs
+
+returns : tie.Need-returns
+returns c =
+    let f = c .before .before .before .before .before .before .before in
+    let h = f .before .before .before .before .before .before in
+    let e = h .before .before .before .before .before .before in
+    let plan = e .before .before .args .plan in
+    in-turn plan _ _ _ _ _ _ _ (e .far-end .ensures) (h .before .before .before .before .halt .ensures plan) (h .halt2 .ensures plan)
+    (f .forget .ensures plan) (c .before .before .forget2 .ensures plan)
+
+pub unlink-spec : {M : Type 1} → statement M
+unlink-spec =
+    tie.close
+    (tie.spec
+    far-end-requires
+    cast-far
+    halt-requires
+    halt-requires-2
+    element-copy-out-forget
+    forget-requires
+    element-copy-out-forget-2
+    forget-requires-2
+    same-length
+    returns)

@@ -1,0 +1,71 @@
+use mathlib.Core.Path.{sym, ap, _∙_}
+use Rattle.codes.specs.declared.Code.{Code}
+use Rattle.bench.specs.Round.{forwarded}
+use borrow.Author.Needs.{needs}
+use Rattle.bench.proofs.rounds.forward.Statement.{statement}
+use Rattle.bench.proofs.rounds.forward.Tie as tie
+
+enum-known-code : tie.Need-enum-known-code
+enum-known-code c = search needs
+
+cast-queue-all : tie.Need-cast-queue-all
+cast-queue-all c = search needs
+
+queue-all-requires : tie.Need-queue-all-requires
+queue-all-requires c κs = search needs
+
+enum-known-code-2 : tie.Need-enum-known-code-2
+enum-known-code-2 c = search needs
+
+cast-queue-all-2 : tie.Need-cast-queue-all-2
+cast-queue-all-2 c = search needs
+
+queue-all-requires-2 : tie.Need-queue-all-requires-2
+queue-all-requires-2 c κs = search needs
+
+enum-told : tie.Need-enum-told
+enum-told c = search needs
+
+enum-told-2 : tie.Need-enum-told-2
+enum-told-2 c = search needs
+
+same-length : tie.Need-same-length
+same-length c = search needs
+
+returns : tie.Need-returns
+unfolding forwarded
+returns c = c .before .before .queue-all .ensures ∙ sym (ap (λ (x : Code). forwarded (c .before .before .before .before .before .before .before .before .args .permissions .now) (c .before .before .before .before .before .before .before .before .args .q) x (c .before .before .before .before .before .before .before .before .args .state .now)) (c .before .before .before .before .before .code .given .1))
+
+same-length-2 : tie.Need-same-length-2
+same-length-2 c = search needs
+
+returns-2 : tie.Need-returns-2
+unfolding forwarded
+returns-2 c = c .before .before .queue-all2 .ensures ∙ sym (ap (λ (x : Code). forwarded (c .before .before .before .before .before .before .before .before .args .permissions .now) (c .before .before .before .before .before .before .before .before .args .q) x (c .before .before .before .before .before .before .before .before .args .state .now)) (c .before .before .before .before .before .code2 .given .1))
+
+returns-3 : tie.Need-returns-3
+unfolding forwarded
+returns-3 c = sym (ap (λ (x : Code). forwarded (c .before .before .before .args .permissions .now) (c .before .before .before .args .q) x (c .before .before .before .args .state .now)) (c .enum-told .given .1))
+
+returns-4 : tie.Need-returns-4
+unfolding forwarded
+returns-4 c = sym (ap (λ (x : Code). forwarded (c .before .before .before .args .permissions .now) (c .before .before .before .args .q) x (c .before .before .before .args .state .now)) (c .enum-told2 .given .1))
+
+pub forward-spec : {M : Type 1} → statement M
+forward-spec =
+    tie.close
+    (tie.spec
+    enum-known-code
+    cast-queue-all
+    queue-all-requires
+    enum-known-code-2
+    cast-queue-all-2
+    queue-all-requires-2
+    enum-told
+    enum-told-2
+    same-length
+    returns
+    same-length-2
+    returns-2
+    returns-3
+    returns-4)

@@ -1,0 +1,164 @@
+use Prim.Native.Nat.{ℕ}
+use Rattle.bits.specs.declared.Found.{Found}
+use mathlib.Core.Path.{_≡_, sym, _∙_}
+use native.Mathlib.Omega.{arith}
+use lib.ListN.{length-set}
+use Rattle.bits.specs.declared.Found.the-variants.{At, Nowhere}
+use Rattle.bench.specs.State.{State, word, put}
+use Rattle.bench.specs.Round.{chosen, sends, unqueued}
+use Rattle.bench.proofs.Stepped.{chosen-place, post-nothing, post-same, post-interrupt, post-acknowledge, post-leaves}
+use borrow.Author.Needs.{needs}
+use Rattle.bench.proofs.rounds.post_one.Statement.{statement}
+use Rattle.bench.proofs.rounds.post_one.Tie as tie
+
+-- of what the call found, by search and not by a path: a choice from another area is refused at this fact, and not for its shape
+module _ (old : State) (q : ℕ) (r : Found) (e : r ≡ chosen old q) where
+  none-sent : r ≡ Nowhere → 256 ≡ sends old q
+  none-sent h = sym (post-nothing old q (sym e ∙ h))
+
+  none-left : (s : State) → r ≡ Nowhere → s ≡ unqueued old q s
+  none-left s h = sym (post-same old q s (sym e ∙ h))
+
+mul-at : tie.Need-mul-at
+mul-at c = search needs
+
+add-at : tie.Need-add-at
+add-at c = search needs
+
+choice-requires : tie.Need-choice-requires
+choice-requires c κs = search needs
+
+enum-known-found : tie.Need-enum-known-found
+enum-known-found c = search needs
+
+enum-told : tie.Need-enum-told
+enum-told c = search needs
+
+returns : tie.Need-returns
+returns c = (search none-sent, search none-left)
+
+found : (c : tie.After-found) → chosen (c .before .before .before .before .before .args .old .now) (c .before .before .before .before .before .args .q) ≡ At (c .found .given .0 .0)
+found c = sym (c .before .before .choice .ensures) ∙ c .found .given .1
+
+mul-leave : tie.Need-mul-leave
+mul-leave c = search needs
+
+slice-read-leave : tie.Need-slice-read-leave
+slice-read-leave c = search needs
+
+leave-requires : tie.Need-leave-requires
+leave-requires c κs = search needs
+
+mul-next : tie.Need-mul-next
+mul-next c = search needs
+
+slice-write-next : tie.Need-slice-write-next
+slice-write-next c = search needs
+
+add-leave : tie.Need-add-leave
+add-leave c = search needs
+
+mul-leave-2 : tie.Need-mul-leave-2
+mul-leave-2 c = search needs
+
+slice-read-leave-2 : tie.Need-slice-read-leave-2
+slice-read-leave-2 c = simp length-set (omega arith)
+
+leave-requires-2 : tie.Need-leave-requires-2
+leave-requires-2 c κs = search needs
+
+add-next : tie.Need-add-next
+add-next c = search needs
+
+mul-next-2 : tie.Need-mul-next-2
+mul-next-2 c = search needs
+
+slice-write-next-2 : tie.Need-slice-write-next-2
+slice-write-next-2 c = simp length-set (omega arith)
+
+add-next-2 : tie.Need-add-next-2
+add-next-2 c = omega (arith, chosen-place _ _ (found (c .before .before .before .before .before)))
+
+add-next-3 : tie.Need-add-next-3
+add-next-3 c = search needs
+
+mul-next-3 : tie.Need-mul-next-3
+mul-next-3 c = search needs
+
+slice-write-next-3 : tie.Need-slice-write-next-3
+slice-write-next-3 c = simp length-set (omega arith)
+
+mul-get : tie.Need-mul-get
+mul-get c = search needs
+
+shared-slice-read-get : tie.Need-shared-slice-read-get
+shared-slice-read-get c = search needs
+
+get-requires : tie.Need-get-requires
+get-requires c κs = search needs
+
+add-result : tie.Need-add-result
+add-result c = omega (arith, chosen-place _ _ (found (c .before .before .before .before .before .before .before .before)))
+
+same-length : tie.Need-same-length
+same-length c = simp length-set
+
+returns-2 : tie.Need-returns-2
+unfolding word put
+returns-2 c =
+    let a = c .before .before .before .before .before .before .before .before .before .before .before .before .before .args in
+    let k = found (c .before .before .before .before .before .before .before .before) in (
+      sym (post-interrupt (a .old .now) (a .q) k (sym (c .before .get .ensures) ∙ c .if1 .taken)),
+      sym (post-leaves (a .old .now) (a .q) k (a .next .now) (c .before .before .before .before .before .leave .result) (c .before .before .before .leave2 .result) (c .before .before .before .before .before .leave .ensures) (c .before .before .before .leave2 .ensures)),
+    )
+
+add-result-2 : tie.Need-add-result-2
+add-result-2 c = omega (arith, chosen-place _ _ (found (c .before .before .before .before .before .before .before .before)))
+
+same-length-2 : tie.Need-same-length-2
+same-length-2 c = simp length-set
+
+returns-3 : tie.Need-returns-3
+unfolding word put
+returns-3 c =
+    let a = c .before .before .before .before .before .before .before .before .before .before .before .before .before .args in
+    let k = found (c .before .before .before .before .before .before .before .before) in (
+      sym (post-acknowledge (a .old .now) (a .q) k (λ e. c .if1 .left (c .before .get .ensures ∙ e))),
+      sym (post-leaves (a .old .now) (a .q) k (a .next .now) (c .before .before .before .before .before .leave .result) (c .before .before .before .leave2 .result) (c .before .before .before .before .before .leave .ensures) (c .before .before .before .leave2 .ensures)),
+    )
+
+pub post-one-spec : {M : Type 1} → statement M
+post-one-spec =
+    tie.close
+    (tie.spec
+    mul-at
+    add-at
+    choice-requires
+    enum-known-found
+    enum-told
+    returns
+    mul-leave
+    slice-read-leave
+    leave-requires
+    mul-next
+    slice-write-next
+    add-leave
+    mul-leave-2
+    slice-read-leave-2
+    leave-requires-2
+    add-next
+    mul-next-2
+    slice-write-next-2
+    add-next-2
+    add-next-3
+    mul-next-3
+    slice-write-next-3
+    mul-get
+    shared-slice-read-get
+    get-requires
+    add-result
+    same-length
+    returns-2
+    add-result-2
+    same-length-2
+    returns-3)

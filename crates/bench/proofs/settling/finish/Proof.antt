@@ -1,0 +1,46 @@
+use mathlib.Core.Path.{_≡_, refl, ap, _∙_}
+use mathlib.Core.Bool.{cond}
+use mathlib.Core.Logic.{⊎-elim}
+use Prim.Native.Nat.{ℕ}
+use native.Mathlib.Omega.{arith}
+use lib.ListN.{length}
+use borrow.Author.Tests.{not-true, not-false}
+use Rattle.areas.specs.Table.{table}
+use Rattle.bench.specs.Telling.{pair}
+use Rattle.bench.proofs.Played.{copied-same}
+use Rattle.bench.proofs.Settled.{both-long}
+use borrow.Author.Needs.{needs}
+use Rattle.bench.proofs.settling.finish.Statement.{statement}
+use Rattle.bench.proofs.settling.finish.Tie as tie
+
+-- state holds what was in use
+used : (c : tie.Joined1) → c .if1 .state ≡ cond (c .before .before .before .args .home) (c .before .before .before .args .state .now) (c .before .before .before .args .second .now)
+used c =
+    let home = c .before .before .before .args .home in
+    ⊎-elim (λ w. rw (not-true home (w .0 .taken)) (w .6 ∙ w .3 .ensures ∙ copied-same _ _ (omega arith))) (λ w. rw (not-false home (w .0 .left)) (w .1)) (c .if1 .came)
+
+long : (c : tie.Joined1) → length (c .if1 .state) ≡ 2080
+long c =
+    let a = c .before .before .before in
+    ap length (used c) ∙ both-long (a .args .home) _ _ (a .pre .0) (a .pre .1)
+
+copy-requires : tie.Need-copy-requires
+copy-requires c κs = search needs
+
+fill-requires : tie.Need-fill-requires
+fill-requires c κs = search needs
+
+same-length : tie.Need-same-length
+same-length c = omega (arith, long (c .before .before .before .before))
+
+same-length-2 : tie.Need-same-length-2
+same-length-2 c = search needs
+
+returns : tie.Need-returns
+returns c =
+    let a = c .before .before .before .before .before .before .before in
+    let z = c .before .before .fill .ensures ∙ ap (λ (k : ℕ). table k (λ i. 0)) (a .pre .1) in
+    (refl, λ i. pair (used (c .before .before .before .before) i) (z i))
+
+pub finish-spec : {M : Type 1} → statement M
+finish-spec = tie.close (tie.spec copy-requires fill-requires same-length same-length-2 returns)

@@ -1,0 +1,39 @@
+-- `bench::state::flag_sound` meets its contract: each test by its branch. Assumes nothing.
+use borrow.Author.Tests.{eq-eqb, ne-eqb, lt-ltb, le-ltb, le-leb, lt-leb}
+use Rattle.bench.specs.Steps.{flagSound}
+use borrow.Author.Needs.{needs}
+use Rattle.bench.proofs.state.flag_sound.Statement.{statement}
+use Rattle.bench.proofs.state.flag_sound.Tie as tie
+
+returns : tie.Need-returns
+unfolding flagSound
+returns c = simp (lt-leb _ _ (c .if1 .taken))
+
+returns-2 : tie.Need-returns-2
+unfolding flagSound
+returns-2 c = simp (le-leb _ _ (c .before .if1 .left), eq-eqb _ _ (c .if2 .taken))
+
+returns-3 : tie.Need-returns-3
+unfolding flagSound
+returns-3 c = simp (le-leb _ _ (c .before .before .if1 .left), ne-eqb _ _ (c .before .if2 .left), lt-ltb _ _ (c .if3 .taken))
+
+mul-word : tie.Need-mul-word
+mul-word c = search needs
+
+add-word : tie.Need-add-word
+add-word c = search needs
+
+add-word-2 : tie.Need-add-word-2
+add-word-2 c = search needs
+
+word-requires : tie.Need-word-requires
+word-requires c κs = search needs
+
+returns-4 : tie.Need-returns-4
+unfolding flagSound
+returns-4 c = simp (le-leb _ _ (c .before .before .before .if1 .left), ne-eqb _ _ (c .before .before .if2 .left), le-ltb _ _ (c .before .if3 .left), ← c .word .ensures)
+
+pub flag-sound-spec : {M : Type 1} → statement M
+flag-sound-spec =
+    tie.close
+    (tie.spec returns returns-2 returns-3 mul-word add-word add-word-2 word-requires returns-4)

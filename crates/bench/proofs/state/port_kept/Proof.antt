@@ -1,0 +1,93 @@
+-- `bench::state::port_kept` meets its contract: each test by its branch. Assumes nothing.
+use mathlib.Core.Path.{_≡_, sym, ap, _∙_}
+use Prim.Native.Nat.{ℕ, _+_, _*_}
+use native.Mathlib.Omega.{arith}
+use Rattle.bench.specs.State.{State, word, waiting}
+use borrow.Author.Tests.{le-leb, lt-leb, not-true, not-false}
+use Rattle.bench.specs.Steps.{portKept}
+use borrow.Author.Needs.{needs}
+use Rattle.bench.proofs.state.port_kept.Statement.{statement}
+use Rattle.bench.proofs.state.port_kept.Tie as tie
+
+first-set : (s : State) (q : ℕ) {w : ℕ} → w ≡ word s (1056 + 4 * q) → waiting s 0 q ≡ w
+first-set s q e = ap (word s) (omega arith) ∙ sym e
+
+mul-at : tie.Need-mul-at
+mul-at c = search needs
+
+add-at : tie.Need-add-at
+add-at c = search needs
+
+add-word : tie.Need-add-word
+add-word c = search needs
+
+word-requires : tie.Need-word-requires
+word-requires c κs = search needs
+
+returns : tie.Need-returns
+unfolding portKept
+returns c = simp (← c .before .word .ensures, lt-leb _ _ (c .if1 .taken))
+
+add-word-2 : tie.Need-add-word-2
+add-word-2 c = search needs
+
+word-requires-2 : tie.Need-word-requires-2
+word-requires-2 c κs = search needs
+
+flag-sound-requires : tie.Need-flag-sound-requires
+flag-sound-requires c κs = search needs
+
+returns-2 : tie.Need-returns-2
+unfolding portKept
+returns-2 c =
+    simp (
+      ← c .before .before .before .before .word .ensures,
+      le-leb _ _ (c .before .before .before .if1 .left),
+      ← c .before .before .word2 .ensures,
+      sym (c .before .flag-sound .ensures) ∙ not-true _ (c .if2 .taken),
+    )
+
+word-requires-3 : tie.Need-word-requires-3
+word-requires-3 c κs = search needs
+
+add-word-3 : tie.Need-add-word-3
+add-word-3 c = search needs
+
+word-requires-4 : tie.Need-word-requires-4
+word-requires-4 c κs = search needs
+
+waiting-sound-requires : tie.Need-waiting-sound-requires
+waiting-sound-requires c κs = search needs
+
+returns-3 : tie.Need-returns-3
+unfolding portKept
+returns-3 c =
+    let args = c .before .before .before .before .before .before .before .before .before .args in
+    simp (
+      ← c .before .before .before .before .before .before .before .word .ensures,
+      le-leb _ _ (c .before .before .before .before .before .before .if1 .left),
+      ← c .before .before .before .before .before .word2 .ensures,
+      sym (c .before .before .before .before .flag-sound .ensures) ∙ not-false _ (c .before .before .before .if2 .left),
+      first-set (args .state .now) (args .q) (c .before .before .word3 .ensures),
+      ← c .before .word4 .ensures,
+      ← c .waiting-sound .ensures,
+    )
+
+pub port-kept-spec : {M : Type 1} → statement M
+port-kept-spec =
+    tie.close
+    (tie.spec
+    mul-at
+    add-at
+    add-word
+    word-requires
+    returns
+    add-word-2
+    word-requires-2
+    flag-sound-requires
+    returns-2
+    word-requires-3
+    add-word-3
+    word-requires-4
+    waiting-sound-requires
+    returns-3)

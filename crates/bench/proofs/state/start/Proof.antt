@@ -1,0 +1,59 @@
+-- `bench::state::start` meets its contract: each refusal by its branch. Assumes nothing.
+use mathlib.Core.Path.{_≡_, refl, ap, _∙_}
+use mathlib.Core.List.{List}
+use mathlib.Core.Logic.{inl, inr}
+use Prim.Native.Nat.{ℕ}
+use native.Mathlib.Omega.{arith}
+use borrow.Author.Needs.{needs}
+use Rattle.answers.proofs.Outcomes.{granted, denied, outcome-refused, outcome-done}
+use Rattle.areas.specs.Table.{table}
+use Rattle.plan.specs.declared.Plan.{Plan}
+use Rattle.bench.specs.State.{State}
+use Rattle.bench.specs.Calls.{started}
+use Rattle.bench.specs.Steps.{firstWord}
+use Rattle.bench.proofs.state.start.Statement.{statement}
+use Rattle.bench.proofs.state.start.Tie as tie
+
+-- what was written is the start state
+is-started : (plan : Plan) (peers : List (List ℕ)) (after : State) → peers ≡ plan .peers → after ≡ table 2080 (firstWord peers) → after ≡ started plan
+unfolding started firstWord
+is-started plan peers after p e = e ∙ ap (λ (ps : List (List ℕ)). table 2080 (firstWord ps)) p
+
+is-held-requires : tie.Need-is-held-requires
+is-held-requires c κs = search needs
+
+returns : tie.Need-returns
+returns c = outcome-refused (inl (denied (c .before .is-held .ensures) (c .if1 .taken), refl)) (λ z. omega arith)
+
+returns-2 : tie.Need-returns-2
+returns-2 c =
+    let held = granted (c .before .before .is-held .ensures) (c .before .if1 .left) in
+    outcome-refused (inr (held, inl (c .if2 .taken, refl))) (λ z. omega arith)
+
+peers-of-requires : tie.Need-peers-of-requires
+peers-of-requires c κs = search needs
+
+write-first-requires : tie.Need-write-first-requires
+write-first-requires c κs = search needs
+
+same-length : tie.Need-same-length
+same-length c = search needs
+
+returns-3 : tie.Need-returns-3
+returns-3 c =
+    let e = c .before .before .before .before .before .before in
+    let held = granted (e .before .before .is-held .ensures) (e .before .if1 .left) in
+    outcome-done (inr (held, inr (e .if2 .left, refl))) refl
+    (is-started _ _ _ (c .before .before .before .before .before .peers-of .ensures) (c .before .before .write-first .ensures))
+
+pub start-spec : {M : Type 1} → statement M
+start-spec =
+    tie.close
+    (tie.spec
+    is-held-requires
+    returns
+    returns-2
+    peers-of-requires
+    write-first-requires
+    same-length
+    returns-3)

@@ -1,0 +1,11 @@
+pub mod State
+pub mod Network
+pub mod Sound
+pub mod Queue
+pub mod Calls
+pub mod Round
+pub mod Playing
+pub mod Settling
+pub mod Steps
+pub mod Telling
+pub mod Alike

@@ -1,0 +1,144 @@
+-- RULES, "Rounds": the next state, what is sent, and what hosts are told.
+use mathlib.Core.Bool.{Bool, cond}
+use mathlib.Core.List.{List, [], _∷_, _++_}
+use Prim.Native.Nat.{ℕ, zero, suc, _+_, _*_, _/_, _%_}
+use lib.Bits.{bitOr}
+use lib.Dec.{eqb, ltb}
+use lib.ListN.{getD}
+use Rattle.areas.specs.Loop.{upTo}
+use Rattle.areas.specs.Table.{table}
+use Rattle.bits.specs.Set.{bit, leave}
+use Rattle.bits.specs.First.{firstFrom, following}
+use Rattle.bits.specs.declared.Found.{Found}
+use Rattle.bits.specs.declared.Found.the-variants.{At, Nowhere}
+use Rattle.codes.specs.declared.Code.{Code}
+use Rattle.codes.specs.declared.Code.the-variants.{Time, Interrupt, Acknowledge, Reserved}
+use Rattle.device.specs.Reaction.{reacts}
+use Rattle.device.specs.declared.Action.{Action}
+use Rattle.device.specs.declared.Action.the-variants.{Named, LinkError, Ignored, Forwarded, Told}
+use Rattle.plan.specs.declared.Plan.{Plan}
+use Rattle.bench.specs.State.{State, put, registerAt, timerAt, portAt, register, timer, waiting, next, running}
+use Rattle.bench.specs.Network.{devices, router, peer, loadOf}
+use Rattle.bench.specs.Queue.{queueAllAt}
+
+-- a state, and the words told so far
+pub record World : Type 0 where
+  pub state : State
+  pub told : List ℕ
+
+-- a word told: kind x 65,536 + device x 256 + identifier; kinds 1 interrupt, 2 acknowledge, 3 timeout
+abbrev pub toldWord : ℕ → ℕ → ℕ → ℕ
+toldWord kind d k = 65536 * kind + 256 * d + k
+
+-- ---- 1. timers: a running timer falls by 1; at 0 the bit clears and a node's host is told
+
+unfoldable pub tick : Bool → ℕ → ℕ → World → World
+tick isRouter d k w =
+    elim (timer (w .state) d k) [
+      | zero ↦ w
+      | suc t ↦
+          cond (eqb t 0)
+          (record {
+            state = put (put (w .state) (registerAt d) (leave (register (w .state) d) k)) (timerAt d k) 0;
+            told = cond isRouter (w .told) (w .told ++ (toldWord 3 d k ∷ []));
+          })
+          (record { state = put (w .state) (timerAt d k) t; told = w .told })
+    ]
+
+-- ---- 2. each port with anything waiting sends; what, is chosen from the old waiting sets
+
+-- the first waiting identifier at or after next
+unfoldable pub chosen : State → ℕ → Found
+chosen old q = firstFrom (bitOr (waiting old 0 q) (waiting old 1 q)) (next old q)
+
+-- its byte: 128 + identifier for an interrupt, 160 + identifier for an acknowledge; 256 for none
+unfoldable pub sends : State → ℕ → ℕ
+sends old q = elim (chosen old q) [ At k ↦ cond (eqb (bit (waiting old 0 q) k) 1) (128 + k) (160 + k) | Nowhere ↦ 256 ]
+
+-- it leaves its set, and next moves behind it
+unfoldable pub unqueued : State → ℕ → State → State
+unqueued old q s =
+    elim (chosen old q) [
+      | At k ↦ put (put (put s (portAt q 0) (leave (waiting s 0 q) k)) (portAt q 1) (leave (waiting s 1 q) k)) (portAt q 2) (following (next old q) (At k))
+      | Nowhere ↦ s
+    ]
+
+-- ---- 3. codes arrive, and each device reacts
+
+-- an accepted code loads its timer or stops it
+unfoldable pub timed : (ℕ → ℕ) → ℕ → Code → State → State
+timed load d (Interrupt k) s = put s (timerAt d k) (load k)
+timed load d (Acknowledge k) s = put s (timerAt d k) 0
+timed load d (Time v) s = s
+timed load d Reserved s = s
+
+-- a forwarded code waits at every other port of the device
+unfoldable pub forwarded : List ℕ → ℕ → Code → State → State
+forwarded permissions q (Interrupt k) s = queueAllAt permissions 0 k (q / 8) q s
+forwarded permissions q (Acknowledge k) s = queueAllAt permissions 1 k (q / 8) q s
+forwarded permissions q (Time v) s = s
+forwarded permissions q Reserved s = s
+
+-- what a host is told of a code
+unfoldable pub tells : ℕ → Code → List ℕ
+tells d (Interrupt k) = toldWord 1 d k ∷ []
+tells d (Acknowledge k) = toldWord 2 d k ∷ []
+tells d (Time v) = []
+tells d Reserved = []
+
+module _ (load : ℕ → ℕ) (permissions : List ℕ) (q : ℕ) where
+  -- what becomes of the code
+  unfoldable pub acted : Action → World → World
+  acted (Forwarded code) w = record { state = forwarded permissions q code (timed load (q / 8) code (w .state)); told = w .told }
+  acted (Told code) w = record { state = timed load (q / 8) code (w .state); told = w .told ++ tells (q / 8) code }
+  acted (Named code) w = w
+  acted (LinkError code) w = w
+  acted (Ignored code) w = w
+
+  -- a byte arrives at port q, and its device reacts
+  unfoldable pub arrived : Bool → ℕ → World → World
+  arrived isRouter byte w =
+      let r = reacts isRouter (eqb (running (w .state) q) 1) (getD permissions q 0) (register (w .state) (q / 8)) byte in
+      acted (r .action) (record { state = put (w .state) (registerAt (q / 8)) (r .register); told = w .told })
+
+-- ---- the round of a plan
+
+pub record Round : Type 0 where
+  pub next : State
+  pub sent : List ℕ
+  pub told : List ℕ
+
+module _ (plan : Plan) where
+  -- by device, then identifier
+  unfoldable pub ticked : World → World
+  ticked w = upTo (λ i. tick (router plan (i / 32)) (i / 32) (i % 32)) (32 * devices plan) w
+
+  -- 256 words, at 8 x d + p the byte sent
+  unfoldable pub sentBytes : State → List ℕ
+  sentBytes old = table 256 (λ q. cond (ltb q (8 * devices plan)) (sends old q) 256)
+
+  unfoldable pub posted : State → State → State
+  posted old s = upTo (unqueued old) (8 * devices plan) s
+
+  -- what the far end sent arrives at port q
+  unfoldable pub arrives : List ℕ → ℕ → World → World
+  arrives sent q w =
+      let byte = getD sent (peer plan q) 256 in
+      cond (ltb byte 256) (arrived (loadOf plan (q / 8)) (plan .core .permissions) q (router plan (q / 8)) byte w) w
+
+  -- by receiving device, then port
+  unfoldable pub reached : List ℕ → World → World
+  reached sent w = upTo (arrives sent) (8 * devices plan) w
+
+  module _ (old : State) where
+    abbrev pub afterTimers : World
+    afterTimers = ticked (record { state = old; told = [] })
+
+    abbrev pub afterSending : World
+    afterSending = record { state = posted old (afterTimers .state); told = afterTimers .told }
+
+    abbrev pub afterArrivals : World
+    afterArrivals = reached (sentBytes old) afterSending
+
+    unfoldable pub round : Round
+    round = record { next = afterArrivals .state; sent = sentBytes old; told = afterArrivals .told }

@@ -1,0 +1,297 @@
+// What hosts and links may do between rounds. A call changes the state that it is given, or answers
+// the number of its first condition that does not hold, and changes nothing.
+ghost use mathlib.Core.Path.{_≡_};
+ghost use mathlib.Core.Bool.{true, cond};
+ghost use Prim.Native.Nat.{ℕ, _+_, _*_, _<_};
+ghost use lib.Dec.{eqb};
+ghost use lib.ListN.{length, getD};
+ghost use Rattle.answers.specs.Decides.{Decides};
+ghost use Rattle.answers.specs.Ordered.{Ordered, Outcome};
+ghost use Rattle.bench.specs.Calls.{mark as Calls·mark, called, callAsks, halted, cleared, unlinked, linked, linkAsks, emptied, reset as Calls·reset, resetAsks};
+ghost use Rattle.bench.specs.Network.{role, peer};
+ghost use Rattle.bench.specs.Queue.{sendsAt};
+ghost use Rattle.bench.specs.State.{running};
+use crate::port;
+use crate::state;
+use plan::Plan;
+
+// The host of a node requests an identifier.
+pub fn request(plan: Plan, state: &mut [u32], device: usize, k: u32) -> u32
+    ensures { λ r. ⌜ Outcome (callAsks plan 0 device k (now (state .entry))) (now (state .entry)) (called plan 0 device k (now (state .entry))) r (now (state .exit)) ⌝ }
+{
+    call(plan, 0, state, device, k)
+}
+
+// The host of a node acknowledges an identifier.
+pub fn acknowledge(plan: Plan, state: &mut [u32], device: usize, k: u32) -> u32
+    ensures { λ r. ⌜ Outcome (callAsks plan 1 device k (now (state .entry))) (now (state .entry)) (called plan 1 device k (now (state .entry))) r (now (state .exit)) ⌝ }
+{
+    call(plan, 1, state, device, k)
+}
+
+// The link at a port stops.
+pub fn link_stop(plan: Plan, state: &mut [u32], device: usize, port: usize) -> u32
+    ensures { λ r. ⌜ Outcome (linkAsks plan 1 device port (now (state .entry))) (now (state .entry)) (unlinked plan (8 * device + port) (now (state .entry))) r (now (state .exit)) ⌝ }
+{
+    let number = link_refusal(plan, 1, state, device, port);
+    if number != 0 {
+        return number;
+    }
+    unlink(plan, state, 8 * device + port);
+    0
+}
+
+// The link at a port starts.
+pub fn link_start(plan: Plan, state: &mut [u32], device: usize, port: usize) -> u32
+    ensures { λ r. ⌜ Outcome (linkAsks plan 0 device port (now (state .entry))) (now (state .entry)) (linked plan (8 * device + port) (now (state .entry))) r (now (state .exit)) ⌝ }
+{
+    let number = link_refusal(plan, 0, state, device, port);
+    if number != 0 {
+        return number;
+    }
+    link(plan, state, 8 * device + port);
+    0
+}
+
+// A device is reset: its register and timers, and what waits at its ports.
+pub fn reset(plan: Plan, state: &mut [u32], device: usize) -> u32
+    ensures { λ r. ⌜ Outcome (resetAsks plan device (now (state .entry))) (now (state .entry)) (Calls·reset plan device (now (state .entry))) r (now (state .exit)) ⌝ }
+{
+    let number = refusal(plan, state, device);
+    if number != 0 {
+        return number;
+    }
+    clear(state, device);
+    empty(state, device);
+    0
+}
+
+// What every call asks: a plan that some file holds, a sound state, and a device of the plan.
+fn refusal(plan: Plan, state: &[u32], device: usize) -> u32
+    ensures { λ r. ⌜ Ordered (resetAsks plan device (now (state .entry))) r ⌝ }
+{
+    if !plan::is_held(plan) {
+        return 1;
+    }
+    if !state::is_sound(plan, state) {
+        return 2;
+    }
+    let core = plan.core;
+    if core.devices <= device {
+        return 4;
+    }
+    0
+}
+
+// A request (kind 0) or an acknowledge (kind 1): the bit and the timer change, and the code is
+// queued at every port.
+fn call(plan: Plan, kind: u8, state: &mut [u32], device: usize, k: u32) -> u32
+    requires { ⌜ kind < 2 ⌝ }
+    ensures { λ r. ⌜ Outcome (callAsks plan kind device k (now (state .entry))) (now (state .entry)) (called plan kind device k (now (state .entry))) r (now (state .exit)) ⌝ }
+{
+    let number = call_refusal(plan, kind, state, device, k);
+    if number != 0 {
+        return number;
+    }
+    mark(plan, kind, state, device, k);
+    let core = plan.core;
+    port::queue_all(state, &core.permissions, device, 256, kind, k);
+    0
+}
+
+// The bit is set and the timer loaded, or the bit is cleared and the timer stopped.
+fn mark(plan: Plan, kind: u8, state: &mut [u32], d: usize, k: u32)
+    requires { ⌜ (length (now state) ≡ 2080) × (d < 32) × (k < 32) × (role plan d < 2) ⌝ }
+    ensures { λ _. ⌜ now (state .exit) ≡ Calls·mark plan kind d k (now (state .entry)) ⌝ }
+{
+    let core = plan.core;
+    let load = timer_load(kind, core.loads[core.role[d] as usize]);
+    let at = 33 * d;
+    state[at] = device::marked(kind, state[at], k as u8);
+    state[at + 1 + k as usize] = load;
+}
+
+// What a request or an acknowledge is refused with, or 0.
+fn call_refusal(plan: Plan, kind: u8, state: &[u32], device: usize, k: u32) -> u32
+    ensures { λ r. ⌜ Ordered (callAsks plan kind device k (now (state .entry))) r ⌝ }
+{
+    let number = refusal(plan, state, device);
+    if number != 0 {
+        return number;
+    }
+    if 31 < k {
+        return 5;
+    }
+    let core = plan.core;
+    if bits::get(owned(kind, core.source[device], core.handler[device]), k) != 1 {
+        return 6;
+    }
+    if !any_runs(state, device) {
+        return 7;
+    }
+    if !any_sends(state, &core.permissions, device, kind) {
+        return 8;
+    }
+    if bits::get(state::word(state, 33 * device), k) != kind as u32 {
+        return 9;
+    }
+    0
+}
+
+// The mask that a kind goes by: sources request, handlers acknowledge.
+fn owned(kind: u8, source: u32, handler: u32) -> u32
+    ensures { λ r. ⌜ r ≡ cond (eqb kind 0) source handler ⌝ }
+{
+    if kind == 0 {
+        return source;
+    }
+    handler
+}
+
+// What the timer is set to: a request loads it, an acknowledge stops it.
+fn timer_load(kind: u8, load: u16) -> u32
+    ensures { λ r. ⌜ r ≡ cond (eqb kind 0) load 0 ⌝ }
+{
+    if kind == 0 {
+        return load as u32;
+    }
+    0
+}
+
+// Does some port of device d run? The words of a port that the device lacks are 0.
+fn any_runs(state: &[u32], d: usize) -> bool
+    requires { ⌜ d < 32 ⌝ }
+    ensures { λ r. ⌜ Decides ((p : ℕ) × (p < 8) × (running (now (state .entry)) (8 * d + p) ≡ 1)) r ⌝ }
+{
+    for p in 0..8 {
+        if state::word(state, 1056 + 4 * (8 * d + p) + 3) == 1 {
+            return true;
+        }
+    }
+    false
+}
+
+// Does some port of device d run that may send the kind?
+fn any_sends(state: &[u32], permissions: &[u8; 256], d: usize, kind: u8) -> bool
+    requires { ⌜ d < 32 ⌝ }
+    ensures { λ r. ⌜ Decides ((p : ℕ) × (p < 8) × (sendsAt (getD (now (permissions .entry)) (8 * d + p) 0) kind (8 * d + p) (now (state .entry)) ≡ true)) r ⌝ }
+{
+    for p in 0..8 {
+        let q = 8 * d + p;
+        if sends(state, q, kind, permissions[q]) {
+            return true;
+        }
+    }
+    false
+}
+
+// Does port q run, which has these permissions, and may it send the kind?
+fn sends(state: &[u32], q: usize, kind: u8, permissions: u8) -> bool
+    requires { ⌜ q < 256 ⌝ }
+    ensures { λ r. ⌜ r ≡ sendsAt permissions kind q (now (state .entry)) ⌝ }
+{
+    if state::word(state, 1056 + 4 * q + 3) != 1 {
+        return false;
+    }
+    device::may_send(kind, permissions as u32)
+}
+
+// What stopping a link (flag 1) or starting one (flag 0) is refused with, or 0: the flag is what the
+// link has to be before.
+fn link_refusal(plan: Plan, flag: u32, state: &[u32], device: usize, port: usize) -> u32
+    ensures { λ r. ⌜ Ordered (linkAsks plan flag device port (now (state .entry))) r ⌝ }
+{
+    let number = refusal(plan, state, device);
+    if number != 0 {
+        return number;
+    }
+    let core = plan.core;
+    if core.ports[device] as usize <= port {
+        return 4;
+    }
+    let q = 8 * device + port;
+    if 255 < far_end(plan, q) {
+        return 7;
+    }
+    if state::word(state, 1056 + 4 * q + 3) != flag {
+        return 10;
+    }
+    0
+}
+
+// The port at the other end of port q, or 256.
+fn far_end(plan: Plan, q: usize) -> u16
+    requires { ⌜ q < 256 ⌝ }
+    ensures { λ r. ⌜ r ≡ peer plan q ⌝ }
+{
+    let peers = plan::peers_of(plan);
+    peers[q / 8][q % 8]
+}
+
+// The link at port q stops, at both ends. A node at an end forgets all.
+fn unlink(plan: Plan, state: &mut [u32], q: usize)
+    requires { ⌜ (length (now state) ≡ 2080) × (q < 256) × (peer plan q < 256) ⌝ }
+    ensures { λ _. ⌜ now (state .exit) ≡ unlinked plan q (now (state .entry)) ⌝ }
+{
+    let far = far_end(plan, q) as usize;
+    halt(state, q);
+    halt(state, far);
+    let core = plan.core;
+    forget(state, q / 8, core.role[q / 8]);
+    forget(state, far / 8, core.role[far / 8]);
+}
+
+// The link at port q starts, at both ends.
+fn link(plan: Plan, state: &mut [u32], q: usize)
+    requires { ⌜ (length (now state) ≡ 2080) × (q < 256) × (peer plan q < 256) ⌝ }
+    ensures { λ _. ⌜ now (state .exit) ≡ linked plan q (now (state .entry)) ⌝ }
+{
+    let far = far_end(plan, q) as usize;
+    state[1056 + 4 * q + 3] = 1;
+    state[1056 + 4 * far + 3] = 1;
+}
+
+// Port q is cleared and stopped; where its search starts stays.
+fn halt(state: &mut [u32], q: usize)
+    requires { ⌜ (length (now state) ≡ 2080) × (q < 256) ⌝ }
+    ensures { λ _. ⌜ ((plan : Plan) → now (state .exit) ≡ halted plan q (now (state .entry))) ⌝ }
+{
+    let at = 1056 + 4 * q;
+    state[at] = 0;
+    state[at + 1] = 0;
+    state[at + 3] = 0;
+}
+
+// Device d, if it is a node, forgets all; a router keeps what it has.
+fn forget(state: &mut [u32], d: usize, role: u8)
+    requires { ⌜ (length (now state) ≡ 2080) × (d < 32) ⌝ }
+    ensures { λ _. ⌜ ((plan : Plan) → now (state .exit) ≡ cond (eqb role 1) (now (state .entry)) (cleared plan d (now (state .entry)))) ⌝ }
+{
+    if role == 1 {
+        return;
+    }
+    clear(state, d);
+}
+
+// The register and the timers of device d become 0.
+fn clear(state: &mut [u32], d: usize)
+    requires { ⌜ (length (now state) ≡ 2080) × (d < 32) ⌝ }
+    ensures { λ _. ⌜ ((plan : Plan) → now (state .exit) ≡ cleared plan d (now (state .entry))) ⌝ }
+{
+    for i in 0..33 {
+        state[33 * d + i] = 0;
+    }
+}
+
+// What waits at the ports of device d, and where each search starts, become 0.
+fn empty(state: &mut [u32], d: usize)
+    requires { ⌜ (length (now state) ≡ 2080) × (d < 32) ⌝ }
+    ensures { λ _. ⌜ ((plan : Plan) → now (state .exit) ≡ emptied plan d (now (state .entry))) ⌝ }
+{
+    for p in 0..8 {
+        let at = 1056 + 4 * (8 * d + p);
+        state[at] = 0;
+        state[at + 1] = 0;
+        state[at + 2] = 0;
+    }
+}

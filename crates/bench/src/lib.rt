@@ -1,0 +1,23 @@
+// The bench: a network's state as 2,080 words, what hosts and links may do between rounds, and one
+// round. Areas are the caller's; a refusal changes none of them.
+mod calls;
+mod port;
+mod rounds;
+mod settling;
+mod state;
+
+pub use calls::acknowledge;
+pub use calls::link_start;
+pub use calls::link_stop;
+pub use calls::request;
+pub use calls::reset;
+pub use rounds::round;
+pub use settling::settle;
+pub use state::is_sound;
+pub use state::start;
+
+// What a call answers: 0 for done or a refusal's number, and the value beside it.
+pub struct Answer {
+    pub number: u32,
+    pub value: u32,
+}

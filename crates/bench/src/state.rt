@@ -1,0 +1,239 @@
+// The state of a network: whether it is sound, and the one that every run starts from.
+ghost use mathlib.Core.Path.{_≡_};
+ghost use Prim.Native.Nat.{_<_};
+ghost use lib.ListN.{length};
+ghost use Rattle.answers.specs.Decides.{Decides};
+ghost use Rattle.answers.specs.Ordered.{Outcome};
+ghost use Rattle.areas.specs.Table.{table};
+ghost use Rattle.bench.specs.Calls.{started, startAsks};
+ghost use Rattle.bench.specs.Sound.{Sound};
+ghost use Rattle.bench.specs.State.{word as State·word};
+ghost use Rattle.bench.specs.Steps.{timerSound, deviceTimed, allTimed, restZero, flagSound, mayWait, waitingSound, portKept, portZero, portSound, portsSound, firstWord};
+use plan::Plan;
+
+// Is the state, of any length, sound for the plan?
+pub fn is_sound(plan: Plan, state: &[u32]) -> bool
+    ensures { λ r. ⌜ Decides (Sound plan (now (state .entry))) r ⌝ }
+{
+    if state.len() != 2080 {
+        return false;
+    }
+    let core = plan.core;
+    if !all_timed(core.devices, state) {
+        return false;
+    }
+    if !rest_zero(core.devices, state) {
+        return false;
+    }
+    let ports = core.ports;
+    let peers = plan::peers_of(plan);
+    ports_sound(&ports, &core.permissions, &peers, state)
+}
+
+// Word i; past the end it is 0.
+pub(crate) fn word(state: &[u32], i: usize) -> u32
+    ensures { λ r. ⌜ r ≡ State·word (now (state .entry)) i ⌝ }
+{
+    if i < state.len() {
+        return state[i];
+    }
+    0
+}
+
+// Are the timers of n devices sound? A state has room for 32.
+fn all_timed(n: usize, state: &[u32]) -> bool
+    ensures { λ r. ⌜ r ≡ allTimed n (now (state .entry)) ⌝ }
+{
+    for d in 0..32 {
+        if n <= d {
+            return true;
+        }
+        if !device_timed(state, d) {
+            return false;
+        }
+    }
+    true
+}
+
+// Are the timers of device d sound?
+fn device_timed(state: &[u32], d: usize) -> bool
+    requires { ⌜ d < 32 ⌝ }
+    ensures { λ r. ⌜ r ≡ deviceTimed (now (state .entry)) d ⌝ }
+{
+    let register = word(state, 33 * d);
+    for k in 0..32 {
+        if !timer_sound(bits::get(register, k as u32), word(state, 33 * d + 1 + k)) {
+            return false;
+        }
+    }
+    true
+}
+
+// Is the timer 1 to 65,535 where its bit is 1, else 0?
+fn timer_sound(on: u32, timer: u32) -> bool
+    ensures { λ r. ⌜ r ≡ timerSound on timer ⌝ }
+{
+    if on == 1 {
+        if timer < 1 {
+            return false;
+        }
+        return timer <= 65535;
+    }
+    timer == 0
+}
+
+// Are the words behind those of n devices 0, up to the ports?
+fn rest_zero(n: usize, state: &[u32]) -> bool
+    ensures { λ r. ⌜ r ≡ restZero n (now (state .entry)) ⌝ }
+{
+    if 32 <= n {
+        return true;
+    }
+    for i in 33 * n..1056 {
+        if word(state, i) != 0 {
+            return false;
+        }
+    }
+    true
+}
+
+// Are the words of every port sound, and 0 where there is none?
+fn ports_sound(
+    ports: &[u8; 32],
+    permissions: &[u8; 256],
+    peers: &[[u16; 8]; 32],
+    state: &[u32],
+) -> bool
+    ensures { λ r. ⌜ r ≡ portsSound (now (ports .entry)) (now (permissions .entry)) (now (peers .entry)) (now (state .entry)) ⌝ }
+{
+    for q in 0..256 {
+        if !port_sound(state, q, ports[q / 8], peers[q / 8][q % 8], permissions[q]) {
+            return false;
+        }
+    }
+    true
+}
+
+// Is port q sound, where its device has so many, and else 0?
+fn port_sound(state: &[u32], q: usize, ports: u8, peer: u16, permissions: u8) -> bool
+    requires { ⌜ q < 256 ⌝ }
+    ensures { λ r. ⌜ r ≡ portSound (now (state .entry)) q ports peer permissions ⌝ }
+{
+    if q % 8 < ports as usize {
+        return port_kept(state, q, peer, permissions);
+    }
+    port_zero(state, q)
+}
+
+fn port_zero(state: &[u32], q: usize) -> bool
+    requires { ⌜ q < 256 ⌝ }
+    ensures { λ r. ⌜ r ≡ portZero (now (state .entry)) q ⌝ }
+{
+    for i in 0..4 {
+        if word(state, 1056 + 4 * q + i) != 0 {
+            return false;
+        }
+    }
+    true
+}
+
+// Is port q sound, whose peer and permissions these are?
+fn port_kept(state: &[u32], q: usize, peer: u16, permissions: u8) -> bool
+    requires { ⌜ q < 256 ⌝ }
+    ensures { λ r. ⌜ r ≡ portKept (now (state .entry)) q peer permissions ⌝ }
+{
+    let at = 1056 + 4 * q;
+    if 31 < word(state, at + 2) {
+        return false;
+    }
+    let running = word(state, at + 3);
+    if !flag_sound(state, running, peer) {
+        return false;
+    }
+    waiting_sound(word(state, at), word(state, at + 1), running, permissions)
+}
+
+// Is the running flag 0 or 1, as at the other end, and 0 where there is none?
+fn flag_sound(state: &[u32], running: u32, peer: u16) -> bool
+    ensures { λ r. ⌜ r ≡ flagSound (now (state .entry)) running peer ⌝ }
+{
+    if 1 < running {
+        return false;
+    }
+    if peer == 256 {
+        return running == 0;
+    }
+    if 256 < peer {
+        return true;
+    }
+    running == word(state, 1056 + 4 * peer as usize + 3)
+}
+
+// Have the waiting sets no common bit, and may what is in them wait?
+fn waiting_sound(interrupts: u32, acknowledges: u32, running: u32, permissions: u8) -> bool
+    ensures { λ r. ⌜ r ≡ waitingSound interrupts acknowledges running permissions ⌝ }
+{
+    if interrupts & acknowledges != 0 {
+        return false;
+    }
+    if !may_wait(0, interrupts, running, permissions) {
+        return false;
+    }
+    may_wait(1, acknowledges, running, permissions)
+}
+
+// Codes of a kind wait only where the port runs and may send them.
+fn may_wait(kind: u8, codes: u32, running: u32, permissions: u8) -> bool
+    ensures { λ r. ⌜ r ≡ mayWait kind codes running permissions ⌝ }
+{
+    if codes == 0 {
+        return true;
+    }
+    if running == 0 {
+        return false;
+    }
+    device::may_send(kind, permissions as u32)
+}
+
+// The start state: every connected port runs, and all else is 0. Refused by 1, then by 3.
+pub fn start(plan: Plan, state: &mut [u32]) -> u32
+    ensures { λ r. ⌜ Outcome (startAsks plan (now (state .entry))) (now (state .entry)) (started plan) r (now (state .exit)) ⌝ }
+{
+    if !plan::is_held(plan) {
+        return 1;
+    }
+    if state.len() != 2080 {
+        return 3;
+    }
+    let peers = plan::peers_of(plan);
+    write_first(&peers, state);
+    0
+}
+
+// Writes the start state of a plan with these peers.
+fn write_first(peers: &[[u16; 8]; 32], state: &mut [u32])
+    requires { ⌜ length (now state) ≡ 2080 ⌝ }
+    ensures { λ r. ⌜ now (state .exit) ≡ table 2080 (firstWord (now (peers .entry))) ⌝ }
+{
+    for i in 0..2080 {
+        state[i] = first_word(peers, i);
+    }
+}
+
+// Word i of the start state: 1 for the flag of a connected port.
+fn first_word(peers: &[[u16; 8]; 32], i: usize) -> u32
+    requires { ⌜ i < 2080 ⌝ }
+    ensures { λ r. ⌜ r ≡ firstWord (now (peers .entry)) i ⌝ }
+{
+    if i < 1056 {
+        return 0;
+    }
+    if i % 4 != 3 {
+        return 0;
+    }
+    let q = (i - 1056) / 4;
+    if peers[q / 8][q % 8] == 256 {
+        return 0;
+    }
+    1
+}
