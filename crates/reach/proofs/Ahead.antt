@@ -1,0 +1,35 @@
+-- The device ahead of a port is the one that the port leads to, by the rules.
+use mathlib.Core.Path.{_≡_, refl, sym}
+use mathlib.Core.Bool.{Bool, true, false, cond}
+use Prim.Native.Nat.{ℕ, _/_, _<_}
+use native.Mathlib.Omega.{arith}
+use borrow.Author.Tests.{eq-eqb, lt-ltb}
+use Rattle.areas.proofs.Facts.{facts}
+use Rattle.plan.specs.Fields.{nobody}
+use Rattle.plan.specs.declared.Plan.{Plan}
+use Rattle.bench.specs.State.{State, running}
+use Rattle.bench.specs.Network.{peer}
+use Rattle.reach.specs.Walk.{Leads}
+use Rattle.reach.specs.Visits.{leads, ahead}
+
+module _ (plan : Plan) (s : State) (q : ℕ) where
+  abbrev next : ℕ
+  next = ahead (plan .core .permissions) (plan .peers) s q
+
+  abbrev tests : ℕ → Bool
+  tests = leads (plan .core .permissions) (plan .peers) s
+
+  pub leads-ahead : (e : ℕ) → Leads plan s 0 q e → (next ≡ e) × (e < 32)
+  unfolding ahead
+  leads-ahead e l =
+      (simp (eq-eqb (running s q) 1 (l .runs), l .sends, lt-ltb (peer plan q) nobody (l .joined), l .receives) (sym (l .there)), omega (arith, l .there, l .joined))
+
+  pub ahead-leads : next < 32 → Leads plan s 0 q next
+  unfolding ahead
+  ahead-leads = by-test (tests q) refl
+    where
+      by-test : (b : Bool) → tests q ≡ b → cond b (peer plan q / 8) 32 < 32 → Leads plan s 0 q (cond b (peer plan q / 8) 32)
+      by-test false e h = absurd (omega arith)
+      by-test true e h =
+          let f = simp facts at e in
+          record { runs = f .0 .0 .0; sends = f .0 .0 .1; joined = f .0 .1; receives = f .1; there = refl }

@@ -1,0 +1,5 @@
+pub mod Ahead
+pub mod Steps
+pub mod Depths
+pub mod Found
+pub mod Unique

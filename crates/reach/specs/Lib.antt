@@ -1,0 +1,4 @@
+pub mod Walk
+pub mod Reach
+pub mod Visits
+pub mod Steps

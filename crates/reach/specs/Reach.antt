@@ -1,0 +1,28 @@
+-- RULES, "Reach": what the call answers.
+use mathlib.Core.Path.{_≡_}
+use mathlib.Core.List.{List, [], _∷_}
+use Prim.Native.Nat.{ℕ, _^_, _<_}
+use Rattle.answers.specs.Ordered.{Condition, ask, Ordered}
+use Rattle.bits.specs.Set.{bit, size}
+use Rattle.plan.specs.Reading.{Held}
+use Rattle.plan.specs.declared.Plan.{Plan}
+use Rattle.bench.specs.State.{State}
+use Rattle.bench.specs.Network.{devices, source}
+use Rattle.bench.specs.Sound.{Sound}
+use Rattle.reach.specs.Walk.{Walk}
+
+-- the devices that interrupt codes reach from device d, as a set
+pub record Reached (plan : Plan) (s : State) (d set : ℕ) : Type 0 where
+  pub small : set < 2 ^ 32
+  pub only : (e : ℕ) → e < 32 → bit set e ≡ 1 → (n : ℕ) × Walk plan s 0 d n e
+  pub all : (n e : ℕ) → Walk plan s 0 d n e → (e < 32) × (bit set e ≡ 1)
+
+abbrev pub reachAsks : Plan → State → ℕ → ℕ → List Condition
+reachAsks plan s d k =
+    ask 1 (Held plan) ∷ ask 2 (Sound plan s) ∷ ask 4 (d < devices plan) ∷ ask 5 (k < 32) ∷ ask 6 (bit (source plan d) k ≡ 1) ∷ []
+
+-- done, the value is how many devices there are in the set of those reached; refused, both are 0
+pub record Reaches (plan : Plan) (s : State) (d k number value set : ℕ) : Type 0 where
+  pub answers : Ordered (reachAsks plan s d k) number
+  pub made : number ≡ 0 → Reached plan s d set × (value ≡ size set)
+  pub kept : (number ≡ 0 → ⊥) → (set ≡ 0) × (value ≡ 0)

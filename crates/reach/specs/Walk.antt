@@ -1,0 +1,24 @@
+-- RULES, "Reach": over which links a code goes, and how many crossings away a device is.
+use mathlib.Core.Path.{_≡_}
+use mathlib.Core.Bool.{true}
+use mathlib.Core.Logic.{_⊎_}
+use Prim.Native.Nat.{ℕ, suc, _+_, _*_, _/_, _<_}
+use Rattle.device.specs.Permissions.{maySend, mayReceive}
+use Rattle.plan.specs.Fields.{nobody}
+use Rattle.plan.specs.declared.Plan.{Plan}
+use Rattle.bench.specs.State.{State, running}
+use Rattle.bench.specs.Network.{router, peer, permissions}
+
+module _ (plan : Plan) (s : State) (kind : ℕ) where
+  -- port q leads to device e: it runs, it may send codes of the kind, and the port at its other end, a port of e, may receive them
+  pub record Leads (q e : ℕ) : Type 0 where
+    pub runs : running s q ≡ 1
+    pub sends : maySend kind (permissions plan q) ≡ true
+    pub joined : peer plan q < nobody
+    pub receives : mayReceive kind (permissions plan (peer plan q)) ≡ true
+    pub there : e ≡ peer plan q / 8
+
+  -- device e is n crossings away from a device, on a way that passes only through routers
+  pub data Walk (from : ℕ) : ℕ → ℕ → Type 0 where
+    stay : Walk from 0 from
+    cross : {n d e : ℕ} → Walk from n d → (n ≡ 0) ⊎ (router plan d ≡ true) → (p : ℕ) → p < 8 → Leads (8 * d + p) e → Walk from (suc n) e

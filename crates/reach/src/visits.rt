@@ -1,0 +1,95 @@
+// The walk by visits. A visit takes the set of the devices found so far and gives it with those
+// that it finds. The plan's arrays and the state are lent, so that no visit copies them.
+ghost use mathlib.Core.Path.{_≡_};
+ghost use Prim.Native.Nat.{_+_, _-_, _≤_, _<_};
+ghost use lib.ListN.{length};
+ghost use Rattle.device.specs.Permissions.{maySend, mayReceive};
+ghost use Rattle.reach.specs.Steps.{left, Finds};
+ghost use Rattle.reach.specs.Visits.{ahead as Visits·ahead, deviceVisit, portVisit};
+
+// An element of a lent array is known to fit its type only once it is an argument, so these three
+// take one: a peer's number, and what a port with some permissions may do.
+fn wide(x: u16) -> usize
+    ensures { λ r. ⌜ r ≡ x ⌝ }
+{
+    x as usize
+}
+
+fn sends(permissions: u8) -> bool
+    ensures { λ r. ⌜ r ≡ maySend 0 permissions ⌝ }
+{
+    device::may_send(0, permissions as u32)
+}
+
+fn receives(permissions: u8) -> bool
+    ensures { λ r. ⌜ r ≡ mayReceive 0 permissions ⌝ }
+{
+    device::may_receive(0, permissions as u32)
+}
+
+// The device that port q leads to, or 32.
+fn ahead(permissions: &[u8; 256], peers: &[[u16; 8]; 32], state: &[u32], q: usize) -> usize
+    requires { ⌜ (length (now state) ≡ 2080) × (q < 256) ⌝ }
+    ensures { λ r. ⌜ r ≡ Visits·ahead (now (permissions .entry)) (now (peers .entry)) (now (state .entry)) q ⌝ }
+{
+    if state[1056 + 4 * q + 3] != 1 {
+        return 32;
+    }
+    if !sends(permissions[q]) {
+        return 32;
+    }
+    let far = wide(peers[q / 8][q % 8]);
+    if 256 <= far {
+        return 32;
+    }
+    if !receives(permissions[far]) {
+        return 32;
+    }
+    far / 8
+}
+
+// Device d joins the set, if it exists and was not met before, and a router passes on.
+fn device(
+    role: &[u8; 32],
+    permissions: &[u8; 256],
+    peers: &[[u16; 8]; 32],
+    state: &[u32],
+    d: usize,
+    set: u32,
+) -> u32
+    requires { ⌜ length (now state) ≡ 2080 ⌝ }
+    ensures { λ r. ⌜ Finds (λ depth. deviceVisit (now (role .entry)) (now (permissions .entry)) (now (peers .entry)) (now (state .entry)) depth d set) (left set) r ⌝ }
+{
+    if 31 < d {
+        return set;
+    }
+    if bits::get(set, d as u32) == 1 {
+        return set;
+    }
+    let joined = bits::join(set, d as u32);
+    if role[d] != 1 {
+        return joined;
+    }
+    port(role, permissions, peers, state, d, 0, joined)
+}
+
+// The ports of device d from port p on: what each leads to is visited.
+pub(crate) fn port(
+    role: &[u8; 32],
+    permissions: &[u8; 256],
+    peers: &[[u16; 8]; 32],
+    state: &[u32],
+    d: usize,
+    p: usize,
+    set: u32,
+) -> u32
+    requires { ⌜ (length (now state) ≡ 2080) × (d < 32) × (p ≤ 8) ⌝ }
+    ensures { λ r. ⌜ Finds (λ depth. portVisit (now (role .entry)) (now (permissions .entry)) (now (peers .entry)) (now (state .entry)) depth d p set) (left set + (9 - p)) r ⌝ }
+{
+    if p == 8 {
+        return set;
+    }
+    let next = ahead(permissions, peers, state, 8 * d + p);
+    let more = device(role, permissions, peers, state, next, set);
+    port(role, permissions, peers, state, d, p + 1, more)
+}
