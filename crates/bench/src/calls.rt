@@ -11,6 +11,10 @@ ghost use Rattle.bench.specs.Calls.{mark as Calls·mark, called, callAsk
 ghost use Rattle.bench.specs.Network.{role, peer};
 ghost use Rattle.bench.specs.Queue.{sendsAt};
 ghost use Rattle.bench.specs.State.{running};
+use crate::DEVICE;
+use crate::PORT;
+use crate::PORTS;
+use crate::RUNNING;
 use crate::port;
 use crate::state;
 use plan::Plan;
@@ -106,7 +110,7 @@ fn mark(plan: Plan, kind: u8, state: &mut [u32], d: usize, k: u32)
 {
     let core = plan.core;
     let load = timer_load(kind, core.loads[core.role[d] as usize]);
-    let at = 33 * d;
+    let at = DEVICE * d;
     state[at] = device::marked(kind, state[at], k as u8);
     state[at + 1 + k as usize] = load;
 }
@@ -132,7 +136,7 @@ fn call_refusal(plan: Plan, kind: u8, state: &[u32], device: usize, k: u32) -> u
     if !any_sends(state, &core.permissions, device, kind) {
         return 8;
     }
-    if bits::get(state::word(state, 33 * device), k) != kind as u32 {
+    if bits::get(state::word(state, DEVICE * device), k) != kind as u32 {
         return 9;
     }
     0
@@ -164,7 +168,7 @@ fn any_runs(state: &[u32], d: usize) -> bool
     ensures { λ r. ⌜ Decides ((p : ℕ) × (p < 8) × (running (now (state .entry)) (8 * d + p) ≡ 1)) r ⌝ }
 {
     for p in 0..8 {
-        if state::word(state, 1056 + 4 * (8 * d + p) + 3) == 1 {
+        if state::word(state, PORTS + PORT * (8 * d + p) + RUNNING) == 1 {
             return true;
         }
     }
@@ -190,7 +194,7 @@ fn sends(state: &[u32], q: usize, kind: u8, permissions: u8) -> bool
     requires { ⌜ q < 256 ⌝ }
     ensures { λ r. ⌜ r ≡ sendsAt permissions kind q (now (state .entry)) ⌝ }
 {
-    if state::word(state, 1056 + 4 * q + 3) != 1 {
+    if state::word(state, PORTS + PORT * q + RUNNING) != 1 {
         return false;
     }
     device::may_send(kind, permissions as u32)
@@ -213,7 +217,7 @@ fn link_refusal(plan: Plan, flag: u32, state: &[u32], device: usize, port: usize
     if 255 < far_end(plan, q) {
         return 7;
     }
-    if state::word(state, 1056 + 4 * q + 3) != flag {
+    if state::word(state, PORTS + PORT * q + RUNNING) != flag {
         return 10;
     }
     0
@@ -247,8 +251,8 @@ fn link(plan: Plan, state: &mut [u32], q: usize)
     ensures { λ _. ⌜ now (state .exit) ≡ linked plan q (now (state .entry)) ⌝ }
 {
     let far = far_end(plan, q) as usize;
-    state[1056 + 4 * q + 3] = 1;
-    state[1056 + 4 * far + 3] = 1;
+    state[PORTS + PORT * q + RUNNING] = 1;
+    state[PORTS + PORT * far + RUNNING] = 1;
 }
 
 // Port q is cleared and stopped; where its search starts stays.
@@ -256,7 +260,7 @@ fn halt(state: &mut [u32], q: usize)
     requires { ⌜ (length (now state) ≡ 2080) × (q < 256) ⌝ }
     ensures { λ _. ⌜ ((plan : Plan) → now (state .exit) ≡ halted plan q (now (state .entry))) ⌝ }
 {
-    let at = 1056 + 4 * q;
+    let at = PORTS + PORT * q;
     state[at] = 0;
     state[at + 1] = 0;
     state[at + 3] = 0;
@@ -279,7 +283,7 @@ fn clear(state: &mut [u32], d: usize)
     ensures { λ _. ⌜ ((plan : Plan) → now (state .exit) ≡ cleared plan d (now (state .entry))) ⌝ }
 {
     for i in 0..33 {
-        state[33 * d + i] = 0;
+        state[DEVICE * d + i] = 0;
     }
 }
 
@@ -289,7 +293,7 @@ fn empty(state: &mut [u32], d: usize)
     ensures { λ _. ⌜ ((plan : Plan) → now (state .exit) ≡ emptied plan d (now (state .entry))) ⌝ }
 {
     for p in 0..8 {
-        let at = 1056 + 4 * (8 * d + p);
+        let at = PORTS + PORT * (8 * d + p);
         state[at] = 0;
         state[at + 1] = 0;
         state[at + 2] = 0;

@@ -21,3 +21,14 @@ pub struct Answer {
     pub number: u32,
     pub value: u32,
 }
+
+// A device has its register and its 32 timers, from 33 x d on.
+pub(crate) const DEVICE: usize = 33;
+
+// Behind all devices are the ports, with four words each: the waiting interrupts, the waiting
+// acknowledges, next, and whether it runs.
+pub(crate) const PORTS: usize = 1056;
+
+pub(crate) const PORT: usize = 4;
+
+pub(crate) const RUNNING: usize = 3;

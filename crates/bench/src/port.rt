@@ -3,6 +3,8 @@ ghost use mathlib.Core.Path.{_≡_};
 ghost use Prim.Native.Nat.{_<_};
 ghost use lib.ListN.{length};
 ghost use Rattle.bench.specs.Queue.{queuedPort, queueAt, queueAllAt};
+use crate::PORT;
+use crate::PORTS;
 
 // What waits at a port, where its search starts, and whether it runs.
 pub struct Port {
@@ -60,7 +62,7 @@ pub(crate) fn queue(state: &mut [u32], q: usize, kind: u8, k: u32, permissions: 
     if !device::may_send(kind, permissions as u32) {
         return;
     }
-    let at = 1056 + 4 * q;
+    let at = PORTS + PORT * q;
     let port = Port {
         interrupts: state[at],
         acknowledges: state[at + 1],

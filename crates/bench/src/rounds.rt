@@ -12,6 +12,10 @@ ghost use Rattle.bench.specs.Round.{tick, chosen, sends, unqueued, timed
 ghost use Rattle.bench.specs.Playing.{Plays};
 ghost use Rattle.bench.specs.Telling.{Notes, areas, seen, Follows, Played};
 use crate::Answer;
+use crate::DEVICE;
+use crate::PORT;
+use crate::PORTS;
+use crate::RUNNING;
 use crate::port;
 use crate::state;
 use bits::Found;
@@ -46,7 +50,7 @@ fn tick_one(
     requires { ⌜ (length (now state) ≡ 2080) × (d < 32) × (k < 32) × (count < 4096) ⌝ }
     ensures { λ r. ⌜ Follows (tick router d k) (seen (now (state .entry)) (now (told .entry)) count) (seen (now (state .exit)) (now (told .exit)) r) × (r ≤ count + 1) ⌝ }
 {
-    let at = 33 * d + 1 + k as usize;
+    let at = DEVICE * d + 1 + k as usize;
     let left = state[at];
     if left == 0 {
         return count;
@@ -55,7 +59,7 @@ fn tick_one(
         state[at] = left - 1;
         return count;
     }
-    let home = 33 * d;
+    let home = DEVICE * d;
     state[home] = bits::leave(state[home], k);
     state[at] = 0;
     if router {
@@ -84,7 +88,7 @@ fn choice(q: usize, old: &[u32]) -> Found
     requires { ⌜ (length (now old) ≡ 2080) × (q < 256) ⌝ }
     ensures { λ r. ⌜ r ≡ chosen (now (old .entry)) q ⌝ }
 {
-    let at = 1056 + 4 * q;
+    let at = PORTS + PORT * q;
     bits::first(old[at] | old[at + 1], old[at + 2])
 }
 
@@ -93,7 +97,7 @@ fn post_one(q: usize, old: &[u32], next: &mut [u32]) -> u32
     requires { ⌜ (length (now old) ≡ 2080) × (length (now next) ≡ 2080) × (q < 256) ⌝ }
     ensures { λ r. ⌜ (r ≡ sends (now (old .entry)) q) × (now (next .exit) ≡ unqueued (now (old .entry)) q (now (next .entry))) ⌝ }
 {
-    let at = 1056 + 4 * q;
+    let at = PORTS + PORT * q;
     let found = choice(q, old);
     let Found::At(k) = found else {
         return 256;
@@ -126,8 +130,8 @@ fn time(code: Code, load: u32, d: usize, state: &mut [u32])
     ensures { λ _. ⌜ now (state .exit) ≡ timed (λ _. load) d code (now (state .entry)) ⌝ }
 {
     match code {
-        Code::Interrupt(k) => state[33 * d + 1 + k as usize] = load,
-        Code::Acknowledge(k) => state[33 * d + 1 + k as usize] = 0,
+        Code::Interrupt(k) => state[DEVICE * d + 1 + k as usize] = load,
+        Code::Acknowledge(k) => state[DEVICE * d + 1 + k as usize] = 0,
         Code::Time(_) => {}
         Code::Reserved => {}
     }
@@ -210,8 +214,8 @@ fn arrive_one(
     requires { ⌜ (length (now state) ≡ 2080) × (q < 256) × (count < 4096) ⌝ }
     ensures { λ r. ⌜ Follows (arrived (λ _. load) (now (permissions .entry)) q router byte) (seen (now (state .entry)) (now (told .entry)) count) (seen (now (state .exit)) (now (told .exit)) r) × (r ≤ count + 1) ⌝ }
 {
-    let home = 33 * (q / 8);
-    let running = state[1056 + 4 * q + 3] == 1;
+    let home = DEVICE * (q / 8);
+    let running = state[PORTS + PORT * q + RUNNING] == 1;
     let own = widened(permissions[q]);
     let reaction = device::react(router, running, own, state[home], byte);
     state[home] = reaction.register;

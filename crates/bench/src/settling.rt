@@ -12,6 +12,8 @@ ghost use Rattle.bench.specs.Round.{round};
 ghost use Rattle.bench.specs.Settling.{Quiet, Settles};
 ghost use Rattle.bench.specs.Telling.{pair};
 use crate::Answer;
+use crate::PORT;
+use crate::PORTS;
 use crate::rounds;
 use crate::state;
 use plan::Core;
@@ -23,10 +25,10 @@ fn quiet(state: &[u32]) -> bool
     ensures { λ r. ⌜ Decides (Quiet (now (state .entry))) r ⌝ }
 {
     for q in 0..256 {
-        if state[1056 + 4 * q] != 0 {
+        if state[PORTS + PORT * q] != 0 {
             return false;
         }
-        if state[1056 + 4 * q + 1] != 0 {
+        if state[PORTS + PORT * q + 1] != 0 {
             return false;
         }
     }

@@ -9,6 +9,10 @@ ghost use Rattle.bench.specs.Calls.{started, startAsks};
 ghost use Rattle.bench.specs.Sound.{Sound};
 ghost use Rattle.bench.specs.State.{word as State·word};
 ghost use Rattle.bench.specs.Steps.{timerSound, deviceTimed, allTimed, restZero, flagSound, mayWait, waitingSound, portKept, portZero, portSound, portsSound, firstWord};
+use crate::DEVICE;
+use crate::PORT;
+use crate::PORTS;
+use crate::RUNNING;
 use plan::Plan;
 
 // Is the state, of any length, sound for the plan?
@@ -60,9 +64,12 @@ fn device_timed(state: &[u32], d: usize) -> bool
     requires { ⌜ d < 32 ⌝ }
     ensures { λ r. ⌜ r ≡ deviceTimed (now (state .entry)) d ⌝ }
 {
-    let register = word(state, 33 * d);
+    let register = word(state, DEVICE * d);
     for k in 0..32 {
-        if !timer_sound(bits::get(register, k as u32), word(state, 33 * d + 1 + k)) {
+        if !timer_sound(
+            bits::get(register, k as u32),
+            word(state, DEVICE * d + 1 + k),
+        ) {
             return false;
         }
     }
@@ -89,7 +96,7 @@ fn rest_zero(n: usize, state: &[u32]) -> bool
     if 32 <= n {
         return true;
     }
-    for i in 33 * n..1056 {
+    for i in DEVICE * n..PORTS {
         if word(state, i) != 0 {
             return false;
         }
@@ -130,7 +137,7 @@ fn port_zero(state: &[u32], q: usize) -> bool
     ensures { λ r. ⌜ r ≡ portZero (now (state .entry)) q ⌝ }
 {
     for i in 0..4 {
-        if word(state, 1056 + 4 * q + i) != 0 {
+        if word(state, PORTS + PORT * q + i) != 0 {
             return false;
         }
     }
@@ -142,7 +149,7 @@ fn port_kept(state: &[u32], q: usize, peer: u16, permissions: u8) -> bool
     requires { ⌜ q < 256 ⌝ }
     ensures { λ r. ⌜ r ≡ portKept (now (state .entry)) q peer permissions ⌝ }
 {
-    let at = 1056 + 4 * q;
+    let at = PORTS + PORT * q;
     if 31 < word(state, at + 2) {
         return false;
     }
@@ -166,7 +173,7 @@ fn flag_sound(state: &[u32], running: u32, peer: u16) -> bool
     if 256 < peer {
         return true;
     }
-    running == word(state, 1056 + 4 * peer as usize + 3)
+    running == word(state, PORTS + PORT * peer as usize + RUNNING)
 }
 
 // Have the waiting sets no common bit, and may what is in them wait?
@@ -225,13 +232,13 @@ fn first_word(peers: &[[u16; 8]; 32], i: usize) -> u32
     requires { ⌜ i < 2080 ⌝ }
     ensures { λ r. ⌜ r ≡ firstWord (now (peers .entry)) i ⌝ }
 {
-    if i < 1056 {
+    if i < PORTS {
         return 0;
     }
     if i % 4 != 3 {
         return 0;
     }
-    let q = (i - 1056) / 4;
+    let q = (i - PORTS) / PORT;
     if peers[q / 8][q % 8] == 256 {
         return 0;
     }
