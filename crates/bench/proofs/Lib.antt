@@ -19,3 +19,4 @@ pub mod Unique
 pub mod Waits
 pub mod Walks
 pub mod Words
+pub mod Zeroed

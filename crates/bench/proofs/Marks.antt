@@ -1,15 +1,14 @@
 -- An identifier's bit and its timer change together: hosts mark, timers fall, devices forget; a sound state stays sound.
-use mathlib.Core.Path.{_≡_, refl, sym, ap, _∙_}
+use mathlib.Core.Path.{_≡_, refl, ap, _∙_}
 use mathlib.Core.Bool.{Bool, true, false, cond}
 use mathlib.Core.List.{List, [], _∷_, _++_}
 use mathlib.Core.Logic.{_≢_}
 use Prim.Native.Nat.{ℕ, zero, suc, _+_, _-_, _*_, _/_, _%_, _^_, _≤_, _<_}
 use native.Mathlib.Decide.{ℕ-discrete}
-use native.Mathlib.Nat.{add-zero, add-assoc}
 use native.Mathlib.Omega.{arith}
 use lib.Dec.{eqb, eqb·suc-zero}
-use Rattle.areas.specs.Loop.{upTo}
-use Rattle.areas.proofs.Loops.{keeps, untouched, own}
+use Rattle.areas.proofs.Facts.{facts}
+use Rattle.areas.proofs.Loops.{keeps}
 use Rattle.bits.specs.Set.{bit, join, leave}
 use Rattle.bits.proofs.Sets.{bit-two, bit-zero, join-lt, leave-same, leave-other, leave-lt}
 use Rattle.device.specs.Reaction.{marked}
@@ -20,10 +19,11 @@ use Rattle.bench.specs.State.{State, word, put, registerAt, timerAt, reg
 use Rattle.bench.specs.Network.{devices, router, loadOf}
 use Rattle.bench.specs.Sound.{Timed, Sound}
 use Rattle.bench.specs.Round.{World, toldWord, tick, ticked}
-use Rattle.bench.specs.Calls.{mark, cleared, forgotten}
+use Rattle.bench.specs.Calls.{mark, within, cleared, forgotten}
 use Rattle.bench.proofs.Words.{word-same, word-other, put-word}
+use Rattle.bench.proofs.Zeroed.{zeroed-zeroes}
 use Rattle.bench.proofs.Plans.{few, load-fits}
-use Rattle.bench.proofs.Steps.{Fits, put-fits, sound-fits, device-step}
+use Rattle.bench.proofs.Steps.{Fits, put-fits, sound-fits, zeroes-fits, device-step}
 
 pub marked-lt : (kind register k : ℕ) → register < 2 ^ 32 → marked kind register k < 2 ^ 32
 unfolding marked
@@ -108,10 +108,6 @@ module _ (plan : Plan) (held : Held plan) {s : State} (x : Sound plan s) (d : �
       let on = old .on (omega arith) in
       rw (put-word s (registerAt d)) at (timer-step k r (suc t) l small (λ j m ne. refl) (omega arith) (λ b. omega arith) (λ b. absurd (off b))))
 
--- the turns of `cleared`
-abbrev clear : ℕ → ℕ → State → State
-clear d i t = put t (33 * d + i) 0
-
 module _ (plan : Plan) (held : Held plan) where
   pub ticked-sound : (w : World) → Sound plan (w .state) → Sound plan (ticked plan w .state)
   unfolding ticked
@@ -122,28 +118,18 @@ module _ (plan : Plan) (held : Held plan) where
   -- ---- a device forgets its register and timers
 
   module _ (d : ℕ) (h : d < devices plan) where
-    pub cleared-sound : (s : State) → Sound plan s → Sound plan (cleared plan d s)
-    unfolding cleared
+    pub cleared-sound : (s : State) → Sound plan s → Sound plan (cleared d s)
     cleared-sound s x =
-        let n = few plan held in
-        let t : State = upTo (clear d) 33 s in
-        let fits : (i : ℕ) (u : State) → i < 33 → Fits u → Fits (clear d i u) = λ i u l f. put-fits f (33 * d + i) 0 (omega arith) (omega arith) in
-        let gone : (i : ℕ) → i < 33 → word t (33 * d + i) ≡ 0 =
-        λ i l. own (clear d) Fits 33 fits (λ u. word u (33 * d + i)) (λ v. 0) i l
-        (λ j u m ne f. word-other u (33 * d + j) 0 (33 * d + i) (omega arith))
-        (λ u f. word-same u (33 * d + i) 0 (omega (arith, f .size)))
-        s (sound-fits x) in
-        let none : register t d ≡ 0 = ap (word t) (sym (add-zero (33 * d))) ∙ gone 0 (omega arith) in
-        device-step plan held x (keeps (clear d) Fits 33 fits s (sound-fits x)) d h
-        (λ i o. untouched (clear d) (λ u. word u i) 33 (λ j u l. word-other u (33 * d + j) 0 i (λ e. o (omega arith) (omega arith))) s)
+        let z = zeroed-zeroes (within (registerAt d) 33) s in
+        device-step plan held x (zeroes-fits z (sound-fits x)) d h (λ i o. z .left i (simp facts (λ p. o (p .0) (p .1))))
         (λ k l.
-        let off : timer t d k ≡ 0 = ap (word t) (add-assoc (33 * d) 1 k) ∙ gone (1 + k) (omega arith) in
-        record { on = λ b. absurd (omega (arith, bit-zero k, ap (λ r. bit r k) none)); off = λ b. off })
+        let none = z .gone (registerAt d) (simp facts (omega arith)) in
+        record { on = λ b. absurd (omega (arith, bit-zero k, ap (λ r. bit r k) none)); off = λ b. z .gone (timerAt d k) (simp facts (omega arith)) })
 
     -- if it is a node
     pub forgotten-sound : (s : State) → Sound plan s → Sound plan (forgotten plan d s)
     forgotten-sound s x = by-role (router plan d)
       where
-        by-role : (t : Bool) → Sound plan (cond t s (cleared plan d s))
+        by-role : (t : Bool) → Sound plan (cond t s (cleared d s))
         by-role true = x
         by-role false = cleared-sound s x

@@ -2,11 +2,11 @@
 use mathlib.Core.Path.{_≡_, refl, sym, ap, _∙_}
 use mathlib.Core.Bool.{Bool, true, false, cond, not, _&&_}
 use mathlib.Core.Logic.{dite}
-use Prim.Native.Nat.{ℕ, _+_, _-_, _*_, _/_, _%_, _^_, _≤_, _<_}
+use Prim.Native.Nat.{ℕ, _+_, _-_, _*_, _/_, _%_, _^_, _<_}
 use native.Mathlib.Decide.{decLt, ℕ-discrete}
 use native.Mathlib.Omega.{arith}
 use lib.Dec.{eqb, leb}
-use lib.ListN.{length, List·getD-eq-default}
+use lib.ListN.{length}
 use borrow.Author.Tests.{eq-eqb, ne-eqb, le-leb, lt-leb}
 use Rattle.areas.proofs.Tables.{length-table, getD-table}
 use Rattle.bits.specs.Set.{bit}
@@ -18,6 +18,7 @@ use Rattle.bench.specs.State.{word, portAt, timerAt, registerAt, running
 use Rattle.bench.specs.Network.{peer}
 use Rattle.bench.specs.Sound.{Sound}
 use Rattle.bench.specs.Calls.{started}
+use Rattle.bench.proofs.Words.{word-past}
 use Rattle.bench.proofs.Plans.{few, absent-loose, far-end}
 
 module _ (plan : Plan) where
@@ -34,10 +35,9 @@ module _ (plan : Plan) where
   start-word i h = getD-table 2080 startWord i 0 h
 
   start-small : (i : ℕ) → word (started plan) i < 2 ^ 32
-  unfolding word
   start-small i =
       dite (decLt i 2080) (λ h. rw (start-word i h) (by-test (leb 1056 i && eqb (i % 4) 3 && not (eqb (peer plan ((i - 1056) / 4)) nobody))))
-      (λ h. let past : length (started plan) ≤ i = omega (arith, start-length) in omega (arith, List·getD-eq-default (started plan) 0 past))
+      (λ h. omega (arith, word-past (started plan) i (omega (arith, start-length))))
     where
       by-test : (t : Bool) → cond t 1 0 < 2 ^ 32
       by-test true = omega arith

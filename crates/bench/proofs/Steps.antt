@@ -1,11 +1,11 @@
--- What keeps a state sound: a change in the words of one device, in the waiting sets or next of one port, or of the flags at both ends of a link.
+-- What keeps a state sound: a change in the words of one device, in the waiting sets or next of one port, or of the flags at both ends of a link; and emptying any ports.
 use mathlib.Core.Path.{_≡_, refl, sym, ap, _∙_}
-use mathlib.Core.Bool.{true, false, false≢true}
+use mathlib.Core.Bool.{Bool, true, false, false≢true}
 use mathlib.Core.Logic.{_≢_, dite}
-use Prim.Native.Nat.{ℕ, zero, suc, _+_, _*_, _^_, _≤_, _<_}
+use Prim.Native.Nat.{ℕ, zero, suc, _+_, _*_, _%_, _^_, _≤_, _<_}
 use native.Mathlib.Decide.{decLt, ℕ-discrete}
 use native.Mathlib.Omega.{arith}
-use lib.Bits.{bitAnd}
+use lib.Bits.{bitAnd, and-zero-l, and-zero-r}
 use lib.ListN.{length}
 use Rattle.device.specs.Permissions.{maySend}
 use Rattle.plan.specs.Fields.{nobody}
@@ -15,6 +15,7 @@ use Rattle.bench.specs.State.{State, word, put, registerAt, timerAt, por
 use Rattle.bench.specs.Network.{devices, exists, peer, permissions}
 use Rattle.bench.specs.Sound.{Timed, Kept, Sound}
 use Rattle.bench.proofs.Words.{length-put, word-same, word-other}
+use Rattle.bench.proofs.Zeroed.{Zeroes, zeroes-keep}
 use Rattle.bench.proofs.Plans.{FarEnd, few, far-end}
 
 -- what is so of both kinds
@@ -38,6 +39,9 @@ put-fits {s} f i v h g =
         | no ne ↦ rw (word-other s i v j ne) (f .words j)
       ];
     }
+
+pub zeroes-fits : {here : ℕ → Bool} {s t : State} → Zeroes here s t → Fits s → Fits t
+zeroes-fits z f = record { size = z .size ∙ f .size; words = λ i. zeroes-keep z (λ v. v < 2 ^ 32) (omega arith) i (f .words i) }
 
 pub sound-fits : {plan : Plan} {s : State} → Sound plan s → Fits s
 sound-fits x = record { size = x .size; words = x .words }
@@ -101,6 +105,28 @@ module _ (plan : Plan) (held : Held plan) {s : State} (x : Sound plan s) where
         no-device = λ e i l m o. same (33 * e + i) (omega arith) ∙ x .no-device e i l m o;
         no-port = λ q i l y m. gone q l y i m ∙ x .no-port q i l y m;
       }
+
+  -- waiting sets and next become 0, at any ports
+  pub empty-step : {here : ℕ → Bool} {t : State} → Zeroes here s t → ((i : ℕ) → here i ≡ true → (1056 ≤ i) × (i % 4 < 3)) → Sound plan t
+  empty-step {t} z only =
+      let same : (i : ℕ) → (1056 ≤ i → i % 4 < 3 → ⊥) → word t i ≡ word s i = λ i o. z .left i (λ e. o (only i e .0) (only i e .1)) in
+      let flags : (q : ℕ) → running t q ≡ running s q = λ q. same (portAt q 3) (omega arith) in
+      let none : (i : ℕ) → word s i ≡ 0 → word t i ≡ 0 = zeroes-keep z (λ v. v ≡ 0) refl in
+      ports-step (zeroes-fits z (sound-fits x)) (λ i l. same i (omega arith))
+      (λ q l y.
+      let own = x .ports q l y in
+      record {
+        next-below = zeroes-keep z (λ v. v < 32) (omega arith) (portAt q 2) (own .next-below);
+        flag = rw (flags q) (own .flag);
+        both-ends = rw (flags q, flags (peer plan q)) (own .both-ends);
+        loose = rw (flags q) (own .loose);
+        apart =
+            zeroes-keep z (λ v. bitAnd v (waiting t 1 q) ≡ 0) (and-zero-l (waiting t 1 q)) (portAt q 0)
+            (zeroes-keep z (λ v. bitAnd (waiting s 0 q) v ≡ 0) (and-zero-r (waiting s 0 q)) (portAt q 1) (own .apart));
+        stopped = λ e kind m. none (portAt q kind) (own .stopped (sym (flags q) ∙ e) kind m);
+        mute = λ kind m e. none (portAt q kind) (own .mute kind m e);
+      })
+      (λ q l y i m. let e = x .no-port q i l y m in none (portAt q i) e ∙ sym e)
 
   module _ (q : ℕ) (small : q < 256) (there : exists plan q ≡ true) where
     -- a port that its device lacks is another one

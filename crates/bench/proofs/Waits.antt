@@ -1,4 +1,4 @@
--- What waits at a port: queueing a code, taking out the one that is sent, and emptying keep a sound state sound.
+-- What waits at a port: queueing a code and taking out the one that is sent keep a sound state sound.
 use mathlib.Core.Path.{_≡_, refl, sym, ap, _∙_}
 use mathlib.Core.Bool.{Bool, true, false, cond, false≢true}
 use mathlib.Core.Logic.{_≢_, dite}
@@ -24,8 +24,7 @@ use Rattle.bench.specs.Network.{devices, exists, permissions}
 use Rattle.bench.specs.Sound.{Kept, Sound}
 use Rattle.bench.specs.Queue.{sendsAt, queueAt, queueBut, queueAllAt, queueAll}
 use Rattle.bench.specs.Round.{chosen, unqueued, posted}
-use Rattle.bench.specs.Calls.{emptied}
-use Rattle.bench.proofs.Words.{put-word, put-comm}
+use Rattle.bench.proofs.Words.{put-comm}
 use Rattle.bench.proofs.Plans.{few}
 use Rattle.bench.proofs.Steps.{both-kinds, sets-step, next-step}
 
@@ -139,35 +138,9 @@ module _ (plan : Plan) (held : Held plan) {s : State} (x : Sound plan s) (q : �
             }))
             q small there (following (next old q) (At k)) (omega arith))
 
-  -- ---- a port is emptied
-
-  -- its two sets
-  pub sets-emptied : exists plan q ≡ true → Sound plan (put (put s (portAt q 0) 0) (portAt q 1) 0)
-  sets-emptied there =
-      sets-step plan held x q small there (λ j. 0)
-      (record { fits = λ j g. omega arith; apart = and-zero-l 0; stopped = λ z j g. refl; mute = λ j g z. refl })
+-- ---- at all ports
 
 module _ (plan : Plan) (held : Held plan) where
-  -- and where its search starts; nothing changes at an absent port
-  empty-step : {s : State} → Sound plan s → (q : ℕ) → q < 256 → Sound plan (put (put (put s (portAt q 0) 0) (portAt q 1) 0) (portAt q 2) 0)
-  empty-step {s} x q small = by-test (exists plan q) refl
-    where
-      zero-there : exists plan q ≡ false → (i : ℕ) → i < 4 → put s (portAt q i) 0 ≡ s
-      zero-there e i l = ap (put s (portAt q i)) (sym (x .no-port q i small e l)) ∙ put-word s (portAt q i)
-
-      by-test : (t : Bool) → exists plan q ≡ t → Sound plan (put (put (put s (portAt q 0) 0) (portAt q 1) 0) (portAt q 2) 0)
-      by-test true e = next-step plan held (sets-emptied plan held x q small e) q small e 0 (omega arith)
-      by-test false e = rw (zero-there e 0 (omega arith), zero-there e 1 (omega arith), zero-there e 2 (omega arith)) x
-
-  pub emptied-sound : (d : ℕ) → d < devices plan → (s : State) → Sound plan s → Sound plan (emptied plan d s)
-  unfolding emptied
-  emptied-sound d h s x =
-      let n = few plan held in
-      keeps (λ p t. put (put (put t (portAt (8 * d + p) 0) 0) (portAt (8 * d + p) 1) 0) (portAt (8 * d + p) 2) 0) (Sound plan) 8
-      (λ p t l y. empty-step y (8 * d + p) (omega arith)) s x
-
-  -- ---- at all ports
-
   pub posted-sound : (old : State) → Sound plan old → (s : State) → Sound plan s → Sound plan (posted plan old s)
   unfolding posted
   posted-sound old y s x =

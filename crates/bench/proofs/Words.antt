@@ -1,12 +1,17 @@
 -- The words of a state: what stands where after words are put.
 use mathlib.Core.Path.{_≡_}
 use mathlib.Core.Logic.{_≢_}
-use Prim.Native.Nat.{ℕ, _<_}
-use lib.ListN.{length, length-set}
+use Prim.Native.Nat.{ℕ, _≤_, _<_}
+use lib.ListN.{length, length-set, List·getD-eq-default}
 use lib.Seq.{getD-set-same, getD-set-other, set-set, set-comm, set-getD}
 use Rattle.bench.specs.State.{State, word, put}
 
 module _ (s : State) (i : ℕ) where
+  -- there is none, and 0 is read
+  pub word-past : length s ≤ i → word s i ≡ 0
+  unfolding word
+  word-past h = List·getD-eq-default s 0 h
+
   pub length-put : (v : ℕ) → length (put s i v) ≡ length s
   unfolding put
   length-put v = length-set s i v

@@ -1,22 +1,42 @@
 -- RULES, "Between rounds": the start state, and what hosts and links may do; each with its refusals in their order.
 use mathlib.Core.Path.{_≡_}
-use mathlib.Core.Bool.{true, cond, not, _&&_}
+use mathlib.Core.Bool.{Bool, true, cond, not, _&&_}
 use mathlib.Core.List.{List, [], _∷_}
 use Prim.Native.Nat.{ℕ, _+_, _-_, _*_, _/_, _%_, _<_}
-use lib.Dec.{eqb, leb}
+use lib.Dec.{eqb, leb, ltb}
 use lib.ListN.{length, getD}
 use Rattle.answers.specs.Ordered.{Condition, ask}
-use Rattle.areas.specs.Loop.{upTo}
 use Rattle.areas.specs.Table.{table}
 use Rattle.bits.specs.Set.{bit}
 use Rattle.device.specs.Reaction.{marked}
 use Rattle.plan.specs.Fields.{nobody}
 use Rattle.plan.specs.Reading.{Held}
 use Rattle.plan.specs.declared.Plan.{Plan}
-use Rattle.bench.specs.State.{State, put, registerAt, timerAt, portAt, register, running}
+use Rattle.bench.specs.State.{State, word, put, registerAt, timerAt, portAt, register, running}
 use Rattle.bench.specs.Network.{devices, router, peer, source, handler, loadOf}
 use Rattle.bench.specs.Sound.{Sound}
 use Rattle.bench.specs.Queue.{sends, queueAll}
+
+-- ---- words become 0: those that a test finds
+
+unfoldable pub zeroed : (ℕ → Bool) → State → State
+zeroed here s = table (length s) (λ i. cond (here i) 0 (word s i))
+
+-- is word i one of the n from a place on?
+abbrev pub within : ℕ → ℕ → ℕ → Bool
+within at n i = leb at i && ltb i (at + n)
+
+-- the register and the timers of device d
+abbrev pub cleared : ℕ → State → State
+cleared d s = zeroed (within (registerAt d) 33) s
+
+-- the waiting sets and next of its eight ports: of each four words all but the flag
+abbrev pub emptied : ℕ → State → State
+emptied d s = zeroed (λ i. within (portAt (8 * d) 0) 32 i && ltb (i % 4) 3) s
+
+-- the waiting sets and the flag of port q
+abbrev pub halted : ℕ → State → State
+halted q s = put (put (put s (portAt q 0) 0) (portAt q 1) 0) (portAt q 3) 0
 
 module _ (plan : Plan) where
   -- ---- the start state: every connected port runs, and all else is 0
@@ -56,14 +76,6 @@ module _ (plan : Plan) where
 
   -- ---- the link at port p of device d stops or starts
 
-  -- a port is cleared and stopped
-  abbrev pub halted : ℕ → State → State
-  halted q s = put (put (put s (portAt q 0) 0) (portAt q 1) 0) (portAt q 3) 0
-
-  -- register and timers become 0
-  unfoldable pub cleared : ℕ → State → State
-  cleared d s = upTo (λ i t. put t (33 * d + i) 0) 33 s
-
   -- a node at an end forgets all
   abbrev pub forgotten : ℕ → State → State
   forgotten d s = cond (router plan d) s (cleared d s)
@@ -85,9 +97,6 @@ module _ (plan : Plan) where
       ∷ []
 
   -- ---- device d is reset: register, timers, and its ports' waiting sets and next become 0
-
-  unfoldable pub emptied : ℕ → State → State
-  emptied d s = upTo (λ p t. put (put (put t (portAt (8 * d + p) 0) 0) (portAt (8 * d + p) 1) 0) (portAt (8 * d + p) 2) 0) 8 s
 
   abbrev pub reset : ℕ → State → State
   reset d s = emptied d (cleared d s)

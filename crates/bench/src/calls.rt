@@ -258,7 +258,7 @@ fn link(plan: Plan, state: &mut [u32], q: usize)
 // Port q is cleared and stopped; where its search starts stays.
 fn halt(state: &mut [u32], q: usize)
     requires { ⌜ (length (now state) ≡ 2080) × (q < 256) ⌝ }
-    ensures { λ _. ⌜ ((plan : Plan) → now (state .exit) ≡ halted plan q (now (state .entry))) ⌝ }
+    ensures { λ _. ⌜ now (state .exit) ≡ halted q (now (state .entry)) ⌝ }
 {
     let at = PORTS + PORT * q;
     state[at] = 0;
@@ -269,7 +269,7 @@ fn halt(state: &mut [u32], q: usize)
 // Device d, if it is a node, forgets all; a router keeps what it has.
 fn forget(state: &mut [u32], d: usize, role: u8)
     requires { ⌜ (length (now state) ≡ 2080) × (d < 32) ⌝ }
-    ensures { λ _. ⌜ ((plan : Plan) → now (state .exit) ≡ cond (eqb role 1) (now (state .entry)) (cleared plan d (now (state .entry)))) ⌝ }
+    ensures { λ _. ⌜ now (state .exit) ≡ cond (eqb role 1) (now (state .entry)) (cleared d (now (state .entry))) ⌝ }
 {
     if role == 1 {
         return;
@@ -280,7 +280,7 @@ fn forget(state: &mut [u32], d: usize, role: u8)
 // The register and the timers of device d become 0.
 fn clear(state: &mut [u32], d: usize)
     requires { ⌜ (length (now state) ≡ 2080) × (d < 32) ⌝ }
-    ensures { λ _. ⌜ ((plan : Plan) → now (state .exit) ≡ cleared plan d (now (state .entry))) ⌝ }
+    ensures { λ _. ⌜ now (state .exit) ≡ cleared d (now (state .entry)) ⌝ }
 {
     for i in 0..33 {
         state[DEVICE * d + i] = 0;
@@ -290,7 +290,7 @@ fn clear(state: &mut [u32], d: usize)
 // What waits at the ports of device d, and where each search starts, become 0.
 fn empty(state: &mut [u32], d: usize)
     requires { ⌜ (length (now state) ≡ 2080) × (d < 32) ⌝ }
-    ensures { λ _. ⌜ ((plan : Plan) → now (state .exit) ≡ emptied plan d (now (state .entry))) ⌝ }
+    ensures { λ _. ⌜ now (state .exit) ≡ emptied d (now (state .entry)) ⌝ }
 {
     for p in 0..8 {
         let at = PORTS + PORT * (8 * d + p);

@@ -1,23 +1,23 @@
--- `bench::calls::clear` meets its contract. The invariant: the words before word i are 0, each by one turn. Assumes nothing.
-use mathlib.Core.Path.{_≡_, refl}
-use Prim.Native.Nat.{_+_, _-_, _*_}
+-- `bench::calls::clear` meets its contract. The invariant: the words before word i are 0, and all others as they were. Assumes nothing.
+use mathlib.Core.Path.{_≡_}
+use Prim.Native.Nat.{_-_, _≤_}
 use native.Mathlib.Omega.{arith}
-use lib.ListN.{length, length-set}
 use borrow.Author.Needs.{needs}
-use Rattle.areas.proofs.Loops.{After, none, turn, done}
-use Rattle.bench.specs.State.{put}
-use Rattle.bench.specs.Calls.{cleared}
+use Rattle.areas.proofs.Facts.{facts}
+use Rattle.bench.specs.State.{put, registerAt}
+use Rattle.bench.specs.Calls.{within}
+use Rattle.bench.proofs.Zeroed.{Zeroes, zeroes-none, zeroes-put, is-zeroed}
 use Rattle.bench.proofs.calls.clear.Statement.{statement}
 use Rattle.bench.proofs.calls.clear.Tie as tie
 
 abbrev Inv-loop : tie.InvT-loop
-Inv-loop state₀ d i₀ state i = After (λ i t. put t (33 * d + i) 0) 33 i state₀ state × (length state ≡ 2080)
+Inv-loop state₀ d i₀ state i = (i ≤ 33) × Zeroes (within (registerAt d) i) state₀ state
 
 abbrev μ-loop : tie.MeasureT-loop
 μ-loop state₀ d i₀ state i = 33 - i
 
 loop-holds : tie.Need-loop-holds Inv-loop μ-loop
-loop-holds c = (none, omega arith)
+loop-holds c = (omega arith, zeroes-none (simp facts (omega arith)))
 
 mul-state : tie.Need-mul-state Inv-loop μ-loop
 mul-state c = search needs
@@ -39,14 +39,14 @@ loop-less c = search needs
 
 loop-again : tie.Need-loop-again Inv-loop μ-loop
 unfolding put
-loop-again c = (turn (c .before .loop .inv .0) (omega arith) refl, simp length-set (c .before .loop .inv .1))
+loop-again c = (omega arith, zeroes-put (c .before .loop .inv .1) _ (simp facts (omega arith)))
 
 same-length : tie.Need-same-length Inv-loop μ-loop
 same-length c = search needs
 
 returns : tie.Need-returns Inv-loop μ-loop
-unfolding cleared
-returns c = λ plan. done (c .before .loop .inv .0) (omega arith)
+returns c =
+    let e : c .before .loop .i ≡ 33 = omega arith in is-zeroed (rw e at (c .before .loop .inv .1))
 
 pub clear-spec : {M : Type 1} → statement M
 clear-spec =

@@ -1,25 +1,30 @@
--- `bench::calls::empty` meets its contract. The invariant: the ports before port p are emptied, each by one turn. Assumes nothing.
+-- `bench::calls::empty` meets its contract. The invariant: the ports before port p are emptied, and all else is as it was. Assumes nothing.
 use mathlib.Core.Path.{_≡_}
-use Prim.Native.Nat.{_+_, _-_, _*_}
-use native.Mathlib.Nat.{add-zero}
+use mathlib.Core.Bool.{Bool, _&&_}
+use Prim.Native.Nat.{ℕ, _+_, _-_, _*_, _%_, _≤_}
 use native.Mathlib.Omega.{arith}
-use lib.ListN.{length, length-set}
+use lib.Dec.{ltb}
+use lib.ListN.{length-set}
 use borrow.Author.Needs.{needs}
-use Rattle.areas.proofs.Loops.{After, none, turn, done}
+use Rattle.areas.proofs.Facts.{facts}
 use Rattle.bench.specs.State.{put, portAt}
-use Rattle.bench.specs.Calls.{emptied}
+use Rattle.bench.specs.Calls.{within}
+use Rattle.bench.proofs.Zeroed.{Zeroes, zeroes-none, zeroes-put, is-zeroed}
 use Rattle.bench.proofs.calls.empty.Statement.{statement}
 use Rattle.bench.proofs.calls.empty.Tie as tie
 
+-- the first n words of the ports of device d, but for the flags
+abbrev front : ℕ → ℕ → ℕ → Bool
+front d n i = within (portAt (8 * d) 0) n i && ltb (i % 4) 3
+
 abbrev Inv-loop : tie.InvT-loop
-Inv-loop state₀ d p₀ state p =
-    After (λ p t. put (put (put t (portAt (8 * d + p) 0) 0) (portAt (8 * d + p) 1) 0) (portAt (8 * d + p) 2) 0) 8 p state₀ state × (length state ≡ 2080)
+Inv-loop state₀ d p₀ state p = (p ≤ 8) × Zeroes (front d (4 * p)) state₀ state
 
 abbrev μ-loop : tie.MeasureT-loop
 μ-loop state₀ d p₀ state p = 8 - p
 
 loop-holds : tie.Need-loop-holds Inv-loop μ-loop
-loop-holds c = (none, omega arith)
+loop-holds c = (omega arith, zeroes-none (simp facts (omega arith)))
 
 mul-at : tie.Need-mul-at Inv-loop μ-loop
 mul-at c = search needs
@@ -65,14 +70,18 @@ loop-less c = search needs
 
 loop-again : tie.Need-loop-again Inv-loop μ-loop
 unfolding put
-loop-again c = (turn (c .before .loop .inv .0) (omega arith) (rw add-zero), simp length-set (c .before .loop .inv .1))
+loop-again c =
+    let d = c .before .before .args .d in
+    let p = c .before .loop .p in
+    let z = zeroes-put (c .before .loop .inv .1) {more = front d (4 * p + 1)} (1056 + 4 * (8 * d + p)) (simp facts (omega arith)) in
+    (omega arith, zeroes-put (zeroes-put z {more = front d (4 * p + 2)} _ (simp facts (omega arith))) _ (simp facts (omega arith)))
 
 same-length : tie.Need-same-length Inv-loop μ-loop
 same-length c = search needs
 
 returns : tie.Need-returns Inv-loop μ-loop
-unfolding emptied
-returns c = λ plan. done (c .before .loop .inv .0) (omega arith)
+returns c =
+    let e : c .before .loop .p ≡ 8 = omega arith in is-zeroed (rw e at (c .before .loop .inv .1))
 
 pub empty-spec : {M : Type 1} → statement M
 empty-spec =

@@ -5,7 +5,7 @@ use Rattle.bench.proofs.calls.forget.Statement.{statement}
 use Rattle.bench.proofs.calls.forget.Tie as tie
 
 returns : tie.Need-returns
-returns c = λ plan. rw (eq-eqb _ _ (c .if1 .taken))
+returns c = rw (eq-eqb _ _ (c .if1 .taken))
 
 clear-requires : tie.Need-clear-requires
 clear-requires c κs = search needs
@@ -14,7 +14,7 @@ same-length : tie.Need-same-length
 same-length c = search needs
 
 returns-2 : tie.Need-returns-2
-returns-2 c = λ plan. rw (ne-eqb _ _ (c .before .before .before .before .if1 .left)) (c .before .before .clear .ensures plan)
+returns-2 c = rw (ne-eqb _ _ (c .before .before .before .before .if1 .left)) (c .before .before .clear .ensures)
 
 pub forget-spec : {M : Type 1} → statement M
 forget-spec = tie.close (tie.spec returns clear-requires same-length returns-2)

@@ -42,7 +42,7 @@ same-length c = search needs
 
 returns : tie.Need-returns
 unfolding put
-returns c = λ plan. rw add-zero
+returns c = rw add-zero
 
 pub halt-spec : {M : Type 1} → statement M
 halt-spec =

@@ -30,9 +30,8 @@ same-length-2 c = search needs
 returns-2 : tie.Need-returns-2
 returns-2 c =
     let e = c .before .before .before .before .before .before .before .before in
-    let plan = e .before .before .before .before .args .plan in
     outcome-done (e .before .refusal .ensures) (e .if1 .left)
-    (c .before .before .empty .ensures plan ∙ ap (emptied plan _) (c .before .before .before .before .before .before .clear .ensures plan))
+    (c .before .before .empty .ensures ∙ ap (emptied _) (c .before .before .before .before .before .before .clear .ensures))
 
 pub reset-spec : {M : Type 1} → statement M
 reset-spec =

@@ -10,7 +10,7 @@ use Rattle.bench.proofs.calls.unlink.Statement.{statement}
 use Rattle.bench.proofs.calls.unlink.Tie as tie
 
 -- both ports are halted, then both ends forget
-in-turn : (plan : Plan) (q far : ℕ) (s s₁ s₂ s₃ s₄ : State) → far ≡ peer plan q → s₁ ≡ halted plan q s → s₂ ≡ halted plan far s₁
+in-turn : (plan : Plan) (q far : ℕ) (s s₁ s₂ s₃ s₄ : State) → far ≡ peer plan q → s₁ ≡ halted q s → s₂ ≡ halted far s₁
     → s₃ ≡ forgotten plan (q / 8) s₂ → s₄ ≡ forgotten plan (far / 8) s₃ → s₄ ≡ unlinked plan q s
 unfolding unlinked
 in-turn plan q far s s₁ s₂ s₃ s₄ p a b c d = rw (d, c, b, a, p)
@@ -47,9 +47,8 @@ returns c =
     let f = c .before .before .before .before .before .before .before in
     let h = f .before .before .before .before .before .before in
     let e = h .before .before .before .before .before .before in
-    let plan = e .before .before .args .plan in
-    in-turn plan _ _ _ _ _ _ _ (e .far-end .ensures) (h .before .before .before .before .halt .ensures plan) (h .halt2 .ensures plan)
-    (f .forget .ensures plan) (c .before .before .forget2 .ensures plan)
+    in-turn _ _ _ _ _ _ _ _ (e .far-end .ensures) (h .before .before .before .before .halt .ensures) (h .halt2 .ensures)
+    (f .forget .ensures) (c .before .before .forget2 .ensures)
 
 pub unlink-spec : {M : Type 1} → statement M
 unlink-spec =
