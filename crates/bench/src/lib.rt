@@ -27,8 +27,8 @@ pub(crate) const DEVICE: usize = 33;
 
 // Behind all devices are the ports, with four words each: the waiting interrupts, the waiting
 // acknowledges, next, and whether it runs.
-pub(crate) const PORTS: usize = 1056;
+pub const PORTS: usize = 1056;
 
-pub(crate) const PORT: usize = 4;
+pub const PORT: usize = 4;
 
-pub(crate) const RUNNING: usize = 3;
+pub const RUNNING: usize = 3;

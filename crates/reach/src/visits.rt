@@ -32,7 +32,7 @@ fn ahead(permissions: &[u8; 256], peers: &[[u16; 8]; 32], state: &[u32], q: usiz
     requires { ⌜ (length (now state) ≡ 2080) × (q < 256) ⌝ }
     ensures { λ r. ⌜ r ≡ Visits·ahead (now (permissions .entry)) (now (peers .entry)) (now (state .entry)) q ⌝ }
 {
-    if state[1056 + 4 * q + 3] != 1 {
+    if state[bench::PORTS + bench::PORT * q + bench::RUNNING] != 1 {
         return 32;
     }
     if !sends(permissions[q]) {
