@@ -179,7 +179,48 @@ def mesh():
     return plan
 
 
+def never():
+    """Four routers in a ring with none, one, two and three nodes, and loads of 1: every bit is gone before its code comes round again, so
+    the code never stops. How many devices hold it tells where it is."""
+    plan = Plan(1, 1)
+    routers = [plan.router(2 + i) for i in range(4)]
+    for i, r in enumerate(routers):
+        plan.join((r, 0), (routers[(i + 1) % 4], 1))
+        for j in range(i):
+            n = plan.node(source=[len(plan.devices)])
+            plan.join((r, 2 + j), (n, 0))
+    return plan
+
+
+def refused():
+    """A source with no link and one that may not send interrupts, beside one that is heard by all and one that its router does not hear."""
+    plan = Plan(100, 200)
+    plan.node(source=[3, 30])
+    r, b = plan.router(4), plan.node(handler=[3, 4, 5, 6])
+    plan.join((r, 0), (b, 0))
+    for port, k, near, far in ((1, 4, 14, 15), (2, 5, 15, 15), (3, 6, 15, 13)):
+        plan.join((plan.node(source=[k]), 0), (r, port), near=near, far=far)
+    return plan
+
+
+def fading():
+    """A source, two routers and a handler in a row, with loads of 1: the bit is gone behind the code, and the handler alone still holds it."""
+    plan = Plan(1, 1)
+    a, r, s, b = plan.node(source=[5]), plan.router(2), plan.router(2), plan.node(handler=[5])
+    plan.join((a, 0), (r, 0))
+    plan.join((r, 1), (s, 0))
+    plan.join((s, 1), (b, 0))
+    return plan
+
+
+def idle():
+    """One node, joined to nothing, and no source: the smallest file there is."""
+    plan = Plan(1, 1)
+    plan.node(handler=[5])
+    return plan
+
+
 if __name__ == "__main__":
     folder = pathlib.Path(sys.argv[1] if len(sys.argv) > 1 else pathlib.Path(__file__).parent)
-    for make in (three, ring, tree, torus, full, loop, brief, mute, incident, mesh):
+    for make in (three, ring, tree, torus, full, loop, brief, mute, incident, mesh, never, fading, refused, idle):
         (folder / f"{make.__name__}.plan").write_bytes(make().file())

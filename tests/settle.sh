@@ -1,0 +1,102 @@
+#!/bin/sh
+# The program settle: on every example plan, on files that it has to refuse, and on input that comes in pieces.
+# What it has to print for the plans is stored, and is what the bench in tests/, written apart from ours, comes to.
+set -eu
+cd "$(dirname "$0")/.."
+work=$(mktemp -d)
+trap 'rm -rf "$work"' EXIT
+
+# For its input the program prints the text in this file, and nothing else.
+prints() {
+    bin/settle >"$work/given"
+    cmp "$work/given" "$1"
+}
+
+# Its input is refused by this number with this block.
+refuses() {
+    echo "bad $1 $2" >"$work/bad-$1-$2"
+    prints "$work/bad-$1-$2"
+}
+
+# The stored text of a plan.
+stored() {
+    echo "examples/expected/$(basename "$1" .plan).txt"
+}
+
+for plan in examples/*.plan; do prints "$(stored "$plan")" <"$plan"; done
+
+# A read that gives less is not the end: byte by byte, and in pieces with a pause behind each.
+full=examples/full.plan
+dd if=$full bs=1 2>/dev/null | prints "$(stored $full)"
+for n in 1 511 1 512 510 513; do
+    dd bs=1 count=$n 2>/dev/null
+    sleep 0.1
+done <examples/three.plan | prints "$(stored three.plan)"
+
+# Lengths: too short, between two blocks, a byte too long (also one that comes late), a block too long, and no end in sight.
+for n in 0 1 511 513 16895; do head -c $n $full | refuses 20 0; done
+for n in 16897 17408 100000; do cat $full /dev/zero | head -c $n | refuses 20 0; done
+{ cat $full; sleep 0.1; echo; } | refuses 20 0
+for n in 512 16384; do head -c $n $full | refuses 25 0; done
+
+# A byte of the file.
+spoil() {
+    printf "\\$(printf %03o "$2")" | dd of="$work/file" bs=1 seek="$1" conv=notrunc 2>/dev/null
+}
+
+# A byte of a block, and the block's check made right again.
+put() {
+    at=$((512 * $1))
+    was=$(od -An -tu1 -j $((at + $2)) -N 1 "$work/file")
+    check=$(od -An -tu2 -j $((at + 510)) -N 2 "$work/file")
+    check=$((((check + ($2 + 1) * ($3 - was)) % 65521 + 65521) % 65521))
+    spoil $((at + $2)) "$3"
+    spoil $((at + 510)) $((check % 256))
+    spoil $((at + 511)) $((check / 256))
+}
+
+for block in 0 1 17 32; do
+    cp $full "$work/file"
+    spoil $((512 * block + 509)) 1
+    refuses 21 $block <"$work/file"
+done
+while read -r block at byte number where; do
+    cp $full "$work/file"
+    put "$block" "$at" "$byte"
+    refuses "$number" "$where" <"$work/file"
+done <<'END'
+0 0 2 22 0
+0 1 0 23 0
+0 1 33 23 0
+0 3 255 23 0
+0 6 1 24 0
+0 509 1 24 0
+0 1 31 25 0
+1 0 1 22 1
+1 1 1 22 1
+1 2 0 23 1
+1 44 1 24 1
+1 13 7 26 1
+17 0 1 22 17
+17 9 1 23 17
+17 15 1 23 17
+17 509 1 24 17
+17 13 0 26 3
+32 1 30 22 32
+32 3 2 23 32
+32 14 16 23 32
+32 43 1 23 32
+32 44 1 24 32
+32 13 7 26 8
+END
+
+if command -v python3 >/dev/null 2>&1; then
+    for plan in examples/*.plan; do python3 tests/settle.py "$plan" | cmp - "$(stored "$plan")"; done
+    mkdir "$work/damaged"
+    python3 tests/damaged.py $full "$work/damaged"
+    for file in "$work"/damaged/*; do
+        name=$(basename "$file")
+        refuses "${name%-*}" "${name#*-}" <"$file"
+    done
+fi
+echo "settle: ok"
