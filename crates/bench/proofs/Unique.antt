@@ -52,7 +52,7 @@ round-unique plan old before m n v w a b p q =
     ]
 
 -- neither of two least numbers is below the other
-least-once : (plan : Plan) (s : State) (m n : ℕ) → Least plan s m → Least plan s n → m ≡ n
+pub least-once : (plan : Plan) (s : State) (m n : ℕ) → Least plan s m → Least plan s n → m ≡ n
 least-once plan s m n p q =
     let a : m < n → ⊥ = λ l. q .least m l (p .quiet) in
     let b : n < m → ⊥ = λ l. p .least n l (q .quiet) in

@@ -23,7 +23,7 @@ pub struct Answer {
 }
 
 // A device has its register and its 32 timers, from 33 x d on.
-pub(crate) const DEVICE: usize = 33;
+pub const DEVICE: usize = 33;
 
 // Behind all devices are the ports, with four words each: the waiting interrupts, the waiting
 // acknowledges, next, and whether it runs.

@@ -88,6 +88,11 @@ module _ (file : List ℕ) where
       (λ d. numbered-table 8 (λ p. test 26 (1 + d) (joins (portsOf file) (peerOf file) d p)) (λ p. omega arith))) in
       (omega arith, (omega arith, (omega arith, (omega arith, (omega arith, (omega arith, devices))))))
 
+  -- no number is 0
+  pub zero-accepts : verdict file .number ≡ 0 → verdict file ≡ accepts
+  unfolding verdict
+  zero-accepts e = first-accepts (tests file) (accepts-all (tests file) numbered e)
+
   pub good : verdict file ≡ accepts → Good file
   unfolding verdict tests headerTests headerFits joinTests
   good e =

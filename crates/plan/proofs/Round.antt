@@ -13,13 +13,13 @@ use Rattle.areas.proofs.Facts.{facts}
 use Rattle.areas.proofs.Tests.{and-left, and-right}
 use Rattle.plan.specs.Fields.{portsFit, masksFit, nobody}
 use Rattle.plan.specs.Refusals.{Test, test, Verdict, accepts, first, tests, verdict}
-use Rattle.plan.specs.Reading.{Accepted, Held, zeros}
+use Rattle.plan.specs.Reading.{planOf, Accepted, Held, zeros}
 use Rattle.plan.specs.declared.Plan.{Plan}
 use Rattle.plan.specs.Steps.Memory.{portRight, deviceRight, rowRight, right}
 use Rattle.plan.specs.Steps.File.{fileOf}
 use Rattle.plan.proofs.Firsts.{fails}
 use Rattle.plan.proofs.Shape.{Shaped}
-use Rattle.plan.proofs.Good.{devices-fit}
+use Rattle.plan.proofs.Good.{devices-fit, zero-accepts}
 pub use Rattle.plan.proofs.There.{length-file}
 use Rattle.plan.proofs.There.{right-says, right-good}
 use Rattle.plan.proofs.Back.{shaped, read-right, read-file}
@@ -164,3 +164,8 @@ one-answer ts v w (found i l n p q) (found k m o r s) =
 pub verdict-first : (file : List ℕ) → Answers (tests file) (verdict file)
 unfolding verdict
 verdict-first file = first-refusal (tests file)
+
+-- a file that it has nothing to say against holds a plan
+pub read-held : (file : List ℕ) → ((i : ℕ) → getD file i 0 < 256) → verdict file .number ≡ 0 → Held (planOf file)
+unfolding Held
+read-held file small e = (file, record { bytes = small; right = zero-accepts file e; plan-of = refl })

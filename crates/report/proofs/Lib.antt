@@ -1,0 +1,5 @@
+pub mod Parts
+pub mod Trials
+pub mod Short
+pub mod Texts
+pub mod Unique

@@ -1,0 +1,109 @@
+-- The whole text of a file, and what the call answers.
+use mathlib.Core.Path.{_≡_, refl, sym, ap, subst, _∙_}
+use mathlib.Core.Logic.{inl, inr}
+use mathlib.Core.List.{List, _++_}
+use Prim.Native.Nat.{ℕ, _+_, _*_, _^_, _≤_, _<_}
+use native.Mathlib.Nat.{zero-add}
+use native.Mathlib.Omega.{arith}
+use lib.ListN.{length, getD, drop, length-append}
+use Rattle.areas.specs.Put.{Puts, over}
+use Rattle.areas.specs.Table.{table}
+use Rattle.areas.proofs.Puts.{over-put, joined, next-place}
+use Rattle.plan.specs.Refusals.{verdict}
+use Rattle.plan.specs.Reading.{planOf, Held, reads}
+use Rattle.plan.specs.declared.Plan.{Plan}
+use Rattle.plan.specs.declared.Read.{Read}
+use Rattle.plan.proofs.Round.{read-held, held-devices}
+use Rattle.text.specs.Text.{ascii}
+use Rattle.text.proofs.Decimal.{decimal-short}
+use Rattle.bench.specs.Network.{devices}
+use Rattle.report.specs.Report.{Lines, heading, bad, Prints, refused, network, Areas, longest, Fits, Reports}
+use Rattle.report.specs.Steps.{PutsLines, PutsText, lent}
+
+-- ---- how long the first line is, and the text of a refused file
+
+pub heading-short : (n : ℕ) → n ≤ 32 → length (heading n) ≤ 11
+unfolding heading ascii
+heading-short n h = simp length-append (omega (arith, decimal-short 1 n (omega (arith, h))))
+
+-- by numbers of 32 bits
+pub bad-short : (number block : ℕ) → number < 2 ^ 32 → block < 2 ^ 32 → length (bad number block) ≤ 26
+unfolding bad ascii
+bad-short number block h l =
+    simp length-append (omega (arith, decimal-short 9 number (omega (arith, h)), decimal-short 9 block (omega (arith, l))))
+
+-- ---- what was read
+
+module _ (file : List ℕ) {read : Read} (e : read ≡ reads file) where
+  number-is : read .number ≡ verdict file .number
+  unfolding reads
+  number-is = ap (λ (x : Read). x .number) e
+
+  module _ (z : read .number ≡ 0) where
+    accepts : verdict file .number ≡ 0
+    accepts = sym number-is ∙ z
+
+    plan-is : read .plan ≡ planOf file
+    unfolding reads
+    plan-is = ap (λ (x : Read). x .plan) e ∙ rw accepts
+
+    pub plan-held : ((i : ℕ) → getD file i 0 < 256) → Held (read .plan)
+    plan-held small = rw plan-is (read-held file small accepts)
+
+    -- the first line and all others
+    pub network-text : {t t₁ t₂ : List ℕ} {p₁ p₂ : ℕ} → Held (read .plan) → longest ≤ length t → Puts t 0 (heading (devices (read .plan))) t₁ p₁
+        → PutsLines (read .plan) (32 * devices (read .plan)) t₁ p₁ t₂ p₂ → PutsText file t 0 t₂ p₂
+    network-text {t} held room a b =
+        let few = held-devices (read .plan) held .1 in
+        let size = length-append (heading (devices (read .plan))) (b .lines) in
+        let fits : length (heading (devices (read .plan)) ++ b .lines) ≤ longest = omega (arith, size, heading-short (devices (read .plan)) few, few, b .short) in
+        record {
+          text = heading (devices (read .plan)) ++ b .lines;
+          right =
+              subst (λ (plan : Plan). Lines plan (32 * devices plan) (b .lines) → Prints file (heading (devices plan) ++ b .lines)) (sym plan-is) (λ l. network accepts l)
+              (b .right);
+          short = fits;
+          put = joined a (omega (arith, fits, room)) (b .put);
+        }
+
+  pub refused-text : {t t₁ : List ℕ} {p₁ : ℕ} → (read .number ≡ 0 → ⊥) → read .number < 2 ^ 32 → read .block < 2 ^ 32
+      → Puts t 0 (bad (read .number) (read .block)) t₁ p₁ → PutsText file t 0 t₁ p₁
+  refused-text n h l a =
+      record {
+        text = bad (read .number) (read .block);
+        right = subst (λ (x : Read). Prints file (bad (x .number) (x .block))) (sym e) (unfold reads in (refused (λ z. n (number-is ∙ z))));
+        short = omega (arith, bad-short (read .number) (read .block) h l);
+        put = a;
+      }
+
+-- ---- what the call answers
+
+module _ (file state second text : List ℕ) where
+  pub misfits : (Fits (length state) (length second) (length text) → ⊥) → Reports file (lent state second text) 3 0 (lent state second text)
+  misfits m = record { answers = inl (m, refl); made = λ z. absurd (omega (arith, z)); kept = λ _. (refl, refl) }
+
+  pub reports : {s u t : List ℕ} {value : ℕ} → Fits (length state) (length second) (length text) → PutsText file text 0 t value
+      → s ≡ table 2080 (λ i. 0) → u ≡ table 2080 (λ i. 0) → Reports file (lent state second text) 0 value (lent s u t)
+  reports {value = value} fits v e f =
+      let room : length (v .text) ≤ length text = omega (arith, v .short, fits .2) in
+      let size : value ≡ length (v .text) = next-place (v .put) (omega (arith, room)) ∙ zero-add _ in
+      let g = v .put .exit ∙ sym (over-put (v .text) text room) in
+      record {
+        answers = inr (fits, refl);
+        made = λ _. (v .text, v .right, size, λ i. lent (e i) (f i) (g i));
+        kept = λ z. absurd (z refl);
+      }
+
+-- what a caller wants to know, who lends areas that fit
+module _ {file : List ℕ} {before after : Areas} {number value : ℕ} (r : Reports file before number value after) where
+  zero-number : Fits (length (before .state)) (length (before .second)) (length (before .text)) → number ≡ 0
+  zero-number fits = elim (r .answers) [ inl p ↦ absurd (p .0 fits) | inr p ↦ p .1 ]
+
+  pub report-made : Fits (length (before .state)) (length (before .second)) (length (before .text))
+      → (text : List ℕ) × Prints file text × (value ≡ length text) × (after .text ≡ over text (before .text))
+  report-made fits = let x = r .made (zero-number fits) in (x .0, x .1, x .2, ap (λ (a : Areas). a .text) (x .3))
+
+-- a text that stands in front of an area is no longer than it
+pub over-room : (text before : List ℕ) {after : List ℕ} → after ≡ over text before → length text ≤ length after
+unfolding over
+over-room text before e = omega (arith, ap length e, length-append text (drop (length text) before))

@@ -1,0 +1,47 @@
+use Rattle.text.specs.Text.{ascii}
+use Rattle.report.proofs.Parts.{line-parts, first-room, third-room, three}
+use borrow.Author.Needs.{needs}
+use Rattle.report.proofs.lines.put_line.Statement.{statement}
+use Rattle.report.proofs.lines.put_line.Tie as tie
+
+put-front-requires : tie.Need-put-front-requires
+unfolding ascii
+put-front-requires c κs =
+    let a = c .before .before in
+    first-room (line-parts (a .args .d) (a .args .k) (a .args .rounds) (a .args .held)) (a .args .text .now) (a .args .at) (a .pre)
+
+slice-aggregate-put : tie.Need-slice-aggregate-put
+slice-aggregate-put c = search needs
+
+put-requires : tie.Need-put-requires
+put-requires c κs = search needs
+
+slice-aggregate-put-then : tie.Need-slice-aggregate-put-then
+slice-aggregate-put-then c = search needs
+
+put-then-requires : tie.Need-put-then-requires
+unfolding ascii
+put-then-requires c κs =
+    let a = c .before .before .before .before .before .before .before .before .before .before .before .before in
+    third-room (line-parts (a .args .d) (a .args .k) (a .args .rounds) (a .args .held)) (c .before .before .before .before .before .before .before .before .before .put-front .ensures) (a .pre) (c .before .before .before .before .put .ensures)
+
+same-length : tie.Need-same-length
+same-length c = search needs
+
+returns : tie.Need-returns
+unfolding ascii
+returns c =
+    let a = c .before .before .before .before .before .before .before .before .before .before .before .before .before .before .before in
+    three (line-parts (a .args .d) (a .args .k) (a .args .rounds) (a .args .held)) (c .before .before .before .before .before .before .before .before .before .before .before .before .put-front .ensures) (a .pre) (c .before .before .before .before .before .before .before .put .ensures) (c .before .before .put-then .ensures)
+
+pub put-line-spec : {M : Type 1} → statement M
+put-line-spec =
+    tie.close
+    (tie.spec
+    put-front-requires
+    slice-aggregate-put
+    put-requires
+    slice-aggregate-put-then
+    put-then-requires
+    same-length
+    returns)

@@ -1,0 +1,72 @@
+use native.Mathlib.Omega.{arith}
+use Rattle.areas.proofs.Puts.{same-size, next-place}
+use Rattle.plan.specs.Reading.{Held}
+use Rattle.plan.proofs.Round.{held-devices}
+use Rattle.report.proofs.Texts.{heading-short, bad-short, plan-held, network-text, refused-text}
+use borrow.Author.Needs.{needs}
+use Rattle.report.proofs.put_text.Statement.{statement}
+use Rattle.report.proofs.put_text.Tie as tie
+
+-- the plan that was read is held
+held-then : (c : tie.After-struct-known2) → Held (c .before .before .before .before .before .before .read .result .plan)
+held-then c = plan-held _ (c .before .before .before .before .before .before .read .ensures) (c .before .before .before .before .if1 .left) (λ i. omega (arith, c .before .before .before .before .before .before .before .before .before .before .shared-slice-known .given i))
+
+read-requires : tie.Need-read-requires
+read-requires c κs = search needs
+
+put-bad-requires : tie.Need-put-bad-requires
+put-bad-requires c κs =
+    let r = c .before .before .before .read in
+    omega (arith, bad-short (r .result .number) (r .result .block) (omega arith) (omega arith), c .before .before .before .before .before .before .before .before .pre .2)
+
+same-length : tie.Need-same-length
+same-length c = search needs
+
+returns : tie.Need-returns
+returns c =
+    let r = c .before .before .before .before .before .before .read in
+    refused-text _ (r .ensures) (c .before .before .before .before .if1 .taken) (omega arith) (omega arith) (c .before .before .put-bad .ensures)
+
+cast-put-heading : tie.Need-cast-put-heading
+cast-put-heading c = omega (arith, held-devices _ (held-then c) .1)
+
+put-heading-requires : tie.Need-put-heading-requires
+put-heading-requires c κs = omega (arith, heading-short _ (held-devices _ (held-then c) .1), c .before .before .before .before .before .before .before .before .before .before .before .pre .2)
+
+put-lines-requires : tie.Need-put-lines-requires
+put-lines-requires c κs =
+    let a = c .before .before .before .before .before .before .before .before .before .before .before .before .before .before .before .before .before in
+    let h = c .before .before .before .before .before .put-heading .ensures in
+    let few = held-devices _ (held-then (c .before .before .before .before .before .before)) .1 in
+    let short = heading-short _ few in
+    (held-then (c .before .before .before .before .before .before), a .pre .0, a .pre .1, omega (arith, short, same-size h, next-place h (omega (arith, short, a .pre .2)), a .pre .2))
+
+same-length-2 : tie.Need-same-length-2
+same-length-2 c = search needs
+
+same-length-3 : tie.Need-same-length-3
+same-length-3 c = search needs
+
+same-length-4 : tie.Need-same-length-4
+same-length-4 c = search needs
+
+returns-2 : tie.Need-returns-2
+returns-2 c =
+    let a = c .before .before .before .before .before .before .before .before .before .before .before .before .before .before .before .before .before .before .before .before .before .before .before .before in
+    network-text _ (c .before .before .before .before .before .before .before .before .before .before .before .before .before .before .before .before .before .before .before .read .ensures) (c .before .before .before .before .before .before .before .before .before .before .before .before .before .before .before .before .before .if1 .left) (held-then (c .before .before .before .before .before .before .before .before .before .before .before .before .before)) (a .pre .2) (c .before .before .before .before .before .before .before .before .before .before .before .before .put-heading .ensures) (c .before .before .before .before .before .before .put-lines .ensures)
+
+pub put-text-spec : {M : Type 1} → statement M
+put-text-spec =
+    tie.close
+    (tie.spec
+    read-requires
+    put-bad-requires
+    same-length
+    returns
+    cast-put-heading
+    put-heading-requires
+    put-lines-requires
+    same-length-2
+    same-length-3
+    same-length-4
+    returns-2)

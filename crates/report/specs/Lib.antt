@@ -1,0 +1,3 @@
+pub mod Trial
+pub mod Report
+pub mod Steps

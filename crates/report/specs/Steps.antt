@@ -1,0 +1,37 @@
+-- No rules: what private functions promise. Nothing here has to be believed.
+use mathlib.Core.List.{List, _++_}
+use Prim.Native.Nat.{ℕ, _+_, _*_, _≤_}
+use lib.ListN.{length}
+use Rattle.areas.specs.Put.{Puts}
+use Rattle.text.specs.Text.{ascii, decimal}
+use Rattle.plan.specs.declared.Plan.{Plan}
+use Rattle.report.specs.declared.trial.Rounds.{Rounds}
+use Rattle.report.specs.Report.{field, Lines, Prints, Areas, longest}
+
+abbrev pub lent : List ℕ → List ℕ → List ℕ → Areas
+lent state second text = record { state = state; second = second; text = text }
+
+-- the first three fields of a line
+unfoldable pub front : ℕ → ℕ → Rounds → List ℕ
+front d k rounds = decimal d ++ ascii " " ++ decimal k ++ ascii " " ++ field rounds
+
+-- what place i adds to the lines of the places before it was put, and is at most 14 bytes long
+pub record PutsPlace (plan : Plan) (i : ℕ) (before : List ℕ) (at : ℕ) (after : List ℕ) (place : ℕ) : Type 0 where
+  pub added : List ℕ
+  pub right : (lines : List ℕ) → Lines plan i lines → Lines plan (i + 1) (lines ++ added)
+  pub short : length added ≤ 14
+  pub put : Puts before at added after place
+
+-- the lines of the first i places were put
+pub record PutsLines (plan : Plan) (i : ℕ) (before : List ℕ) (at : ℕ) (after : List ℕ) (place : ℕ) : Type 0 where
+  pub lines : List ℕ
+  pub right : Lines plan i lines
+  pub short : length lines ≤ 14 * i
+  pub put : Puts before at lines after place
+
+-- the whole text of a file was put
+pub record PutsText (file before : List ℕ) (at : ℕ) (after : List ℕ) (place : ℕ) : Type 0 where
+  pub text : List ℕ
+  pub right : Prints file text
+  pub short : length text ≤ longest
+  pub put : Puts before at text after place

@@ -1,0 +1,64 @@
+// What the program `settle` prints: the bytes of a plan file go in, the whole text comes out, in a
+// lent area.
+ghost use mathlib.Core.Path.{_≡_};
+ghost use Prim.Native.Nat.{_≤_};
+ghost use lib.ListN.{length};
+ghost use Rattle.answers.specs.Decides.{Decides};
+ghost use Rattle.report.specs.Report.{Fits, Reports};
+ghost use Rattle.report.specs.Steps.{PutsText, lent};
+
+mod lines;
+mod trial;
+
+use bench::Answer;
+
+// As long as a text can be: its first line, and 1,024 lines like `31 31 4096 32`.
+pub const LONGEST: usize = 14347;
+
+// Makes the text of a plan file in front of its area; the value is its length. The other two areas
+// are for the states of the network, and end as zeros. Refused by 3.
+pub fn report(file: &[u8], state: &mut [u32], second: &mut [u32], text: &mut [u8]) -> Answer
+    ensures { λ r. ⌜ Reports (now (file .entry)) (lent (now (state .entry)) (now (second .entry)) (now (text .entry))) (r .number) (r .value) (lent (now (state .exit)) (now (second .exit)) (now (text .exit))) ⌝ }
+{
+    if !fits(state.len(), second.len(), text.len()) {
+        return Answer {
+            number: 3,
+            value: 0,
+        };
+    }
+    let length = put_text(file, state, second, text);
+    areas::fill(state, 0);
+    areas::fill(second, 0);
+    Answer {
+        number: 0,
+        value: length as u32,
+    }
+}
+
+// Are the areas as long as they have to be?
+fn fits(state: usize, second: usize, text: usize) -> bool
+    ensures { λ r. ⌜ Decides (Fits state second text) r ⌝ }
+{
+    if state != 2080 {
+        return false;
+    }
+    if second != 2080 {
+        return false;
+    }
+    LONGEST <= text
+}
+
+// The text of a file, put at the front of an area that has room for the longest.
+fn put_text(file: &[u8], state: &mut [u32], second: &mut [u32], text: &mut [u8]) -> usize
+    requires { ⌜ (length (now state) ≡ 2080) × (length (now second) ≡ 2080) × (14347 ≤ length (now text)) ⌝ }
+    ensures { λ r. ⌜ PutsText (now (file .entry)) (now (text .entry)) 0 (now (text .exit)) r ⌝ }
+{
+    let read = planfile::read(file);
+    if read.number != 0 {
+        return lines::put_bad(text, 0, read.number, read.block);
+    }
+    let plan = read.plan;
+    let core = plan.core;
+    let at = lines::put_heading(text, 0, core.devices as u32);
+    lines::put_lines(plan, state, second, text, at)
+}

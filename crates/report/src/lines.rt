@@ -1,0 +1,120 @@
+// The lines of the text, each put behind the one before it.
+ghost use mathlib.Core.Path.{_≡_};
+ghost use mathlib.Core.List.{_++_};
+ghost use Prim.Native.Nat.{_+_, _*_, _≤_, _<_};
+ghost use lib.ListN.{length};
+ghost use Rattle.areas.specs.Put.{Puts};
+ghost use Rattle.text.specs.Text.{decimal};
+ghost use Rattle.plan.specs.Reading.{Held};
+ghost use Rattle.bench.specs.Network.{devices};
+ghost use Rattle.report.specs.Report.{field, line, heading, bad};
+ghost use Rattle.report.specs.Steps.{front, PutsPlace, PutsLines};
+use crate::trial;
+use crate::trial::Rounds;
+use plan::Plan;
+
+// A number, and a word behind it.
+fn put_then(text: &mut [u8], at: usize, n: u32, word: &[u8]) -> usize
+    requires { ⌜ at + length (decimal n ++ now word) ≤ length (now text) ⌝ }
+    ensures { λ r. ⌜ Puts (now (text .entry)) at (decimal n ++ now (word .entry)) (now (text .exit)) r ⌝ }
+{
+    let after = text::put_number(text, at, n);
+    areas::put(text, after, word)
+}
+
+// The first line of a network's text.
+pub(crate) fn put_heading(text: &mut [u8], at: usize, n: u32) -> usize
+    requires { ⌜ at + length (heading n) ≤ length (now text) ⌝ }
+    ensures { λ r. ⌜ Puts (now (text .entry)) at (heading n) (now (text .exit)) r ⌝ }
+{
+    let number = areas::put(text, at, b"network ");
+    let end = text::put_number(text, number, n);
+    areas::put(text, end, b"\n")
+}
+
+// The text of a refused file.
+pub(crate) fn put_bad(text: &mut [u8], at: usize, number: u32, block: u32) -> usize
+    requires { ⌜ at + length (bad number block) ≤ length (now text) ⌝ }
+    ensures { λ r. ⌜ Puts (now (text .entry)) at (bad number block) (now (text .exit)) r ⌝ }
+{
+    let first = areas::put(text, at, b"bad ");
+    let second = put_then(text, first, number, b" ");
+    put_then(text, second, block, b"\n")
+}
+
+fn put_field(text: &mut [u8], at: usize, rounds: Rounds) -> usize
+    requires { ⌜ at + length (field rounds) ≤ length (now text) ⌝ }
+    ensures { λ r. ⌜ Puts (now (text .entry)) at (field rounds) (now (text .exit)) r ⌝ }
+{
+    match rounds {
+        Rounds::Settled(n) => text::put_number(text, at, n),
+        Rounds::Waiting => areas::put(text, at, b"-"),
+        Rounds::Refused(number) => {
+            let after = areas::put(text, at, b"r");
+            text::put_number(text, after, number)
+        }
+    }
+}
+
+// The first three fields of a line.
+fn put_front(text: &mut [u8], at: usize, d: u32, k: u32, rounds: Rounds) -> usize
+    requires { ⌜ at + length (front d k rounds) ≤ length (now text) ⌝ }
+    ensures { λ r. ⌜ Puts (now (text .entry)) at (front d k rounds) (now (text .exit)) r ⌝ }
+{
+    let second = put_then(text, at, d, b" ");
+    let third = put_then(text, second, k, b" ");
+    put_field(text, third, rounds)
+}
+
+// The line of a source and an identifier.
+fn put_line(text: &mut [u8], at: usize, d: u32, k: u32, rounds: Rounds, held: u32) -> usize
+    requires { ⌜ at + length (line d k rounds held) ≤ length (now text) ⌝ }
+    ensures { λ r. ⌜ Puts (now (text .entry)) at (line d k rounds held) (now (text .exit)) r ⌝ }
+{
+    let space = put_front(text, at, d, k, rounds);
+    let last = areas::put(text, space, b" ");
+    put_then(text, last, held, b"\n")
+}
+
+// The line of place i, which is device i / 32 and identifier i % 32; none where the device is no
+// source of it.
+fn put_place(
+    plan: Plan,
+    state: &mut [u32],
+    second: &mut [u32],
+    i: usize,
+    text: &mut [u8],
+    at: usize,
+) -> usize
+    requires { ⌜ Held plan × (length (now state) ≡ 2080) × (length (now second) ≡ 2080) × (i < 1024) × (at + 14 ≤ length (now text)) ⌝ }
+    ensures { λ r. ⌜ PutsPlace plan i (now (text .entry)) at (now (text .exit)) r ⌝ }
+{
+    let core = plan.core;
+    let d = i / 32;
+    let k = (i % 32) as u32;
+    if bits::get(core.source[d], k) != 1 {
+        return at;
+    }
+    let tried = trial::attempt(plan, state, second, d, k);
+    let rounds = tried.rounds;
+    put_line(text, at, d as u32, k, rounds, tried.held)
+}
+
+// All lines, by device then identifier.
+pub(crate) fn put_lines(
+    plan: Plan,
+    state: &mut [u32],
+    second: &mut [u32],
+    text: &mut [u8],
+    at: usize,
+) -> usize
+    requires { ⌜ Held plan × (length (now state) ≡ 2080) × (length (now second) ≡ 2080) × (at + 14336 ≤ length (now text)) ⌝ }
+    ensures { λ r. ⌜ PutsLines plan (32 * devices plan) (now (text .entry)) at (now (text .exit)) r ⌝ }
+{
+    let core = plan.core;
+    let mut end = at;
+    for i in 0..32 * core.devices {
+        end = put_place(plan, state, second, i, text, end);
+    }
+    end
+}
