@@ -38,6 +38,16 @@ class Script:
     def reset(self, d):
         said("reset", d, 0, self.bench.reset(d))
 
+    def settle(self, allowance, refused=0):
+        """Settling, and what the second area, of nines before, then begins and ends with."""
+        played = 0
+        while not refused and self.bench.waiting() and played < allowance:
+            self.bench.round()
+            played += 1
+        number = refused or (12 if self.bench.waiting() else 0)
+        said("settle", number, allowance, played)
+        said("second", 0, *((9, 9) if refused else (0, 0)))
+
     def rounds(self, n):
         for _ in range(n):
             sent, told = self.bench.round()
@@ -120,3 +130,18 @@ said("short state", 0, 5, 2)
 said("short next", 0, 0, 3)
 said("long sent", 0, 0, 3)
 said("long told", 0, 0, 3)
+
+s = Script("three", "settling")
+s.settle(0)
+s.request(0, 5)
+s.settle(4097, refused=11)
+s.settle(0)
+s.settle(1)
+s.settle(4096)
+s.rounds(1)
+s.settle(4097, refused=2)
+
+s = Script("never", "a code that never stops")
+s.request(4, 4)
+s.settle(4096)
+s.rounds(1)

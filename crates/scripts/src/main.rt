@@ -16,6 +16,8 @@ fn main() {
     incident(incidents, b"the incident: acknowledged too early", 4, 14);
     incident(incidents, b"acknowledged when nothing waits", 8, 4);
     refusals(plan_of(b"three.plan"));
+    settling(plan_of(b"three.plan"));
+    endless(plan_of(b"never.plan"));
 }
 
 fn refusals(plan: Plan) {
@@ -144,6 +146,14 @@ fn rounds(plan: Plan, state: &mut [u32], n: usize) {
         round(plan, state);
         i += 1;
     }
+}
+
+// Settling, and what the second area then begins and ends with.
+fn settle(plan: Plan, state: &mut [u32], allowance: u32) {
+    let mut second = [9u32; WORDS];
+    let r = bench::settle(plan, state, &mut second, allowance);
+    said(b"settle", r.number as usize, allowance, r.value);
+    said(b"second", 0, second[0], second[2079]);
 }
 
 // ---- the scripts
@@ -276,4 +286,28 @@ fn short(plan: Plan, state: &[u32]) {
     said(b"long sent", 0, b.value, b.number);
     let c = bench::round(plan, state, &mut whole, &mut right, &mut told);
     said(b"long told", 0, c.value, c.number);
+}
+
+// Nothing waits; then what a request needs, by each allowance.
+fn settling(plan: Plan) {
+    let mut s = [7u32; WORDS];
+    begin(plan, &mut s, b"settling");
+    settle(plan, &mut s, 0);
+    request(plan, &mut s, 0, 5);
+    settle(plan, &mut s, 4097);
+    settle(plan, &mut s, 0);
+    settle(plan, &mut s, 1);
+    settle(plan, &mut s, 4096);
+    rounds(plan, &mut s, 1);
+    s[2079] = 1;
+    settle(plan, &mut s, 4097);
+}
+
+// A code that never stops, and what its network does after the greatest allowance.
+fn endless(plan: Plan) {
+    let mut s = [7u32; WORDS];
+    begin(plan, &mut s, b"a code that never stops");
+    request(plan, &mut s, 4, 4);
+    settle(plan, &mut s, 4096);
+    rounds(plan, &mut s, 1);
 }
