@@ -30,7 +30,7 @@ use Rattle.bench.specs.State.{State, word, put, registerAt, timerAt, por
 use Rattle.bench.specs.Network.{devices, router, peer, permissions, loadOf}
 use Rattle.bench.specs.Sound.{Sound}
 use Rattle.bench.specs.Queue.{sendsAt, queueAt, queueBut, queueAllAt}
-use Rattle.bench.specs.Calls.{mark}
+use Rattle.bench.specs.Calls.{mark, called}
 use Rattle.bench.specs.Round.{World, tick, chosen, sends, unqueued, timed, forwarded, acted, arrived, ticked, sentBytes, posted, arrives, reached, afterTimers, afterSending, round}
 use Rattle.bench.specs.Alike.{Alike, SendsIt, SendAlike}
 use Rattle.bench.proofs.Words.{length-put, word-same, word-other, put-word}
@@ -41,10 +41,10 @@ use Rattle.bench.proofs.Stepped.{chosen-place, post-nothing, post-inter
 use Rattle.bench.proofs.Timers.{turn}
 
 -- two whole states, alike in what concerns k
-record Both (k : ℕ) (s t : State) : Type 0 where
-  like : Alike k s t
-  left : length s ≡ 2080
-  right : length t ≡ 2080
+pub record Both (k : ℕ) (s t : State) : Type 0 where
+  pub like : Alike k s t
+  pub left : length s ≡ 2080
+  pub right : length t ≡ 2080
 
 back : {k : ℕ} {s t : State} → Both k s t → Both k t s
 back p =
@@ -318,7 +318,7 @@ module _ {k : ℕ} (l : k < 32) (plan : Plan) (q : ℕ) (h : q < 256) where
         (reacts-both (router plan (q / 8)) (eqb (running (v .state) q) 1) (permissions plan q) byte kind g refl (reads byte) (stands byte))
 
   -- no code of k arrives
-  arrives-aside : (sent : List ℕ) (w : World) {t : State} → Both k (w .state) t → ((kind : ℕ) → kind < 2 → getD sent (peer plan q) 256 ≢ 128 + 32 * kind + k)
+  pub arrives-aside : (sent : List ℕ) (w : World) {t : State} → Both k (w .state) t → ((kind : ℕ) → kind < 2 → getD sent (peer plan q) 256 ≢ 128 + 32 * kind + k)
       → Both k (arrives plan sent q w .state) t
   arrives-aside sent w {t} p not-k =
       let other : (kind j : ℕ) → kind < 2 → getD sent (peer plan q) 256 ≡ 128 + 32 * kind + j → j ≢ k = λ kind j g e o. not-k kind g (omega arith) in
@@ -331,7 +331,7 @@ module _ {k : ℕ} (l : k < 32) (plan : Plan) (q : ℕ) (h : q < 256) where
 -- ---- what is sent
 
 -- a byte is a code of k, or none
-about : (k b : ℕ) → ((kind : ℕ) × (kind < 2) × (b ≡ 128 + 32 * kind + k)) ⊎ ((kind : ℕ) → kind < 2 → b ≢ 128 + 32 * kind + k)
+pub about : (k b : ℕ) → ((kind : ℕ) × (kind < 2) × (b ≡ 128 + 32 * kind + k)) ⊎ ((kind : ℕ) → kind < 2 → b ≢ 128 + 32 * kind + k)
 about k b =
     elim (ℕ-discrete b (128 + k)) [
       | yes e ↦ inl (0, omega arith, omega arith)
@@ -343,12 +343,12 @@ about k b =
     ]
 
 module _ {k : ℕ} (l : k < 32) (plan : Plan) (held : Held plan) (old : State) (q : ℕ) (h : q < 8 * devices plan) where
-  sent-at : getD (sentBytes plan old) q 256 ≡ sends old q
+  pub sent-at : getD (sentBytes plan old) q 256 ≡ sends old q
   unfolding sentBytes
   sent-at = getD-table 256 _ q 256 (omega (arith, few plan held)) ∙ rw (lt-ltb q (8 * devices plan) h)
 
   -- port q sends k where it chose k
-  sends-chosen : (kind : ℕ) → kind < 2 → SendsIt plan k old kind q → chosen old q ≡ At k
+  pub sends-chosen : (kind : ℕ) → kind < 2 → SendsIt plan k old kind q → chosen old q ≡ At k
   sends-chosen kind g e = by-choice (chosen old q) refl
     where
       by-choice : (c : Found) → chosen old q ≡ c → chosen old q ≡ At k
@@ -360,7 +360,7 @@ module _ {k : ℕ} (l : k < 32) (plan : Plan) (held : Held plan) (old : State) (
             | no n ↦ o ∙ ap At (omega (arith, sent-at, post-acknowledge old q o n))
           ]
 
-  chosen-sends : chosen old q ≡ At k → (kind : ℕ) × (kind < 2) × SendsIt plan k old kind q
+  pub chosen-sends : chosen old q ≡ At k → (kind : ℕ) × (kind < 2) × SendsIt plan k old kind q
   chosen-sends o =
       elim (ℕ-discrete (bit (word old (1056 + 4 * q)) k) 1) [
         | yes y ↦ (0, omega arith, sent-at ∙ post-interrupt old q o y ∙ omega arith)
@@ -429,3 +429,17 @@ identifiers-apart plan held s t x y k l like same =
     (record { like = like; left = x .size; right = y .size }) in
     let posts = posted-both plan held l s t same (afterTimers plan s .state) (afterTimers plan t .state) timers in
     reached-both plan held l s t same (afterSending plan s) (afterSending plan t) posts .like
+
+-- ---- a call
+
+pub alike-same : (k : ℕ) (s : State) → Alike k s s
+alike-same k s = record { marks = λ d h. refl; timers = λ d h. refl; waits = λ kind q g h. refl; runs = λ q h. refl }
+
+-- a call for another identifier changes nothing that concerns k
+pub call-apart : (plan : Plan) → Held plan → (s : State) → Sound plan s → (k : ℕ) → k < 32 → (kind d j : ℕ) → kind < 2 → d < devices plan → j < 32 → j ≢ k
+    → Alike k s (called plan kind d j s)
+unfolding called
+call-apart plan held s x k l kind d j g h m ne =
+    let own : d < 32 = omega (arith, few plan held) in
+    let start : Both k s s = record { like = alike-same k s; left = x .size; right = x .size } in
+    back (queue-all-aside l (plan .core .permissions) kind d 256 g own (mark-aside l start plan kind d j own m ne) j ne) .like

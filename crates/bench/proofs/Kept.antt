@@ -105,7 +105,7 @@ module _ (plan : Plan) (sent : List ℕ) (q : ℕ) (w : World) (P : World → Ty
 -- ---- a round
 
 module _ (plan : Plan) (held : Held plan) where
-  arrives-sound : (sent : List ℕ) (q : ℕ) → q / 8 < devices plan → (w : World) → Sound plan (w .state) → Sound plan (arrives plan sent q w .state)
+  pub arrives-sound : (sent : List ℕ) (q : ℕ) → q / 8 < devices plan → (w : World) → Sound plan (w .state) → Sound plan (arrives plan sent q w .state)
   arrives-sound sent q h w x =
       arrives-cases plan sent q w (λ v. Sound plan (v .state)) x
       (λ kind k g l b. queue-all-sound plan held kind k (q / 8) q g l h _ (mark-step plan held x (q / 8) h kind k g l))

@@ -44,12 +44,12 @@ module _ (plan : Plan) where
       by-test false = omega arith
 
   -- nothing at a device
-  start-device : (i : ℕ) → i < 1056 → word (started plan) i ≡ 0
+  pub start-device : (i : ℕ) → i < 1056 → word (started plan) i ≡ 0
   start-device i h = start-word i (omega arith) ∙ rw (lt-leb 1056 i h)
 
   module _ (q : ℕ) (small : q < 256) where
     -- nothing waits at a port, and its search starts at 0
-    start-port : (i : ℕ) → i < 3 → word (started plan) (portAt q i) ≡ 0
+    pub start-port : (i : ℕ) → i < 3 → word (started plan) (portAt q i) ≡ 0
     start-port i h = start-word (portAt q i) (omega arith) ∙ rw (le-leb 1056 (portAt q i) (omega arith), ne-eqb (portAt q i % 4) 3 (omega arith))
 
     -- it runs where it is connected
@@ -73,7 +73,7 @@ module _ (plan : Plan) where
     start-loose : peer plan q ≡ nobody → running (started plan) q ≡ 0
     start-loose e = start-running ∙ rw (eq-eqb (peer plan q) nobody e)
 
-    start-joined : peer plan q < nobody → running (started plan) q ≡ 1
+    pub start-joined : peer plan q < nobody → running (started plan) q ≡ 1
     start-joined l = start-running ∙ rw (ne-eqb (peer plan q) nobody (omega arith))
 
   pub started-sound : Held plan → Sound plan (started plan)

@@ -61,19 +61,19 @@ unqueued-low old q i s h = by-choice (chosen old q) refl
         rw (e, unqueued)
         (word-other _ (portAt q 2) _ i (omega arith) ∙ word-other _ (portAt q 1) _ i (omega arith) ∙ word-other s (portAt q 0) _ i (omega arith))
 
-posted-low : (plan : Plan) (old : State) (i : ℕ) (s : State) → i < 1056 → word (posted plan old s) i ≡ word s i
+pub posted-low : (plan : Plan) (old : State) (i : ℕ) (s : State) → i < 1056 → word (posted plan old s) i ≡ word s i
 unfolding posted
 posted-low plan old i s h = untouched (unqueued old) (λ t. word t i) (8 * devices plan) (λ q t l. unqueued-low old q i t h) s
 
 -- a mark changes its register and its timer
-mark-other : (plan : Plan) (kind d k i : ℕ) (s : State) → i ≢ registerAt d → i ≢ timerAt d k → word (mark plan kind d k s) i ≡ word s i
+pub mark-other : (plan : Plan) (kind d k i : ℕ) (s : State) → i ≢ registerAt d → i ≢ timerAt d k → word (mark plan kind d k s) i ≡ word s i
 unfolding mark
 mark-other plan kind d k i s a b = word-other _ (timerAt d k) _ i b ∙ word-other s (registerAt d) _ i a
 
 -- ---- one tick
 
 module _ (isRouter : Bool) (d k : ℕ) (w : World) where
-  tick-other : (i : ℕ) → i ≢ registerAt d → i ≢ timerAt d k → word (tick isRouter d k w .state) i ≡ word (w .state) i
+  pub tick-other : (i : ℕ) → i ≢ registerAt d → i ≢ timerAt d k → word (tick isRouter d k w .state) i ≡ word (w .state) i
   tick-other i a b =
       tick-cases isRouter d k w (λ v. word (v .state) i ≡ word (w .state) i) (λ e. refl)
       (λ e. word-other _ (timerAt d k) 0 i b ∙ word-other (w .state) (registerAt d) _ i a)
@@ -115,7 +115,7 @@ module _ (isRouter : Bool) (d k : ℕ) (w : World) where
 -- ---- all ticks
 
 -- a sound state's bit says whether the timer runs
-timed-bit : {s : State} {d k : ℕ} → Timed s d k → (timer s d k ≡ 0 → bit (register s d) k ≡ 0) × (1 ≤ timer s d k → bit (register s d) k ≡ 1)
+pub timed-bit : {s : State} {d k : ℕ} → Timed s d k → (timer s d k ≡ 0 → bit (register s d) k ≡ 0) × (1 ≤ timer s d k → bit (register s d) k ≡ 1)
 timed-bit {s} {d} {k} t =
     let two = bit-two (register s d) k in
     elim (ℕ-discrete (bit (register s d) k) 0) [
@@ -142,7 +142,7 @@ module _ (plan : Plan) (held : Held plan) (d k : ℕ) (h : d < devices plan) (l 
   turn-other i v ne = tick-other (router plan (i / 32)) (i / 32) (i % 32) v (timerAt d k) (omega arith) (omega arith)
 
   module _ (w : World) (x : Sound plan (w .state)) where
-    ticked-timer : timer (ticked plan w .state) d k ≡ timer (w .state) d k - 1
+    pub ticked-timer : timer (ticked plan w .state) d k ≡ timer (w .state) d k - 1
     unfolding ticked
     ticked-timer =
         let n = few plan held in

@@ -24,7 +24,7 @@ unfolding bit
 bit-two x zero = omega arith
 bit-two x (suc k) = bit-two (x / 2) k
 
-bit-or : (k a b : ℕ) → bit (bitOr a b) k ≡ max (bit a k) (bit b k)
+pub bit-or : (k a b : ℕ) → bit (bitOr a b) k ≡ max (bit a k) (bit b k)
 unfolding bit
 bit-or zero a b = omega (arith, or-step a b)
 bit-or (suc k) a b = ap (λ (x : ℕ). bit x k) (omega (arith, or-step a b)) ∙ bit-or k (a / 2) (b / 2)

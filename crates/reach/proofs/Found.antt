@@ -15,12 +15,12 @@ use Rattle.reach.specs.Visits.{visited}
 use Rattle.reach.proofs.Ahead.{leads-ahead, ahead-leads}
 use Rattle.reach.proofs.Steps.{joined, Ports, port-keeps, port-stays, port-done}
 
-module _ (plan : Plan) (s : State) (d : ℕ) where
-  -- no crossings away there is the device itself
-  here : {n e : ℕ} → Walk plan s 0 d n e → n ≡ 0 → e ≡ d
-  here stay z = refl
-  here (cross w on p l leads) z = absurd (omega arith)
+-- no crossings away there is the device itself
+pub none-away : {plan : Plan} {s : State} {kind d n e : ℕ} → Walk plan s kind d n e → n ≡ 0 → e ≡ d
+none-away stay z = refl
+none-away (cross w on p l leads) z = absurd (omega arith)
 
+module _ (plan : Plan) (s : State) (d : ℕ) where
   abbrev There : ℕ → Type 0
   There e = (n : ℕ) × Walk plan s 0 d n e
 
@@ -70,7 +70,7 @@ module _ (plan : Plan) (s : State) (d : ℕ) where
     found-all stay = (h, found-source)
     found-all (cross {d = m} {e = e} w on p l leads) =
         let far = leads-ahead plan s (8 * m + p) e leads in
-        let from : From m = elim on [ inl z ↦ rw (here w z) from-source | inr r ↦ from-router m (found-all w .1) r ] in
+        let from : From m = elim on [ inl z ↦ rw (none-away w z) from-source | inr r ↦ from-router m (found-all w .1) r ] in
         (far .1, rw (far .0) at (from p (omega arith) l (rw (far .0) (far .1))))
 
     pub visits-reach : Reached plan s d (visited plan s d)
