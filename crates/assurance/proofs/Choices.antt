@@ -1,0 +1,140 @@
+-- What a port sends of one code, and what waiting for it tells of the port; in a sound state.
+use mathlib.Core.Path.{_≡_, refl, ap, _∙_}
+use mathlib.Core.Bool.{Bool, true, false}
+use mathlib.Core.Logic.{_⊎_, inl, inr, _≢_, dite}
+use Prim.Native.Nat.{ℕ, zero, suc, _+_, _-_, _*_, _/_, _%_, _<_, max}
+use native.Mathlib.Decide.{ℕ-discrete, decLt}
+use native.Mathlib.Nat.{add-zero}
+use native.Mathlib.Omega.{arith}
+use lib.Bits.{bitOr}
+use lib.ListN.{getD, List·getD-eq-default}
+use borrow.Author.Tests.{le-ltb}
+use Rattle.areas.proofs.Tables.{length-table, getD-table}
+use Rattle.bits.specs.Set.{bit}
+use Rattle.bits.specs.First.{Finds, after}
+use Rattle.bits.specs.declared.Found.{Found}
+use Rattle.bits.specs.declared.Found.the-variants.{At, Nowhere}
+use Rattle.bits.proofs.Sets.{bit-two, bit-or, bit-zero}
+use Rattle.bits.proofs.Firsts.{firstFrom-finds}
+use Rattle.device.specs.Permissions.{maySend}
+use Rattle.plan.specs.Reading.{Held}
+use Rattle.plan.specs.declared.Plan.{Plan}
+use Rattle.bench.specs.State.{State, word, portAt, waiting, next, running}
+use Rattle.bench.specs.Network.{devices, exists, permissions}
+use Rattle.bench.specs.Sound.{Kept, Sound}
+use Rattle.bench.specs.Round.{chosen, sentBytes}
+use Rattle.bench.specs.Alike.{SendsIt}
+use Rattle.bench.proofs.Plans.{owned}
+use Rattle.bench.proofs.Stepped.{post-interrupt, post-acknowledge}
+use Rattle.bench.proofs.Apart.{sent-at, sends-chosen, chosen-sends}
+use Rattle.assurance.proofs.Sights.{passed-over}
+
+-- ---- ports of a sound state
+
+module _ (plan : Plan) (held : Held plan) {s : State} (x : Sound plan s) (q : ℕ) (small : q < 256) where
+  -- a port where a word is not 0 exists
+  there : (i : ℕ) → i < 4 → word s (portAt q i) ≢ 0 → exists plan q ≡ true
+  there i l n = by-test (exists plan q) refl
+    where
+      by-test : (t : Bool) → exists plan q ≡ t → exists plan q ≡ true
+      by-test true e = e
+      by-test false e = absurd (n (x .no-port q i small e l))
+
+  -- a port that runs exists, and belongs to a device of the plan
+  pub runs-there : running s q ≡ 1 → exists plan q ≡ true
+  runs-there r = there 3 (omega arith) (λ e. omega arith)
+
+  -- a code waits only where the port runs and may send it
+  module _ (kind k : ℕ) (g : kind < 2) (b : bit (waiting s kind q) k ≡ 1) where
+    some : waiting s kind q ≢ 0
+    some e = omega (arith, ap (λ v. bit v k) e, bit-zero k)
+
+    pub waits-there : exists plan q ≡ true
+    waits-there = there kind (omega arith) some
+
+    pub waits-runs : running s q ≡ 1
+    waits-runs =
+        let p : Kept plan s q = x .ports q small waits-there in
+        elim (ℕ-discrete (running s q) 0) [ yes e ↦ absurd (some (p .stopped e kind g)) | no n ↦ omega (arith, p .flag) ]
+
+    pub waits-may : maySend kind (permissions plan q) ≡ true
+    waits-may = by-test (maySend kind (permissions plan q)) refl
+      where
+        by-test : (t : Bool) → maySend kind (permissions plan q) ≡ t → maySend kind (permissions plan q) ≡ true
+        by-test true e = e
+        by-test false e = absurd (some (x .ports q small waits-there .mute kind g e))
+
+    pub waits-owned : q / 8 < devices plan
+    waits-owned = owned plan held q small waits-there
+
+-- ---- what is sent
+
+-- only a port of a device sends
+pub sends-small : (plan : Plan) (k kind : ℕ) (s : State) (q : ℕ) → k < 32 → kind < 2 → SendsIt plan k s kind q → q < 256
+unfolding sentBytes
+sends-small plan k kind s q l g e =
+    dite (decLt q 256) (λ b. b)
+    (λ n.
+    let none : getD (sentBytes plan s) q 256 ≡ 256 = List·getD-eq-default (sentBytes plan s) 256 (rw length-table (omega arith)) in
+    absurd (omega arith))
+
+pub sends-inside : (plan : Plan) (k kind : ℕ) (s : State) (q : ℕ) → k < 32 → kind < 2 → SendsIt plan k s kind q → q < 8 * devices plan
+unfolding sentBytes
+sends-inside plan k kind s q l g e =
+    let h = sends-small plan k kind s q l g e in
+    dite (decLt q (8 * devices plan)) (λ b. b)
+    (λ n. let none : getD (sentBytes plan s) q 256 ≡ 256 = getD-table 256 _ q 256 h ∙ rw (le-ltb q (8 * devices plan) (omega arith)) in absurd (omega arith))
+
+module _ (plan : Plan) (held : Held plan) (k : ℕ) (l : k < 32) (s : State) (q : ℕ) (h : q < 8 * devices plan) where
+  -- k waits here, as the kind or as the other
+  waiting-of : (kind : ℕ) → kind < 2 → bit (bitOr (waiting s 0 q) (waiting s 1 q)) k ≡ max (bit (waiting s kind q) k) (bit (waiting s (1 - kind) q) k)
+  waiting-of zero g = bit-or k (waiting s 0 q) (waiting s 1 q)
+  waiting-of (suc zero) g = omega (arith, bit-or k (waiting s 0 q) (waiting s 1 q))
+  waiting-of (suc (suc n)) g = absurd (omega arith)
+
+  found : (c : Found) → chosen s q ≡ c → Finds (bitOr (waiting s 0 q) (waiting s 1 q)) (next s q) c
+  unfolding chosen
+  found c e = rw e at (firstFrom-finds (bitOr (waiting s 0 q) (waiting s 1 q)) (next s q))
+
+  -- what is sent waits
+  pub sent-waits : (kind : ℕ) → kind < 2 → SendsIt plan k s kind q → bit (waiting s kind q) k ≡ 1
+  unfolding Finds
+  sent-waits kind g e =
+      let o = sends-chosen l plan held s q h kind g e in
+      let m = found (At k) o .member in
+      elim (ℕ-discrete (bit (word s (1056 + 4 * q)) k) 1) [
+        | yes y ↦ let is : kind ≡ 0 = omega (arith, sent-at l plan held s q h, post-interrupt s q o y) in rw (is, add-zero) y
+        | no n ↦
+            let is : kind ≡ 1 = omega (arith, sent-at l plan held s q h, post-acknowledge s q o n) in
+            rw is (omega (arith, rw add-zero at (waiting-of 0 (omega arith)), rw add-zero at m, bit-two (word s (1056 + 4 * q)) k, bit-two (waiting s 1 q) k))
+      ]
+
+  module _ (kind : ℕ) (g : kind < 2) (other : bit (waiting s (1 - kind) q) k ≡ 0) where
+    -- where k is chosen, it is sent as the kind in which it waits
+    chosen-of-kind : chosen s q ≡ At k → SendsIt plan k s kind q
+    chosen-of-kind o =
+        let c = chosen-sends l plan held s q h o in
+        elim (ℕ-discrete (c .0) kind) [
+          | yes e ↦ rw e at (c .2)
+          | no n ↦
+              let is : c .0 ≡ 1 - kind = omega (arith, c .1) in
+              absurd (omega (arith, ap (λ v. bit (waiting s v q) k) is, sent-waits (c .0) (c .1) (c .2)))
+        ]
+
+    -- a waiting code is sent, or another is and k comes nearer
+    pub chosen-or-nearer : bit (waiting s kind q) k ≡ 1
+        → SendsIt plan k s kind q ⊎ ((j : ℕ) × (chosen s q ≡ At j) × (j ≢ k) × (after ((j + 1) % 32) k < after (next s q) k))
+    unfolding Finds
+    chosen-or-nearer b = by-choice (chosen s q) refl
+      where
+        all : bit (bitOr (waiting s 0 q) (waiting s 1 q)) k ≡ 1
+        all = omega (arith, waiting-of kind g)
+
+        by-choice : (c : Found) → chosen s q ≡ c
+            → SendsIt plan k s kind q ⊎ ((j : ℕ) × (chosen s q ≡ At j) × (j ≢ k) × (after ((j + 1) % 32) k < after (next s q) k))
+        by-choice Nowhere e = absurd (omega (arith, all, found Nowhere e k l))
+        by-choice (At j) e =
+            elim (ℕ-discrete j k) [
+              | yes o ↦ inl (chosen-of-kind (e ∙ ap At o))
+              | no n ↦ inr (j, e, n, passed-over k (found (At j) e) l all n)
+            ]

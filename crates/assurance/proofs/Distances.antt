@@ -1,0 +1,179 @@
+-- How many crossings away a device is can be decided, some device is the farthest, and those within its distance are those reached.
+use mathlib.Core.Path.{_≡_, refl, sym, subst}
+use mathlib.Core.Bool.{Bool, true, false, Bool-discrete}
+use mathlib.Core.Logic.{_⊎_, inl, inr, Dec·and, Dec·not}
+use Prim.Native.Nat.{ℕ, zero, suc, _+_, _*_, _/_, _%_, _≤_, _<_}
+use native.Mathlib.Decide.{map-dec, decLt, decLe, ℕ-discrete, le-ind}
+use native.Mathlib.Omega.{arith}
+use Rattle.bits.specs.Set.{bit}
+use Rattle.device.specs.Permissions.{maySend, mayReceive}
+use Rattle.plan.specs.Fields.{nobody}
+use Rattle.plan.specs.Reading.{Held}
+use Rattle.plan.specs.declared.Plan.{Plan}
+use Rattle.bench.specs.State.{State, running}
+use Rattle.bench.specs.Network.{devices, router, exists, peer, permissions}
+use Rattle.bench.proofs.Plans.{few, owned, absent-loose, far-end}
+use Rattle.reach.specs.Walk.{Leads, Walk, stay, cross}
+use Rattle.reach.specs.Reach.{Reached}
+use Rattle.reach.proofs.Found.{none-away}
+use Rattle.assurance.specs.Demand3.{Away, Farthest}
+use Rattle.assurance.proofs.Deciding.{either?, some-below, first-up-to, count, count-le, count-gains}
+
+-- ---- one crossing
+
+module _ (plan : Plan) (s : State) (kind q : ℕ) where
+  leads? : (e : ℕ) → Dec (Leads plan s kind q e)
+  leads? e =
+      map-dec
+      (λ w. record { runs = w .0; sends = w .1 .0; joined = w .1 .1 .0; receives = w .1 .1 .1 .0; there = w .1 .1 .1 .1 })
+      (λ l. (l .runs, (l .sends, (l .joined, (l .receives, l .there)))))
+      (Dec·and (ℕ-discrete (running s q) 1)
+      (Dec·and (Bool-discrete (maySend kind (permissions plan q)) true)
+      (Dec·and (decLt (peer plan q) nobody)
+      (Dec·and (Bool-discrete (mayReceive kind (permissions plan (peer plan q))) true) (ℕ-discrete e (peer plan q / 8))))))
+
+  -- a port leads to a device of the plan
+  leads-device : Held plan → (e : ℕ) → q < 256 → Leads plan s kind q e → e < devices plan
+  leads-device held e h l = rw (l .there) (by-test (exists plan q) refl)
+    where
+      by-test : (b : Bool) → exists plan q ≡ b → peer plan q / 8 < devices plan
+      by-test true x = owned plan held (peer plan q) (l .joined) (far-end plan held q h x (l .joined) .far)
+      by-test false x = absurd (omega (arith, l .joined, absent-loose plan held q h x))
+
+-- ---- walks from a device of the plan
+
+module _ (plan : Plan) (held : Held plan) (s : State) (kind from : ℕ) (h : from < devices plan) where
+  abbrev Far : ℕ → ℕ → Type 0
+  Far = Walk plan s kind from
+
+  pub walk-device : {n e : ℕ} → Far n e → e < devices plan
+  walk-device stay = h
+  walk-device (cross {d = d} {e = e} w on p l leads) =
+      leads-device plan s kind (8 * d + p) held e (omega (arith, walk-device w, few plan held)) leads
+
+  -- a device goes on from n crossings away: it is where the walk starts, or a router
+  abbrev On : ℕ → ℕ → Type 0
+  On n d = (n ≡ 0) ⊎ (router plan d ≡ true)
+
+  -- one crossing more, by port q
+  pub walk-port : {n e : ℕ} (q : ℕ) → Far n (q / 8) → On n (q / 8) → Leads plan s kind q e → Far (suc n) e
+  walk-port {e = e} q w on leads =
+      let whole : q ≡ 8 * (q / 8) + q % 8 = omega arith in
+      cross w on (q % 8) (omega arith) (subst (λ r. Leads plan s kind r e) whole leads)
+
+  -- port q is the last on a walk to e
+  record Last (n e q : ℕ) : Type 0 where
+    near : Far n (q / 8)
+    on : On n (q / 8)
+    leads : Leads plan s kind q e
+
+  last-port : {m e : ℕ} → Far m e → (n : ℕ) → m ≡ suc n → (q : ℕ) × (q < 256) × Last n e q
+  last-port stay n z = absurd (omega arith)
+  last-port (cross {n = m} {d = d} {e = e} w on p l leads) n z =
+      let same : m ≡ n = omega arith in
+      let device : (8 * d + p) / 8 ≡ d = omega arith in
+      (8 * d + p, omega (arith, walk-device w, few plan held), subst (λ i. Last i e (8 * d + p)) same (record { near = rw device w; on = rw device on; leads = leads }))
+
+  last? : (n e q : ℕ) → Dec (Far n (q / 8)) → Dec (Last n e q)
+  last? n e q w? =
+      map-dec
+      (λ x. record { near = x .0; on = x .1 .0; leads = x .1 .1 })
+      (λ x. (x .near, (x .on, x .leads)))
+      (Dec·and w? (Dec·and (either? (ℕ-discrete n 0) (Bool-discrete (router plan (q / 8)) true)) (leads? plan s kind q e)))
+
+  pub walk? : (n e : ℕ) → Dec (Far n e)
+  walk? zero e = map-dec (λ q. subst (Far 0) (sym q) stay) (λ w. none-away w refl) (ℕ-discrete e from)
+  walk? (suc n) e =
+      map-dec (λ x. walk-port (x .0) (x .2 .near) (x .2 .on) (x .2 .leads)) (λ w. last-port w n refl)
+      (some-below (Last n e) (λ q. last? n e q (walk? n (q / 8))) 256)
+
+  -- ---- the fewest crossings
+
+  abbrev At : ℕ → ℕ → Type 0
+  At = Away plan s kind from
+
+  pub nearest : {n e : ℕ} → Far n e → (m : ℕ) × (m ≤ n) × At m e
+  nearest {n} {e} w =
+      let x = first-up-to (λ m. Far m e) (λ m. walk? m e) n w in
+      (x .0, x .1, record { there = x .2 .is; least = x .2 .none-before })
+
+  away? : (n e : ℕ) → Dec (At n e)
+  away? n e =
+      map-dec
+      (λ x. record { there = x .0; least = λ m l w. x .1 (m, l, w) })
+      (λ a. (a .there, λ x. a .least (x .0) (x .1) (x .2)))
+      (Dec·and (walk? n e) (Dec·not (some-below (λ m. Far m e) (λ m. walk? m e) n)))
+
+  -- ---- the farthest: some device is 0 crossings away, and so on without a gap, and each time there are more devices within reach
+
+  abbrev Some : ℕ → Type 0
+  Some n = (e : ℕ) × At n e
+
+  some? : (n : ℕ) → Dec (Some n)
+  some? n =
+      map-dec (λ x. (x .0, x .2)) (λ x. (x .0, omega (arith, walk-device (x .1 .there), few plan held), x .1)) (some-below (At n) (away? n) 32)
+
+  -- the device before is one crossing nearer
+  before : (n : ℕ) → Some (suc n) → Some n
+  before n x =
+      let y = last-port (x .1 .there) n refl in (
+        y .0 / 8,
+        record {
+          there = y .2 .near;
+          least = λ m l w. x .1 .least (suc m) (omega arith) (walk-port (y .0) w (elim (y .2 .on) [ inl z ↦ absurd (omega arith) | inr r ↦ inr r ]) (y .2 .leads));
+        },
+      )
+
+  down : (n m : ℕ) → n ≤ m → Some m → Some n
+  down n = le-ind (λ m. Some m → Some n) (λ x. x) (λ m _ ih x. ih (before m x))
+
+  abbrev Near : ℕ → ℕ → Type 0
+  Near n e = (m : ℕ) × (m < suc n) × Far m e
+
+  near? : (n e : ℕ) → Dec (Near n e)
+  near? n e = some-below (λ m. Far m e) (λ m. walk? m e) (suc n)
+
+  -- how many devices are within n crossings
+  abbrev near : ℕ → ℕ
+  near n = count (Near n) (near? n) 32
+
+  gains : (n : ℕ) → Some (suc n) → near n < near (suc n)
+  gains n x =
+      count-gains (Near n) (Near (suc n)) (near? n) (near? (suc n)) (λ e y. (y .0, omega (arith, y .1), y .2))
+      32 (x .0) (omega (arith, walk-device (x .1 .there), few plan held))
+      (suc n, omega arith, x .1 .there) (λ y. x .1 .least (y .0) (y .1) (y .2))
+
+  -- some device is n crossings away; look on from there
+  from-here : (left n : ℕ) → n + left ≡ 33 → Some n → n ≤ near n → (D : ℕ) × Farthest plan s kind from D
+  from-here zero n e x l = absurd (omega (arith, count-le (Near n) (near? n) 32))
+  from-here (suc left) n e x l =
+      elim (some? (suc n)) [
+        | yes y ↦ from-here left (suc n) (omega arith) y (omega (arith, gains n y))
+        | no none ↦ (
+          n,
+          record {
+            some = x;
+            most = λ m d a. elim (decLe m n) [ yes g ↦ g | no g ↦ absurd (none (down (suc n) m (omega arith) (d, a))) ];
+          },
+        )
+      ]
+
+  pub farthest : (D : ℕ) × Farthest plan s kind from D
+  farthest = from-here 33 0 (omega arith) (from, record { there = stay; least = λ m l w. omega arith }) (omega arith)
+
+pub farthest-once : (plan : Plan) (s : State) (kind from D E : ℕ) → Farthest plan s kind from D → Farthest plan s kind from E → D ≡ E
+farthest-once plan s kind from D E x y = omega (arith, x .most E (y .some .0) (y .some .1), y .most D (x .some .0) (x .some .1))
+
+-- ---- those within that distance are those that reach answers with
+
+module _ (plan : Plan) (held : Held plan) (s : State) (from D set : ℕ) (h : from < devices plan) (x : Farthest plan s 0 from D) (y : Reached plan s from set) where
+  abbrev Counted : ℕ → Type 0
+  Counted e = (n : ℕ) × (n ≤ D) × Away plan s 0 from n e
+
+  pub reached-counted : (e : ℕ) → e < 32 → bit set e ≡ 1 → Counted e
+  reached-counted e l b =
+      let a = nearest plan held s 0 from h (y .only e l b .1) in
+      (a .0, x .most (a .0) e (a .2), a .2)
+
+  pub counted-reached : (e : ℕ) → Counted e → (e < 32) × (bit set e ≡ 1)
+  counted-reached e a = y .all (a .0) e (a .2 .there)

@@ -1,0 +1,16 @@
+pub mod Nets
+pub mod Sights
+pub mod Choices
+pub mod Taking
+pub mod Fits
+pub mod Posted
+pub mod Meets
+pub mod Arrivals
+pub mod Wave
+pub mod Begun
+pub mod Meanwhile
+pub mod Runs
+pub mod Deciding
+pub mod Distances
+pub mod Crossings
+pub mod Demand

@@ -1,0 +1,63 @@
+-- What hosts do for other identifiers changes nothing that concerns k, moves no port's next, and keeps the state sound.
+use mathlib.Core.Path.{_≡_, refl, sym, subst, _∙_}
+use Prim.Native.Nat.{ℕ, zero, suc, _≤_, _<_}
+use native.Mathlib.Decide.{ℕ-discrete}
+use native.Mathlib.Omega.{arith}
+use Rattle.answers.proofs.Outcomes.{holds}
+use Rattle.plan.specs.Reading.{Held}
+use Rattle.plan.specs.declared.Plan.{Plan}
+use Rattle.bench.specs.State.{State, next}
+use Rattle.bench.specs.Sound.{Sound}
+use Rattle.bench.specs.Calls.{callAsks}
+use Rattle.bench.specs.Round.{round}
+use Rattle.bench.specs.Alike.{Alike}
+use Rattle.bench.proofs.Apart.{alike-same, call-apart}
+use Rattle.bench.proofs.Called.{call-sound}
+use Rattle.bench.proofs.Kept.{round-sound}
+use Rattle.bench.proofs.Plans.{few}
+use Rattle.assurance.specs.Demand3.{Calls, none, then, Course}
+use Rattle.assurance.proofs.Taking.{called-took}
+
+pub alike-then : {k : ℕ} {s t u : State} → Alike k s t → Alike k t u → Alike k s u
+alike-then a b =
+    record {
+      marks = λ d h. a .marks d h ∙ b .marks d h;
+      timers = λ d h. a .timers d h ∙ b .timers d h;
+      waits = λ kind q g h. a .waits kind q g h ∙ b .waits kind q g h;
+      runs = λ q h. a .runs q h ∙ b .runs q h;
+    }
+
+-- what s becomes where nothing that is done concerns k
+pub record Beside (plan : Plan) (k : ℕ) (s t : State) : Type 0 where
+  pub sound : Sound plan t
+  pub like : Alike k s t
+  pub turns : (q : ℕ) → next t q ≡ next s q
+
+module _ (plan : Plan) (held : Held plan) (k : ℕ) (l : k < 32) where
+  calls-beside : {s t : State} → Sound plan s → Calls plan k s t → Beside plan k s t
+  calls-beside {s} x none = record { sound = x; like = alike-same k s; turns = λ q. refl }
+  calls-beside {s} x (then {t = t} {u = u} kind d j number before g call other) =
+      let b = calls-beside x before in
+      elim (ℕ-discrete number 0) [
+        | yes z ↦
+            let asked = holds (callAsks plan kind d j t) refl (call .answers) z in
+            let h = asked .1 .1 .0 in
+            let m = asked .1 .1 .1 .0 in
+            subst (Beside plan k s) (sym (call .made z)) (record {
+              sound = call-sound plan held t (b .sound) kind d j g h m;
+              like = alike-then (b .like) (call-apart plan held t (b .sound) k l kind d j g h m (other z));
+              turns = λ q. called-took plan kind j g m d (omega (arith, h, few plan held)) t (b .sound .size) .turns q ∙ b .turns q;
+            })
+        | no n ↦ subst (Beside plan k s) (sym (call .kept n)) b
+      ]
+
+  module _ (rounds : ℕ) (s : State) (at : ℕ → State) (x : Sound plan s) (course : Course plan k rounds s at) where
+    course-sound : (t : ℕ) → t ≤ rounds → Sound plan (at t)
+    course-sound zero h = calls-beside x (course .begins) .sound
+    course-sound (suc t) h = calls-beside (round-sound plan held (at t) (course-sound t (omega arith))) (course .goes-on t h) .sound
+
+    pub course-begins : Beside plan k s (at 0)
+    course-begins = calls-beside x (course .begins)
+
+    pub course-goes-on : (t : ℕ) → t < rounds → Beside plan k (round plan (at t) .next) (at (suc t))
+    course-goes-on t h = calls-beside (round-sound plan held (at t) (course-sound t (omega arith))) (course .goes-on t h)

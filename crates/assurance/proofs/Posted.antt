@@ -1,0 +1,202 @@
+-- The first two steps of a round, as a code sees them: no timer of its identifier ends, and where it is sent it waits no more.
+use mathlib.Core.Path.{_≡_, refl, sym, ap, _∙_}
+use mathlib.Core.List.{[]}
+use mathlib.Core.Logic.{_≢_}
+use Prim.Native.Nat.{ℕ, zero, suc, _+_, _-_, _*_, _/_, _%_, _<_}
+use native.Mathlib.Decide.{ℕ-discrete}
+use native.Mathlib.Omega.{arith}
+use lib.ListN.{length}
+use Rattle.areas.proofs.Loops.{untouched, own}
+use Rattle.bits.specs.Set.{bit, leave}
+use Rattle.bits.specs.First.{following}
+use Rattle.bits.specs.declared.Found.{Found}
+use Rattle.bits.specs.declared.Found.the-variants.{At, Nowhere}
+use Rattle.bits.proofs.Sets.{bit-two, leave-same, leave-other}
+use Rattle.plan.specs.Reading.{Held}
+use Rattle.plan.specs.declared.Plan.{Plan}
+use Rattle.bench.specs.State.{State, word, put, registerAt, timerAt, portAt, register, timer, waiting, next, running}
+use Rattle.bench.specs.Network.{devices, router}
+use Rattle.bench.specs.Sound.{Sound}
+use Rattle.bench.specs.Round.{World, chosen, unqueued, ticked, posted, afterTimers, afterSending}
+use Rattle.bench.specs.Alike.{SendsIt}
+use Rattle.bench.proofs.Words.{length-put, word-same, word-other}
+use Rattle.bench.proofs.Plans.{few}
+use Rattle.bench.proofs.Marks.{ticked-sound}
+use Rattle.bench.proofs.Waits.{posted-sound}
+use Rattle.bench.proofs.Timers.{turn, tick-other, timed-bit, ticked-timer, posted-low}
+use Rattle.bench.proofs.Apart.{sends-chosen}
+use Rattle.assurance.proofs.Choices.{waits-owned}
+use Rattle.assurance.proofs.Fits.{Fit}
+
+-- ---- one port sends
+
+-- what a choice leaves of a waiting set
+unfoldable left : Found → ℕ → ℕ
+left (At j) v = leave v j
+left Nowhere v = v
+
+left-fewer : (c : Found) (v k : ℕ) → k < 32 → bit (left c v) k ≡ 1 → bit v k ≡ 1
+unfolding left
+left-fewer Nowhere v k l b = b
+left-fewer (At j) v k l b =
+    elim (ℕ-discrete k j) [
+      | yes e ↦ absurd (omega (arith, leave-same v k l, ap (λ i. bit (leave v i) k) e))
+      | no ne ↦ sym (leave-other v j k l ne) ∙ b
+    ]
+
+module _ (old : State) (q : ℕ) (t : State) where
+  abbrev first : ℕ → State
+  first j = put t (portAt q 0) (leave (waiting t 0 q) j)
+
+  abbrev second : ℕ → State
+  second j = put (first j) (portAt q 1) (leave (waiting t 1 q) j)
+
+  unqueued-cases : (P : Found → State → Type 0) → (chosen old q ≡ Nowhere → P Nowhere t)
+      → ((j : ℕ) → chosen old q ≡ At j → P (At j) (put (second j) (portAt q 2) ((j + 1) % 32))) → P (chosen old q) (unqueued old q t)
+  unfolding unqueued following
+  unqueued-cases P none some = by-choice (chosen old q) refl
+    where
+      by-choice : (c : Found) → chosen old q ≡ c → P (chosen old q) (unqueued old q t)
+      by-choice Nowhere e = rw (e, unqueued) (none e)
+      by-choice (At j) e = rw (e, unqueued) (some j e)
+
+  unqueued-other : (i : ℕ) → i ≢ portAt q 0 → i ≢ portAt q 1 → i ≢ portAt q 2 → word (unqueued old q t) i ≡ word t i
+  unqueued-other i a b c =
+      unqueued-cases (λ r u. word u i ≡ word t i) (λ e. refl)
+      (λ j e. word-other (second j) (portAt q 2) _ i c ∙ word-other (first j) (portAt q 1) _ i b ∙ word-other t (portAt q 0) _ i a)
+
+  unqueued-size : length (unqueued old q t) ≡ length t
+  unqueued-size = unqueued-cases (λ r u. length u ≡ length t) (λ e. refl) (λ j e. length-put _ _ _ ∙ length-put _ _ _ ∙ length-put _ _ _)
+
+  module _ (h : q < 256) (size : length t ≡ 2080) where
+    unqueued-waits : (kind : ℕ) → kind < 2 → waiting (unqueued old q t) kind q ≡ left (chosen old q) (waiting t kind q)
+    unfolding left
+    unqueued-waits zero g =
+        unqueued-cases (λ r u. waiting u 0 q ≡ left r (waiting t 0 q)) (λ e. refl)
+        (λ j e. word-other (second j) (portAt q 2) _ (portAt q 0) (omega arith) ∙ word-other (first j) (portAt q 1) _ (portAt q 0) (omega arith)
+        ∙ word-same t (portAt q 0) _ (omega arith))
+    unqueued-waits (suc zero) g =
+        unqueued-cases (λ r u. waiting u 1 q ≡ left r (waiting t 1 q)) (λ e. refl)
+        (λ j e. word-other (second j) (portAt q 2) _ (portAt q 1) (omega arith)
+        ∙ word-same (first j) (portAt q 1) _ (omega (arith, length-put t (portAt q 0) (leave (waiting t 0 q) j))))
+    unqueued-waits (suc (suc n)) g = absurd (omega arith)
+
+    unqueued-next : next (unqueued old q t) q ≡ following (next t q) (chosen old q)
+    unfolding following
+    unqueued-next =
+        unqueued-cases (λ r u. next u q ≡ following (next t q) r) (λ e. refl)
+        (λ j e. word-same (second j) (portAt q 2) _
+        (omega (arith, length-put (first j) (portAt q 1) (leave (waiting t 1 q) j), length-put t (portAt q 0) (leave (waiting t 0 q) j))))
+
+-- ---- all timers fall, and all ports send
+
+module _ (plan : Plan) (held : Held plan) {s : State} (x : Sound plan s) where
+  abbrev start : World
+  start = record { state = s; told = [] }
+
+  abbrev falls : State
+  falls = afterTimers plan s .state
+
+  abbrev posts : State
+  posts = afterSending plan s .state
+
+  falls-sound : Sound plan falls
+  falls-sound = ticked-sound plan held start x
+
+  posts-sound : Sound plan posts
+  posts-sound = posted-sound plan held s x falls falls-sound
+
+  falls-port : (q i : ℕ) → word falls (portAt q i) ≡ word s (portAt q i)
+  unfolding ticked
+  falls-port q i =
+      let n = few plan held in
+      untouched (turn plan) (λ v. word (v .state) (portAt q i)) (32 * devices plan)
+      (λ j v b. tick-other (router plan (j / 32)) (j / 32) (j % 32) v (portAt q i) (omega arith) (omega arith)) start
+
+  posts-runs : (q : ℕ) → running posts q ≡ running s q
+  unfolding posted
+  posts-runs q =
+      untouched (unqueued s) (λ t. running t q) (8 * devices plan) (λ j t b. unqueued-other s j t (portAt q 3) (omega arith) (omega arith) (omega arith)) falls
+      ∙ falls-port q 3
+
+  -- a word of a port that only its own turn changes
+  posts-own : (q i : ℕ) (change : ℕ → ℕ) → q < 8 * devices plan → i < 3
+      → ((t : State) → length t ≡ 2080 → word (unqueued s q t) (portAt q i) ≡ change (word t (portAt q i))) → word posts (portAt q i) ≡ change (word s (portAt q i))
+  unfolding posted
+  posts-own q i change h b mine =
+      own (unqueued s) (λ t. length t ≡ 2080) (8 * devices plan) (λ j t c e. unqueued-size s j t ∙ e) (λ t. word t (portAt q i)) change q h
+      (λ j t c ne e. unqueued-other s j t (portAt q i) (omega arith) (omega arith) (omega arith)) mine falls (falls-sound .size)
+      ∙ ap change (falls-port q i)
+
+  posts-waits : (q kind : ℕ) → q < 8 * devices plan → kind < 2 → waiting posts kind q ≡ left (chosen s q) (waiting s kind q)
+  posts-waits q kind h g =
+      let n = few plan held in
+      posts-own q kind (left (chosen s q)) h (omega arith) (λ t e. unqueued-waits s q t (omega arith) e kind g)
+
+  pub posts-next : (q j : ℕ) → q < 8 * devices plan → chosen s q ≡ At j → next posts q ≡ (j + 1) % 32
+  unfolding following
+  posts-next q j h c =
+      let n = few plan held in
+      posts-own q 2 (λ v. following v (chosen s q)) h (omega arith) (λ t e. unqueued-next s q t (omega arith) e) ∙ ap (following (next s q)) c
+
+  module _ (k : ℕ) (l : k < 32) where
+    posts-timer : (d : ℕ) → d < devices plan → timer posts d k ≡ timer s d k - 1
+    posts-timer d h =
+        let n = few plan held in
+        posted-low plan s (timerAt d k) falls (omega arith) ∙ ticked-timer plan held d k h l start x
+
+    -- a timer that does not end leaves its bit
+    pub posts-marks : (d : ℕ) → d < devices plan → (bit (register s d) k ≡ 1 → 1 < timer s d k) → bit (register posts d) k ≡ bit (register s d) k
+    posts-marks d h long =
+        let n = few plan held in
+        let same : register posts d ≡ register falls d = posted-low plan s (registerAt d) falls (omega arith) in
+        let now = timed-bit (falls-sound .timers d k h (omega arith) l) in
+        let fell : timer falls d k ≡ timer s d k - 1 = ticked-timer plan held d k h l start x in
+        ap (λ v. bit v k) same ∙ elim (ℕ-discrete (bit (register s d) k) 1) [
+          | yes e ↦ let more = long e in now .1 (omega arith) ∙ sym e
+          | no ne ↦
+              let off : bit (register s d) k ≡ 0 = omega (arith, bit-two (register s d) k) in
+              now .0 (omega (arith, x .timers d k h (omega arith) l .off off)) ∙ sym off
+        ]
+
+    module _ (kind q : ℕ) (g : kind < 2) (h : q < 256) where
+      -- what waits after sending is inside, and waited before
+      posts-inside : bit (waiting posts kind q) k ≡ 1 → q < 8 * devices plan
+      posts-inside b = omega (arith, waits-owned plan held posts-sound q h kind k g b)
+
+      pub posts-waited : bit (waiting posts kind q) k ≡ 1 → bit (waiting s kind q) k ≡ 1
+      posts-waited b = left-fewer (chosen s q) (waiting s kind q) k l (ap (λ v. bit v k) (sym (posts-waits q kind (posts-inside b) g)) ∙ b)
+
+      -- what is sent waits no more
+      pub posts-unsent : bit (waiting posts kind q) k ≡ 1 → SendsIt plan k s kind q → ⊥
+      unfolding left
+      posts-unsent b e =
+          let i = posts-inside b in
+          let c = posts-waits q kind i g ∙ ap (λ r. left r (waiting s kind q)) (sends-chosen l plan held s q i kind g e) in
+          omega (arith, ap (λ v. bit v k) c, leave-same (waiting s kind q) k l)
+
+      -- what is not chosen waits on
+      pub posts-wait-on : (j : ℕ) → q < 8 * devices plan → chosen s q ≡ At j → j ≢ k → bit (waiting s kind q) k ≡ 1 → bit (waiting posts kind q) k ≡ 1
+      unfolding left
+      posts-wait-on j i c ne b =
+          ap (λ v. bit v k) (posts-waits q kind i g ∙ ap (λ r. left r (waiting s kind q)) c) ∙ leave-other (waiting s kind q) j k l (λ e. ne (sym e)) ∙ b
+
+-- ---- a state stays fit, with a round less to go
+
+pub fit-posts : (plan : Plan) (kind k : ℕ) (s₀ : State) (takers : ℕ → Type 0) → Held plan → kind < 2 → k < 32 → (u : ℕ) {s : State}
+    → Fit plan kind k s₀ takers (suc u) s → Fit plan kind k s₀ takers u (afterSending plan s .state)
+fit-posts plan kind k s₀ takers held g l u {s} f =
+    let marks : (d : ℕ) → d < devices plan → bit (register (afterSending plan s .state) d) k ≡ bit (register s d) k =
+    λ d h. posts-marks plan held (f .sound) k l d h (λ b. let more = f .long d h b in omega arith) in
+    record {
+      sound = posts-sound plan held (f .sound);
+      runs = λ q h. posts-runs plan held (f .sound) q ∙ f .runs q h;
+      other = λ q h.
+          let two = bit-two (waiting (afterSending plan s .state) (1 - kind) q) k in
+          elim (ℕ-discrete (bit (waiting (afterSending plan s .state) (1 - kind) q) k) 1) [
+            | yes e ↦ absurd (omega (arith, posts-waited plan held (f .sound) k l (1 - kind) q (omega arith) h e, f .other q h))
+            | no ne ↦ omega arith
+          ];
+      long = λ d h b. omega (arith, posts-timer plan held (f .sound) k l d h, f .long d h (sym (marks d h) ∙ b));
+      still = λ d h b. f .still d h (sym (marks d h) ∙ b);
+    }

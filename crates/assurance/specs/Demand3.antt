@@ -1,0 +1,81 @@
+-- RULES, "How an interrupt spreads": demand 3, clause by clause.
+use mathlib.Core.Path.{_≡_}
+use mathlib.Core.Logic.{_≢_}
+use Prim.Native.Nat.{ℕ, suc, _+_, _*_, _≤_, _<_}
+use Rattle.answers.specs.Ordered.{Ordered, Outcome}
+use Rattle.bits.specs.Set.{bit}
+use Rattle.plan.specs.Reading.{Held}
+use Rattle.plan.specs.declared.Plan.{Plan}
+use Rattle.bench.specs.State.{State, register, waiting}
+use Rattle.bench.specs.Network.{devices, loadOf}
+use Rattle.bench.specs.Sound.{Sound}
+use Rattle.bench.specs.Calls.{callAsks, called}
+use Rattle.bench.specs.Round.{round}
+use Rattle.bench.specs.Alike.{SendsIt}
+use Rattle.reach.specs.Walk.{Walk}
+
+-- ---- D, the most crossings that the code needs to any device it can reach
+
+-- device e is n crossings away, and no fewer
+pub record Away (plan : Plan) (s : State) (kind from n e : ℕ) : Type 0 where
+  pub there : Walk plan s kind from n e
+  pub least : (m : ℕ) → m < n → Walk plan s kind from m e → ⊥
+
+-- some device is D crossings away, and none is more
+pub record Farthest (plan : Plan) (s : State) (kind from D : ℕ) : Type 0 where
+  pub some : (e : ℕ) × Away plan s kind from D e
+  pub most : (n e : ℕ) → Away plan s kind from n e → n ≤ D
+
+-- ---- what happens meanwhile
+
+-- hosts call, as often as they like: they request (kind 0) and acknowledge (kind 1) any identifier at any device, refused or not; but no
+-- call for k is taken
+pub data Calls (plan : Plan) (k : ℕ) (s : State) : State → Type 0 where
+  none : Calls plan k s s
+  then : {t u : State} (kind d j number : ℕ) → Calls plan k s t → kind < 2
+      → Outcome (callAsks plan kind d j t) t (called plan kind d j t) number u → (number ≡ 0 → j ≢ k) → Calls plan k s u
+
+-- so many rounds are played from s on, each with calls after it; `at t` is the state after t rounds and the calls after them
+pub record Course (plan : Plan) (k rounds : ℕ) (s : State) (at : ℕ → State) : Type 0 where
+  pub begins : Calls plan k s (at 0)
+  pub goes-on : (t : ℕ) → t < rounds → Calls plan k (round plan (at t) .next) (at (suc t))
+
+-- ---- the demand
+
+abbrev pub window : ℕ → ℕ
+window D = 32 * (D + 1)
+
+-- port q sends k in the round that is played from s
+abbrev pub SendsK : Plan → ℕ → State → ℕ → Type 0
+SendsK plan k s q = (kind : ℕ) × (kind < 2) × SendsIt plan k s kind q
+
+module _ (plan : Plan) (k source D : ℕ) (s : State) where
+  pub record Given (at : ℕ → State) : Type 0 where
+    -- from any sound state and for one accepted plan
+    pub held : Held plan
+    pub sound : Sound plan s
+    -- k is unset, and not waiting anywhere
+    pub unset : (d : ℕ) → d < devices plan → bit (register s d) k ≡ 0
+    pub idle : (kind q : ℕ) → kind < 2 → q < 256 → bit (waiting s kind q) k ≡ 0
+    -- a source's request for it is taken
+    pub taken : Ordered (callAsks plan 0 source k s) 0
+    -- D is the most crossings that the code needs to any device it can reach
+    pub farthest : Farthest plan s 0 source D
+    -- for 32 x (D + 1) rounds nobody requests k again or acknowledges it; other identifiers are used as they may be
+    pub course : Course plan k (window D) (called plan 0 source k s) at
+    -- every timer load is longer than that
+    pub loads : (d : ℕ) → d < devices plan → window D < loadOf plan d k
+
+  pub record Follows (at : ℕ → State) : Type 0 where
+    -- a device n crossings away holds k by the end of round 32 x n and until the last round
+    pub holds : (n e t : ℕ) → Walk plan s 0 source n e → 32 * n ≤ t → t ≤ window D → bit (register (at t) e) k ≡ 1
+    -- none out of reach holds it in that time
+    pub no-other : (e t : ℕ) → e < devices plan → t ≤ window D → bit (register (at t) e) k ≡ 1 → (n : ℕ) × Walk plan s 0 source n e
+    -- no port sends k twice
+    pub once : (q t u : ℕ) → t < u → u < window D → SendsK plan k (at t) q → SendsK plan k (at u) q → ⊥
+    -- at the end no k waits
+    pub gone : (kind q : ℕ) → kind < 2 → q < 256 → bit (waiting (at (window D)) kind q) k ≡ 0
+
+-- demand 3
+unfoldable pub Demand3 : Type 0
+Demand3 = (plan : Plan) (k source D : ℕ) (s : State) (at : ℕ → State) → Given plan k source D s at → Follows plan k source D s at

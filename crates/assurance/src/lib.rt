@@ -1,0 +1,1 @@
+// The demands as theorems over the definitions of the other crates. No code.
