@@ -1,0 +1,4 @@
+pub mod Held
+pub mod Busy
+pub mod Given
+pub mod Late
