@@ -34,7 +34,7 @@ pub record Beside (plan : Plan) (k : ℕ) (s t : State) : Type 0 where
   pub turns : (q : ℕ) → next t q ≡ next s q
 
 module _ (plan : Plan) (held : Held plan) (k : ℕ) (l : k < 32) where
-  calls-beside : {s t : State} → Sound plan s → Calls plan k s t → Beside plan k s t
+  pub calls-beside : {s t : State} → Sound plan s → Calls plan k s t → Beside plan k s t
   calls-beside {s} x none = record { sound = x; like = alike-same k s; turns = λ q. refl }
   calls-beside {s} x (then {t = t} {u = u} kind d j number before g call other) =
       let b = calls-beside x before in

@@ -96,16 +96,19 @@ taken : Ordered (callAsks line 0 0 31 busy) 0
 unfolding line bit
 taken = asked 31 busy busy-sound (omega arith) refl runs-first (busy-unset 31 (omega arith) (omega arith) 0 (omega arith))
 
+pub requested-sound : Sound line (called line 0 0 31 busy)
+unfolding line
+requested-sound = call-sound line line-held busy busy-sound 0 0 31 (omega arith) (omega arith) (omega arith)
+
 -- then 30 is requested
 begins : Calls line 31 (called line 0 0 31 busy) (course 0)
 unfolding line bit course
 begins =
     let like = call-apart line line-held busy busy-sound 30 (omega arith) 0 0 31 (omega arith) (omega arith) (omega arith) (λ e. omega arith) in
-    let sound = call-sound line line-held busy busy-sound 0 0 31 (omega arith) (omega arith) (omega arith) in
     let unset = busy-unset 30 (omega arith) (omega arith) 0 (omega arith) in
     then {t = called line 0 0 31 busy} 0 0 30 0 none (omega arith)
     (record {
-      answers = asked 30 (called line 0 0 31 busy) sound (omega arith) refl (sym (like .runs 0 (omega arith)) ∙ runs-first) (sym (like .marks 0 (omega arith)) ∙ unset);
+      answers = asked 30 (called line 0 0 31 busy) requested-sound (omega arith) refl (sym (like .runs 0 (omega arith)) ∙ runs-first) (sym (like .marks 0 (omega arith)) ∙ unset);
       made = λ e. refl;
       kept = λ n. absurd (n refl);
     })

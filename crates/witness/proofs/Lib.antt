@@ -2,3 +2,4 @@ pub mod Held
 pub mod Busy
 pub mod Given
 pub mod Late
+pub mod Copied

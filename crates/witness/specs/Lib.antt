@@ -1,2 +1,3 @@
 pub mod Line
 pub mod Rate
+pub mod Copying
