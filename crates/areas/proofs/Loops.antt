@@ -2,6 +2,7 @@
 use mathlib.Core.Path.{_≡_, refl, ap, subst, _∙_}
 use mathlib.Core.Logic.{_⊎_, inl, inr, _≢_}
 use Prim.Native.Nat.{ℕ, zero, suc, _+_, _≤_, _<_}
+use native.Mathlib.Nat.{add-zero, add-suc}
 use native.Mathlib.Decide.{ℕ-discrete}
 use native.Mathlib.Numerals.{add-one}
 use native.Mathlib.Omega.{arith}
@@ -42,7 +43,17 @@ unfolding upTo
 keeps-both f g R zero h s t r = r
 keeps-both f g R (suc m) h s t r = h m (upTo f m s) (upTo g m t) (omega arith) (keeps-both f g R m (λ j u v l. h j u v (omega arith)) s t r)
 
+-- the same turns
+pub upTo-same : {S : Type 0} (f g : ℕ → S → S) (m : ℕ) → ((j : ℕ) (s : S) → j < m → f j s ≡ g j s) → (s : S) → upTo f m s ≡ upTo g m s
+upTo-same f g m h s = keeps-both f g (λ t u. t ≡ u) m (λ j t u l e. h j t l ∙ ap (g j) e) s s refl
+
 module _ {S : Type 0} (f : ℕ → S → S) where
+  -- b turns after a turns
+  pub upTo-add : (a b : ℕ) (s : S) → upTo f (a + b) s ≡ upTo (λ j. f (a + j)) b (upTo f a s)
+  unfolding upTo
+  upTo-add a zero s = rw add-zero
+  upTo-add a (suc b) s = rw add-suc (ap (f (a + b)) (upTo-add a b s))
+
   -- what held after k turns, and every turn from there on keeps
   pub keeps-from : (P : S → Type 0) (k m : ℕ) → k ≤ m → ((j : ℕ) (s : S) → k ≤ j → j < m → P s → P (f j s)) → (s : S) → P (upTo f k s) → P (upTo f m s)
   unfolding upTo
@@ -59,6 +70,10 @@ module _ {S : Type 0} (f : ℕ → S → S) where
   pub keeps : (P : S → Type 0) (m : ℕ) → ((j : ℕ) (s : S) → j < m → P s → P (f j s)) → (s : S) → P s → P (upTo f m s)
   unfolding upTo
   keeps P m h s p = keeps-from P 0 m (omega arith) (λ j t a b. h j t b) s p
+
+  -- turns after the first k that change nothing
+  pub upTo-still : (k m : ℕ) → k ≤ m → (s : S) → ((j : ℕ) → k ≤ j → j < m → f j (upTo f k s) ≡ upTo f k s) → upTo f m s ≡ upTo f k s
+  upTo-still k m l s h = keeps-from (λ t. t ≡ upTo f k s) k m l (λ j t a b e. ap (f j) e ∙ h j a b) s refl
 
   -- a look that no turn changes
   pub untouched : {X : Type 0} (look : S → X) (m : ℕ) → ((j : ℕ) (s : S) → j < m → look (f j s) ≡ look s) → (s : S) → look (upTo f m s) ≡ look s

@@ -23,7 +23,8 @@ use Rattle.bench.proofs.Words.{length-put, word-same, word-other}
 use Rattle.bench.proofs.Plans.{few}
 use Rattle.bench.proofs.Marks.{ticked-sound}
 use Rattle.bench.proofs.Waits.{posted-sound}
-use Rattle.bench.proofs.Timers.{turn, tick-other, timed-bit, ticked-timer, posted-low}
+use Rattle.bench.proofs.Marks.{tick-other}
+use Rattle.bench.proofs.Timers.{turn, timed-bit, ticked-timer, posted-low}
 use Rattle.bench.proofs.Apart.{sends-chosen}
 use Rattle.assurance.proofs.Choices.{waits-owned}
 use Rattle.assurance.proofs.Fits.{Fit}

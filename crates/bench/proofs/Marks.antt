@@ -54,6 +54,13 @@ module _ (isRouter : Bool) (d k : ℕ) (w : World) where
       by-timer (suc zero) e = rw (e, tick) (ends e)
       by-timer (suc (suc t)) e = rw (e, tick, eqb·suc-zero) (falls t e)
 
+  -- it changes its register and its timer
+  pub tick-other : (i : ℕ) → i ≢ registerAt d → i ≢ timerAt d k → word (tick isRouter d k w .state) i ≡ word (w .state) i
+  tick-other i a b =
+      tick-cases (λ v. word (v .state) i ≡ word (w .state) i) (λ e. refl)
+      (λ e. word-other _ (timerAt d k) 0 i b ∙ word-other (w .state) (registerAt d) _ i a)
+      (λ t e. word-other (w .state) (timerAt d k) (suc t) i b)
+
 module _ (plan : Plan) (held : Held plan) {s : State} (x : Sound plan s) (d : ℕ) (h : d < devices plan) where
   -- bit k becomes what it is in r, and its timer v
   pub timer-step : (k r v : ℕ) → k < 32 → r < 2 ^ 32 → ((j : ℕ) → j < 32 → j ≢ k → bit r j ≡ bit (register s d) j) → v ≤ 65535

@@ -9,7 +9,7 @@ use native.Mathlib.Omega.{arith}
 use lib.ListN.{length, take, drop, set, length-append, length-take, drop-of-length-le}
 use lib.Seq.{take-all, take-append-le, drop-cons, set-append-seam, set-out}
 use Rattle.areas.specs.Loop.{upTo}
-use Rattle.areas.proofs.Loops.{upTo-step}
+use Rattle.areas.proofs.Loops.{upTo-step, upTo-same, upTo-add, upTo-still}
 use Rattle.bench.specs.State.{State}
 use Rattle.bench.specs.Round.{World}
 use Rattle.bench.specs.Telling.{shown, Notes, Seen, seen, Shows, Follows}
@@ -109,3 +109,26 @@ module _ (f : ℕ → World → World) {x : Seen} where
   -- the loop is left
   pub follows-done : {i m : ℕ} {y : Seen} → Follows (upTo f i) x y → i ≡ m → Follows (upTo f m) x y
   follows-done {y} p e = subst (λ (k : ℕ). Follows (upTo f k) x y) e p
+
+  -- turns that change nothing, as it is known of the state from which all began
+  pub follows-still : {i m : ℕ} {y : Seen} → Follows (upTo f i) x y → i ≤ m
+      → ((w : World) → w .state ≡ x .state → (j : ℕ) → i ≤ j → j < m → f j (upTo f i w) ≡ upTo f i w) → Follows (upTo f m) x y
+  follows-still {i} {m} {y} p l h =
+      record {
+        follows = λ before w v.
+            subst (λ (u : World). Shows before u y) (sym (upTo-still f i m l w (h w (sym (v .state))))) (p .follows before w v);
+      }
+
+  -- b turns more, which go by another name
+  pub follows-block : (g : ℕ → World → World) (a b : ℕ) {y z : Seen} → Follows (upTo f a) x y → Follows (upTo g b) y z
+      → ((j : ℕ) (w : World) → j < b → f (a + j) w ≡ g j w) → Follows (upTo f (a + b)) x z
+  follows-block g a b {z = z} p q h =
+      record {
+        follows = λ before w v.
+            let e : upTo f (a + b) w ≡ upTo g b (upTo f a w) = upTo-add f a b w ∙ upTo-same (λ j. f (a + j)) g b h (upTo f a w) in
+            subst (λ (u : World). Shows before u z) (sym e) (q .follows before (upTo f a w) (p .follows before w v));
+      }
+
+-- no word was told yet
+pub shows-none : (s : State) (a : List ℕ) → Shows a (world s []) (seen s a 0)
+shows-none s a = record { state = refl; area = sym (shown-none a); count = refl }

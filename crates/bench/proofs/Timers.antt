@@ -26,7 +26,7 @@ use Rattle.bench.specs.Calls.{mark, called}
 use Rattle.bench.specs.Round.{World, toldWord, tick, chosen, unqueued, ticked, sentBytes, posted, arrives, reached, afterTimers, afterSending, afterArrivals, round}
 use Rattle.bench.proofs.Words.{length-put, word-same, word-other}
 use Rattle.bench.proofs.Plans.{few}
-use Rattle.bench.proofs.Marks.{tick-cases, tick-step, ticked-sound}
+use Rattle.bench.proofs.Marks.{tick-cases, tick-other, tick-step, ticked-sound}
 use Rattle.bench.proofs.Kept.{arrives-cases, round-sound}
 use Rattle.bench.proofs.Called.{call-sound}
 
@@ -73,12 +73,6 @@ mark-other plan kind d k i s a b = word-other _ (timerAt d k) _ i b ∙ word-oth
 -- ---- one tick
 
 module _ (isRouter : Bool) (d k : ℕ) (w : World) where
-  pub tick-other : (i : ℕ) → i ≢ registerAt d → i ≢ timerAt d k → word (tick isRouter d k w .state) i ≡ word (w .state) i
-  tick-other i a b =
-      tick-cases isRouter d k w (λ v. word (v .state) i ≡ word (w .state) i) (λ e. refl)
-      (λ e. word-other _ (timerAt d k) 0 i b ∙ word-other (w .state) (registerAt d) _ i a)
-      (λ t e. word-other (w .state) (timerAt d k) (suc t) i b)
-
   -- its own timer falls by one, if it runs
   tick-own : length (w .state) ≡ 2080 → d < 32 → k < 32 → timer (tick isRouter d k w .state) d k ≡ timer (w .state) d k - 1
   tick-own size h l =

@@ -8,4 +8,5 @@ pub mod Playing
 pub mod Settling
 pub mod Steps
 pub mod Telling
+pub mod Idle
 pub mod Alike

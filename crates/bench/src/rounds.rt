@@ -3,13 +3,16 @@
 ghost use mathlib.Core.Path.{_≡_};
 ghost use mathlib.Core.Bool.{cond};
 ghost use mathlib.Core.List.{[], _∷_};
-ghost use Prim.Native.Nat.{_+_, _*_, _/_, _%_, _<_, _≤_};
+ghost use Prim.Native.Nat.{ℕ, _+_, _*_, _/_, _%_, _<_, _≤_};
 ghost use lib.Dec.{eqb, ltb};
 ghost use lib.ListN.{length, getD};
 ghost use Rattle.areas.specs.Loop.{upTo};
 ghost use Rattle.areas.specs.Table.{table};
+ghost use Rattle.plan.specs.Reading.{Held};
+ghost use Rattle.bench.specs.Sound.{Sound};
 ghost use Rattle.bench.specs.Round.{tick, chosen, sends, unqueued, timed, forwarded, tells, acted, arrived, reached};
 ghost use Rattle.bench.specs.Playing.{Plays};
+ghost use Rattle.bench.specs.Idle.{Rests};
 ghost use Rattle.bench.specs.Telling.{Notes, areas, seen, Follows, Played};
 use crate::Answer;
 use crate::DEVICE;
@@ -68,15 +71,30 @@ fn tick_one(
     tell(told, count, 196608 + 256 * d as u32 + k)
 }
 
+// The timers of device d, in the order of their identifiers. One whose bit is clear does not run, and
+// is passed over.
+fn tick_device(router: bool, d: usize, state: &mut [u32], told: &mut [u32], count: usize) -> usize
+    requires { ⌜ (length (now state) ≡ 2080) × (d < 32) × (count ≤ 1024) × Rests (now state) d ⌝ }
+    ensures { λ r. ⌜ Follows (upTo (tick router d) 32) (seen (now (state .entry)) (now (told .entry)) count) (seen (now (state .exit)) (now (told .exit)) r) × (r ≤ count + 32) ⌝ }
+{
+    let mut count = count;
+    let mut rest = state[DEVICE * d];
+    while rest != 0 {
+        let k = u32::trailing_zeros(rest);
+        count = tick_one(router, d, k, state, told, count);
+        rest = bits::leave(rest, k);
+    }
+    count
+}
+
 // All timers, by device then identifier.
 fn tick_all(n: usize, role: &[u8; 32], state: &mut [u32], told: &mut [u32]) -> usize
-    requires { ⌜ (length (now state) ≡ 2080) × (n ≤ 32) ⌝ }
+    requires { ⌜ (length (now state) ≡ 2080) × (n ≤ 32) × ((d : ℕ) → d < n → Rests (now state) d) ⌝ }
     ensures { λ r. ⌜ Follows (upTo (λ i. tick (eqb (getD (now (role .entry)) (i / 32) 0) 1) (i / 32) (i % 32)) (32 * n)) (seen (now (state .entry)) (now (told .entry)) 0) (seen (now (state .exit)) (now (told .exit)) r) × (r ≤ 32 * n) ⌝ }
 {
     let mut count: usize = 0;
-    for i in 0..32 * n {
-        let d = i / 32;
-        count = tick_one(role[d] == 1, d, (i % 32) as u32, state, told, count);
+    for d in 0..n {
+        count = tick_device(role[d] == 1, d, state, told, count);
     }
     count
 }
@@ -287,7 +305,7 @@ pub(crate) fn play(
     sent: &mut [u32],
     told: &mut [u32],
 ) -> usize
-    requires { ⌜ (core .devices ≤ 32) × (length (now old) ≡ 2080) × (length (now next) ≡ 2080) × (length (now sent) ≡ 256) ⌝ }
+    requires { ⌜ Held (record { core = core; peers = peers }) × Sound (record { core = core; peers = peers }) (now old) × (length (now next) ≡ 2080) × (length (now sent) ≡ 256) ⌝ }
     ensures { λ r. ⌜ Played (record { core = core; peers = peers }) (now (old .entry)) (now (told .entry)) (now (next .exit)) (now (sent .exit)) (now (told .exit)) r ⌝ }
 {
     areas::copy(old, next);

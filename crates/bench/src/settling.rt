@@ -56,7 +56,7 @@ fn advance(
     sent: &mut [u32],
     told: &mut [u32],
 )
-    requires { ⌜ (core .devices ≤ 32) × (length (now state) ≡ 2080) × (length (now second) ≡ 2080) × (length (now sent) ≡ 256) ⌝ }
+    requires { ⌜ Held (record { core = core; peers = peers }) × Sound (record { core = core; peers = peers }) (cond home (now state) (now second)) × (length (now state) ≡ 2080) × (length (now second) ≡ 2080) × (length (now sent) ≡ 256) ⌝ }
     ensures { λ _. ⌜ cond home (now (second .exit)) (now (state .exit)) ≡ round (record { core = core; peers = peers }) (cond home (now (state .entry)) (now (second .entry))) .next ⌝ }
 {
     if home {

@@ -126,6 +126,15 @@ pub leave-lt : (x k : ℕ) → x < 2 ^ 32 → leave x k < 2 ^ 32
 leave-lt x k h =
     dite (decLt k 32) (λ g. rw (leave-is x k g) (omega (arith, and-le-l x (2 ^ 32 - 1 - 2 ^ k)))) (λ n. rw (leave-none x k (omega arith)) h)
 
+-- a member that leaves makes the number less
+pub leave-less : (x k : ℕ) → k < 32 → bit x k ≡ 1 → leave x k < x
+leave-less x k h m =
+    let most : leave x k ≤ x = rw (leave-is x k h) (and-le-l x (2 ^ 32 - 1 - 2 ^ k)) in
+    elim (ℕ-discrete (leave x k) x) [
+      | yes e ↦ absurd (omega (arith, leave-same x k h, ap (λ (y : ℕ). bit y k) e))
+      | no ne ↦ omega arith
+    ]
+
 -- ---- the size
 
 -- from the lowest place up

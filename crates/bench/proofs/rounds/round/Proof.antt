@@ -1,8 +1,8 @@
 use native.Mathlib.Omega.{arith}
 use Rattle.plan.specs.Reading.{Held}
-use Rattle.plan.proofs.Round.{held-devices}
 use Rattle.bench.specs.Sound.{Sound}
 use Rattle.bench.proofs.Playings.{decided, refuted, not-held, not-sound, next-long, sent-long, told-long, plays, count-fits, played-plan}
+use Rattle.bench.proofs.Settled.{held-parts, sound-parts}
 use borrow.Author.Needs.{needs}
 use Rattle.bench.proofs.rounds.round.Statement.{statement}
 use Rattle.bench.proofs.rounds.round.Tie as tie
@@ -57,7 +57,10 @@ peers-of-requires : tie.Need-peers-of-requires
 peers-of-requires c κs = search needs
 
 play-requires : tie.Need-play-requires
-play-requires c κs = (held-devices _ (held (c .before .before .before .before .before .before .before .before .before .before .before .before .before .before)) .1, (sound (c .before .before .before .before .before .before .before .before .before .before .before .before)) .size, c .before .before .before .before .before .before .before .before .before .before .before .if3 .left, c .before .before .before .before .before .before .before .before .before .before .if4 .left)
+play-requires c κs =
+    let e = c .before .before .before .peers-of .ensures in
+    let b = c .before .before .before .before .before .before .before .before .before .before in
+    (held-parts _ e (held (b .before .before .before .before)), sound-parts e (sound (b .before .before)), b .before .if3 .left, b .if4 .left)
 
 cast-t21 : tie.Need-cast-t21
 cast-t21 c = omega (arith, count-fits (held (c .before .before .before .before .before .before .before .before .before .before .before .before .before .before .before .before .before .before .before .before .before)) (played-plan (c .before .before .before .before .before .before .before .before .before .before .peers-of .ensures) (c .before .before .before .before .before .before .play .ensures)))

@@ -1,52 +1,50 @@
 use mathlib.Core.Path.{_≡_, _∙_}
+use mathlib.Core.Bool.{Bool}
 use mathlib.Core.List.{List}
-use Prim.Native.Nat.{ℕ, _-_, _*_, _/_, _%_, _≤_}
+use Prim.Native.Nat.{ℕ, _-_, _*_, _≤_}
 use native.Mathlib.Omega.{arith}
 use lib.Dec.{eqb}
 use lib.ListN.{length, getD}
 use Rattle.areas.specs.Loop.{upTo}
-use Rattle.bench.specs.Round.{World, tick}
+use Rattle.bench.specs.Round.{tick}
 use Rattle.bench.specs.Telling.{Seen, seen, Follows}
-use Rattle.bench.proofs.Tellings.{follows-none, follows-more, follows-done}
+use Rattle.bench.proofs.Tellings.{follows-none, follows-block, follows-done}
+use Rattle.bench.proofs.Idles.{ticks, ticks-of, rests-yet}
 use borrow.Author.Needs.{needs}
 use Rattle.bench.proofs.rounds.tick_all.Statement.{statement}
 use Rattle.bench.proofs.rounds.tick_all.Tie as tie
 
--- timer i stands at device i / 32
-abbrev turn : List ℕ → ℕ → World → World
-turn role i = tick (eqb (getD role (i / 32) 0) 1) (i / 32) (i % 32)
+abbrev router : List ℕ → ℕ → Bool
+router role d = eqb (getD role d 0) 1
 
--- i timers have ticked, and at most i words were told
-record Ticked (role : List ℕ) (n size : ℕ) (x : Seen) (i : ℕ) (y : Seen) : Type 0 where
-  within : i ≤ 32 * n
-  count : y .count ≤ i
+-- the timers of d devices have ticked, and at most one word was told for each
+record Ticked (role : List ℕ) (n size : ℕ) (x : Seen) (d : ℕ) (y : Seen) : Type 0 where
+  within : d ≤ n
+  count : y .count ≤ 32 * d
   state : length (y .state) ≡ 2080
   area : length (y .area) ≡ size
-  follows : Follows (upTo (turn role) i) x y
+  follows : Follows (upTo (ticks (router role)) (32 * d)) x y
 
 abbrev Inv-loop : tie.InvT-loop
-Inv-loop n role state₀ told₀ count₀ i₀ i-end state told count i = Ticked role n (length told₀) (seen state₀ told₀ 0) i (seen state told count)
+Inv-loop n role state₀ told₀ count₀ d₀ state told count d = Ticked role n (length told₀) (seen state₀ told₀ 0) d (seen state told count)
 
 abbrev μ-loop : tie.MeasureT-loop
-μ-loop n role state₀ told₀ count₀ i₀ i-end state told count i = 32 * n - i
-
-mul-i-end : tie.Need-mul-i-end Inv-loop μ-loop
-mul-i-end c = search needs
+μ-loop n role state₀ told₀ count₀ d₀ state told count d = n - d
 
 loop-holds : tie.Need-loop-holds Inv-loop μ-loop
 loop-holds c = record { within = omega arith; count = omega arith; state = search needs; area = search needs; follows = follows-none _ }
 
-element-copy-out-tick-one : tie.Need-element-copy-out-tick-one Inv-loop μ-loop
-element-copy-out-tick-one c = search needs
+element-copy-out-tick-device : tie.Need-element-copy-out-tick-device Inv-loop μ-loop
+element-copy-out-tick-device c = search needs
 
-cast-tick-one : tie.Need-cast-tick-one Inv-loop μ-loop
-cast-tick-one c = search needs
+tick-device-requires : tie.Need-tick-device-requires Inv-loop μ-loop
+tick-device-requires c κs =
+    let l = c .before .before .before .before .loop in
+    let b = c .before .before .before .before .before .before .before in
+    (l .inv .state, omega arith, omega arith, rests-yet (router (b .args .role .now)) (l .d) (b .pre .2 (l .d) (omega arith)) (l .inv .follows))
 
-tick-one-requires : tie.Need-tick-one-requires Inv-loop μ-loop
-tick-one-requires c κs = search needs
-
-add-i : tie.Need-add-i Inv-loop μ-loop
-add-i c = search needs
+add-d : tie.Need-add-d Inv-loop μ-loop
+add-d c = search needs
 
 loop-less : tie.Need-loop-less Inv-loop μ-loop
 loop-less c = search needs
@@ -54,13 +52,17 @@ loop-less c = search needs
 loop-again : tie.Need-loop-again Inv-loop μ-loop
 loop-again c =
     let b = c .before .before .before .before in
-    let l = b .before .before .before .before .before .loop .inv in
+    let l = b .before .before .before .before .before .loop in
+    let isRouter = router (b .before .before .before .before .before .before .before .before .args .role .now) in
     record {
       within = omega arith;
-      count = omega (arith, b .tick-one .ensures .1);
-      state = b .tick-one .kept .1 .1 .1 .0 ∙ l .state;
-      area = b .tick-one .kept .1 .1 .1 .1 .0 ∙ l .area;
-      follows = follows-more _ (l .follows) (b .tick-one .ensures .0);
+      count = omega (arith, b .tick-device .ensures .1);
+      state = b .tick-device .kept .1 .1 .0 ∙ l .inv .state;
+      area = b .tick-device .kept .1 .1 .1 .0 ∙ l .inv .area;
+      follows =
+          follows-done _
+          (follows-block _ (tick (isRouter (l .d)) (l .d)) (32 * l .d) 32 (l .inv .follows) (b .tick-device .ensures .0) (ticks-of isRouter (l .d)))
+          (omega arith);
     }
 
 same-length : tie.Need-same-length Inv-loop μ-loop
@@ -80,12 +82,10 @@ tick-all-spec =
     (tie.spec
     Inv-loop
     μ-loop
-    mul-i-end
     loop-holds
-    element-copy-out-tick-one
-    cast-tick-one
-    tick-one-requires
-    add-i
+    element-copy-out-tick-device
+    tick-device-requires
+    add-d
     loop-less
     loop-again
     same-length

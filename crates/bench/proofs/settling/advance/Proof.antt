@@ -3,7 +3,9 @@ use Rattle.bench.proofs.settling.advance.Statement.{statement}
 use Rattle.bench.proofs.settling.advance.Tie as tie
 
 play-requires : tie.Need-play-requires
-play-requires c κs = search needs
+play-requires c κs =
+    let s = c .before .before .before .before .before .before .before .before .before in
+    (s .pre .0, rw (c .before .before .before .before .if1 .taken) at (s .pre .1), s .pre .3, s .pre .4)
 
 same-length : tie.Need-same-length
 same-length c = search needs
@@ -21,7 +23,9 @@ returns : tie.Need-returns
 returns c = rw (c .before .before .before .before .before .before .before .before .before .before .before .if1 .taken) (c .before .before .before .before .before .before .play .ensures .state)
 
 play-requires-2 : tie.Need-play-requires-2
-play-requires-2 c κs = search needs
+play-requires-2 c κs =
+    let s = c .before .before .before .before .before .before .before .before .before in
+    (s .pre .0, rw (c .before .before .before .before .if1 .left) at (s .pre .1), s .pre .2, s .pre .4)
 
 same-length-5 : tie.Need-same-length-5
 same-length-5 c = search needs

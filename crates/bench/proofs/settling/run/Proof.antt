@@ -1,14 +1,15 @@
-use mathlib.Core.Path.{_≡_, _∙_}
+use mathlib.Core.Path.{_≡_, sym, subst, _∙_}
 use mathlib.Core.Bool.{Bool, cond}
 use mathlib.Core.List.{List}
 use Prim.Native.Nat.{ℕ, _-_}
 use native.Mathlib.Omega.{arith}
 use lib.ListN.{length}
 use Rattle.plan.specs.declared.Plan.{Plan}
-use Rattle.plan.proofs.Round.{held-devices}
 use Rattle.bench.specs.State.{State}
+use Rattle.bench.specs.Sound.{Sound}
 use Rattle.bench.proofs.Playings.{decided, refuted}
 use Rattle.bench.proofs.Settled.{flip, Ran, ran-none, ran-more, settled, spent}
+use Rattle.bench.proofs.Timers.{rounds-sound}
 use borrow.Author.Needs.{needs}
 use Rattle.bench.proofs.settling.run.Statement.{statement}
 use Rattle.bench.proofs.settling.run.Tie as tie
@@ -59,8 +60,10 @@ slice-aggregate-advance-2 c = search needs
 
 advance-requires : tie.Need-advance-requires Inv-loop μ-loop
 advance-requires c κs =
-    let v = c .before .before .before .before .before .before .before .before .before .loop .inv in
-    (held-devices _ (c .before .before .before .before .before .before .before .before .before .before .before .before .pre .0) .1, v .long, v .long-second, v .long-sent)
+    let l = c .before .before .before .before .before .before .before .before .before .loop in
+    let b = l .inv in
+    let p = c .before .before .before .before .before .before .before .before .before .before .before .before .pre in
+    (p .0, subst (Sound _) (sym (b .ran .is)) (rounds-sound _ (p .0) _ (p .1) (l .n)), b .long, b .long-second, b .long-sent)
 
 add-n : tie.Need-add-n Inv-loop μ-loop
 add-n c = search needs

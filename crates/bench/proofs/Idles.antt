@@ -1,0 +1,61 @@
+-- What a round passes over: it is so in every sound state of a held plan, and passing over it changes nothing.
+use mathlib.Core.Path.{_≡_, sym, ap, _∙_}
+use mathlib.Core.Bool.{Bool}
+use mathlib.Core.List.{List, []}
+use Prim.Native.Nat.{ℕ, _+_, _*_, _/_, _%_, _≤_, _<_}
+use native.Mathlib.Omega.{arith}
+use Rattle.areas.specs.Loop.{upTo}
+use Rattle.areas.proofs.Loops.{untouched}
+use Rattle.bits.specs.Set.{bit}
+use Rattle.plan.specs.declared.Plan.{Plan}
+use Rattle.bench.specs.State.{State, word, registerAt, timerAt, timer}
+use Rattle.bench.specs.Network.{devices}
+use Rattle.bench.specs.Sound.{Sound}
+use Rattle.bench.specs.Round.{World, tick}
+use Rattle.bench.specs.Idle.{Rests}
+use Rattle.bench.specs.Telling.{Seen, seen, Follows}
+use Rattle.bench.proofs.Marks.{tick-other}
+use Rattle.bench.proofs.Stepped.{tick-idle}
+use Rattle.bench.proofs.Tellings.{world, follows-still, shows-none}
+
+-- ---- timers
+
+pub sound-rests : {plan : Plan} {s : State} → Sound plan s → (d : ℕ) → d < devices plan → d < 32 → Rests s d
+sound-rests x d h g = record { rests = λ k l. x .timers d k h g l .off }
+
+-- of one device: from timer i to timer m none runs
+pub rests-follows : (isRouter : Bool) (d : ℕ) {x y : Seen} {i m : ℕ} → i ≤ m → ((k : ℕ) → i ≤ k → k < m → timer (x .state) d k ≡ 0)
+    → Follows (upTo (tick isRouter d) i) x y → Follows (upTo (tick isRouter d) m) x y
+rests-follows isRouter d {i = i} l h p =
+    follows-still (tick isRouter d) p l
+    (λ w e k a b.
+    let same : timer (upTo (tick isRouter d) i w .state) d k ≡ timer (w .state) d k =
+    untouched (tick isRouter d) (λ v. timer (v .state) d k) i (λ j v c. tick-other isRouter d j v (timerAt d k) (omega arith) (omega arith)) w in
+    tick-idle isRouter d k _ _ (same ∙ ap (λ (s : State). timer s d k) e ∙ h k a b))
+
+-- of all devices, by device then identifier
+module _ (isRouter : ℕ → Bool) where
+  abbrev pub ticks : ℕ → World → World
+  ticks i = tick (isRouter (i / 32)) (i / 32) (i % 32)
+
+  pub ticks-of : (d k : ℕ) (w : World) → k < 32 → ticks (32 * d + k) w ≡ tick (isRouter d) d k w
+  ticks-of d k w l =
+      let device : (32 * d + k) / 32 ≡ d = omega arith in
+      let place : (32 * d + k) % 32 ≡ k = omega arith in
+      rw (device, place)
+
+  -- those of the devices before d leave its words
+  ticks-leave : (d i : ℕ) (w : World) → 33 * d ≤ i → word (upTo ticks (32 * d) w .state) i ≡ word (w .state) i
+  ticks-leave d i w h =
+      untouched ticks (λ v. word (v .state) i) (32 * d)
+      (λ j v b. tick-other (isRouter (j / 32)) (j / 32) (j % 32) v i (omega arith) (omega arith)) w
+
+  -- so when its turn comes, it rests as at first
+  pub rests-yet : {s t : State} {a b : List ℕ} {n : ℕ} (d : ℕ) → Rests s d → Follows (upTo ticks (32 * d)) (seen s a 0) (seen t b n) → Rests t d
+  rests-yet {s} {t} {a} d r p =
+      let is : (i : ℕ) → 33 * d ≤ i → word t i ≡ word s i =
+      λ i h. ap (λ (u : State). word u i) (p .follows a (world s []) (shows-none s a) .state) ∙ ticks-leave d i (world s []) h in
+      record {
+        rests = λ k l z.
+            is (timerAt d k) (omega arith) ∙ r .rests k l (sym (ap (λ (v : ℕ). bit v k) (is (registerAt d) (omega arith))) ∙ z);
+      }

@@ -1,0 +1,9 @@
+-- No rules: what a round passes over, since nothing happens there. `Idles` proves it of every sound state of a held plan.
+use mathlib.Core.Path.{_≡_}
+use Prim.Native.Nat.{ℕ, _<_}
+use Rattle.bits.specs.Set.{bit}
+use Rattle.bench.specs.State.{State, register, timer}
+
+-- no timer of device d runs whose bit is clear
+pub record Rests (s : State) (d : ℕ) : Type 0 where
+  pub rests : (k : ℕ) → k < 32 → bit (register s d) k ≡ 0 → timer s d k ≡ 0
