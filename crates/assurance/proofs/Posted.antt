@@ -21,9 +21,8 @@ use Rattle.bench.specs.Round.{World, chosen, unqueued, ticked, posted, afterTim
 use Rattle.bench.specs.Alike.{SendsIt}
 use Rattle.bench.proofs.Words.{length-put, word-same, word-other}
 use Rattle.bench.proofs.Plans.{few}
-use Rattle.bench.proofs.Marks.{ticked-sound}
+use Rattle.bench.proofs.Marks.{tick-other, ticked-sound}
 use Rattle.bench.proofs.Waits.{posted-sound}
-use Rattle.bench.proofs.Marks.{tick-other}
 use Rattle.bench.proofs.Timers.{turn, timed-bit, ticked-timer, posted-low}
 use Rattle.bench.proofs.Apart.{sends-chosen}
 use Rattle.assurance.proofs.Choices.{waits-owned}
