@@ -21,6 +21,7 @@ example() {
 }
 example settle
 example decode
+example example
 
 # A second start builds nothing and says nothing.
 for program in decode settle; do

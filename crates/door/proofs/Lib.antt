@@ -1,0 +1,3 @@
+pub mod Files
+pub mod Unique
+pub mod Written

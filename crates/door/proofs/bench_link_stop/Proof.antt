@@ -1,0 +1,18 @@
+use borrow.Author.Needs.{needs}
+use Rattle.door.proofs.bench_link_stop.Statement.{statement}
+use Rattle.door.proofs.bench_link_stop.Tie as tie
+
+plan-in-requires : tie.Need-plan-in-requires
+plan-in-requires c κs = search needs
+
+link-stop-requires : tie.Need-link-stop-requires
+link-stop-requires c κs = search needs
+
+same-length : tie.Need-same-length
+same-length c = search needs
+
+returns : tie.Need-returns
+returns c = rw (c .before .before .before .before .plan-in .ensures) at (c .before .before .link-stop .ensures)
+
+pub bench-link-stop-spec : {M : Type 1} → statement M
+bench-link-stop-spec = tie.close (tie.spec plan-in-requires link-stop-requires same-length returns)

@@ -1,0 +1,18 @@
+use borrow.Author.Needs.{needs}
+use Rattle.door.proofs.bench_start.Statement.{statement}
+use Rattle.door.proofs.bench_start.Tie as tie
+
+plan-in-requires : tie.Need-plan-in-requires
+plan-in-requires c κs = search needs
+
+start-requires : tie.Need-start-requires
+start-requires c κs = search needs
+
+same-length : tie.Need-same-length
+same-length c = search needs
+
+returns : tie.Need-returns
+returns c = rw (c .before .before .before .before .plan-in .ensures) at (c .before .before .start .ensures)
+
+pub bench-start-spec : {M : Type 1} → statement M
+bench-start-spec = tie.close (tie.spec plan-in-requires start-requires same-length returns)

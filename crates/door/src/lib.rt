@@ -1,0 +1,251 @@
+// The bench for C, as include/bench.h declares it: the calls over numbers and areas. A plan is the bytes
+// of its file. Where the file is not accepted the reader gives the plan of zeros, which no file
+// holds, so that each call refuses it by 1.
+ghost use mathlib.Core.Path.{_≡_};
+ghost use Prim.Native.Nat.{_+_, _*_};
+ghost use Rattle.answers.specs.Ordered.{Outcome};
+ghost use Rattle.codes.specs.Codes.{reads, writes};
+ghost use Rattle.device.specs.Reaction.{reacts};
+ghost use Rattle.plan.specs.Refusals.{verdict};
+ghost use Rattle.bench.specs.Calls.{started, startAsks, called, callAsks, unlinked, linked, linkAsks, reset, resetAsks};
+ghost use Rattle.bench.specs.Playing.{Plays};
+ghost use Rattle.bench.specs.Settling.{Settles};
+ghost use Rattle.bench.specs.Telling.{areas, pair};
+ghost use Rattle.reach.specs.Reach.{Reaches};
+ghost use Rattle.report.specs.Report.{Reports};
+ghost use Rattle.report.specs.Steps.{lent};
+ghost use Rattle.door.specs.Numbers.{kindOf, valueOf, codeOf, actionOf, yes, planIn};
+use codes::Code;
+use codes::Written;
+use device::Action;
+use plan::Plan;
+
+// ---- numbers for cases
+
+fn kind_of(code: Code) -> u32
+    ensures { λ r. ⌜ r ≡ kindOf code ⌝ }
+{
+    match code {
+        Code::Time(_) => 0,
+        Code::Interrupt(_) => 1,
+        Code::Acknowledge(_) => 2,
+        Code::Reserved => 3,
+    }
+}
+
+fn value_of(code: Code) -> u32
+    ensures { λ r. ⌜ r ≡ valueOf code ⌝ }
+{
+    match code {
+        Code::Time(v) => v as u32,
+        Code::Interrupt(k) => k as u32,
+        Code::Acknowledge(k) => k as u32,
+        Code::Reserved => 0,
+    }
+}
+
+fn code_of(kind: u32, value: u8) -> Code
+    ensures { λ r. ⌜ r ≡ codeOf kind value ⌝ }
+{
+    match kind {
+        0 => Code::Time(value),
+        1 => Code::Interrupt(value),
+        2 => Code::Acknowledge(value),
+        _ => Code::Reserved,
+    }
+}
+
+fn action_of(action: Action) -> u32
+    ensures { λ r. ⌜ r ≡ actionOf action ⌝ }
+{
+    match action {
+        Action::Named(_) => 0,
+        Action::LinkError(_) => 1,
+        Action::Ignored(_) => 2,
+        Action::Forwarded(_) => 3,
+        Action::Told(_) => 4,
+    }
+}
+
+// The plan of a file, or the plan of zeros.
+fn plan_in(file: &[u8]) -> Plan
+    ensures { λ r. ⌜ r ≡ planIn (now (file .entry)) ⌝ }
+{
+    planfile::read(file).plan
+}
+
+// ---- codes, and one device
+
+// The kind of the code in a byte, and its value.
+#[no_mangle]
+pub extern "C" fn bench_code_read(byte: u8, value: &mut u32) -> u32
+    ensures { λ r. ⌜ (r ≡ kindOf (reads byte)) × (now (value .exit) ≡ valueOf (reads byte)) ⌝ }
+{
+    let code = codes::read(byte);
+    *value = value_of(code);
+    kind_of(code)
+}
+
+// The byte of a code, or refusal 5. No code has a value above 63.
+#[no_mangle]
+pub extern "C" fn bench_code_write(kind: u32, value: u32, byte: &mut u32) -> u32
+    ensures { λ r. ⌜ record { number = r; value = now (byte .exit) } ≡ writes (codeOf kind value) ⌝ }
+{
+    if 63 < value {
+        *byte = 0;
+        return 5;
+    }
+    let Written::Byte(b) = codes::write(code_of(kind, value as u8)) else {
+        *byte = 0;
+        return 5;
+    };
+    *byte = b as u32;
+    0
+}
+
+// What a device does with a byte that arrives; its register is updated.
+#[no_mangle]
+pub extern "C" fn bench_react(
+    role: u32,
+    running: u32,
+    permissions: u32,
+    register: &mut u32,
+    byte: u8,
+) -> u32
+    ensures { λ r. ⌜ (r ≡ actionOf (reacts (yes role) (yes running) permissions (now (register .entry)) byte .action)) × (now (register .exit) ≡ reacts (yes role) (yes running) permissions (now (register .entry)) byte .register) ⌝ }
+{
+    let reaction = device::react(role != 0, running != 0, permissions, *register, byte);
+    *register = reaction.register;
+    let action = reaction.action;
+    action_of(action)
+}
+
+// ---- plans
+
+// What the reader says of a file: a number and a block.
+#[no_mangle]
+pub extern "C" fn bench_plan_read(file: &[u8], block: &mut u32) -> u32
+    ensures { λ r. ⌜ (r ≡ verdict (now (file .entry)) .number) × (now (block .exit) ≡ verdict (now (file .entry)) .at) ⌝ }
+{
+    let read = planfile::read(file);
+    *block = read.block;
+    read.number
+}
+
+// ---- between rounds
+
+#[no_mangle]
+pub extern "C" fn bench_start(plan: &[u8], state: &mut [u32]) -> u32
+    ensures { λ r. ⌜ Outcome (startAsks (planIn (now (plan .entry))) (now (state .entry))) (now (state .entry)) (started (planIn (now (plan .entry)))) r (now (state .exit)) ⌝ }
+{
+    bench::start(plan_in(plan), state)
+}
+
+#[no_mangle]
+pub extern "C" fn bench_request(plan: &[u8], state: &mut [u32], device: usize, k: u32) -> u32
+    ensures { λ r. ⌜ Outcome (callAsks (planIn (now (plan .entry))) 0 device k (now (state .entry))) (now (state .entry)) (called (planIn (now (plan .entry))) 0 device k (now (state .entry))) r (now (state .exit)) ⌝ }
+{
+    bench::request(plan_in(plan), state, device, k)
+}
+
+#[no_mangle]
+pub extern "C" fn bench_acknowledge(plan: &[u8], state: &mut [u32], device: usize, k: u32) -> u32
+    ensures { λ r. ⌜ Outcome (callAsks (planIn (now (plan .entry))) 1 device k (now (state .entry))) (now (state .entry)) (called (planIn (now (plan .entry))) 1 device k (now (state .entry))) r (now (state .exit)) ⌝ }
+{
+    bench::acknowledge(plan_in(plan), state, device, k)
+}
+
+#[no_mangle]
+pub extern "C" fn bench_link_stop(plan: &[u8], state: &mut [u32], device: usize, port: usize) -> u32
+    ensures { λ r. ⌜ Outcome (linkAsks (planIn (now (plan .entry))) 1 device port (now (state .entry))) (now (state .entry)) (unlinked (planIn (now (plan .entry))) (8 * device + port) (now (state .entry))) r (now (state .exit)) ⌝ }
+{
+    bench::link_stop(plan_in(plan), state, device, port)
+}
+
+#[no_mangle]
+pub extern "C" fn bench_link_start(
+    plan: &[u8],
+    state: &mut [u32],
+    device: usize,
+    port: usize,
+) -> u32
+    ensures { λ r. ⌜ Outcome (linkAsks (planIn (now (plan .entry))) 0 device port (now (state .entry))) (now (state .entry)) (linked (planIn (now (plan .entry))) (8 * device + port) (now (state .entry))) r (now (state .exit)) ⌝ }
+{
+    bench::link_start(plan_in(plan), state, device, port)
+}
+
+#[no_mangle]
+pub extern "C" fn bench_reset(plan: &[u8], state: &mut [u32], device: usize) -> u32
+    ensures { λ r. ⌜ Outcome (resetAsks (planIn (now (plan .entry))) device (now (state .entry))) (now (state .entry)) (reset (planIn (now (plan .entry))) device (now (state .entry))) r (now (state .exit)) ⌝ }
+{
+    bench::reset(plan_in(plan), state, device)
+}
+
+// ---- rounds, settling, reach, and the text
+
+// One round; how many words were told goes to `count`.
+#[no_mangle]
+pub extern "C" fn bench_round(
+    plan: &[u8],
+    old: &[u32],
+    next: &mut [u32],
+    sent: &mut [u32],
+    told: &mut [u32],
+    count: &mut u32,
+) -> u32
+    ensures { λ r. ⌜ Plays (planIn (now (plan .entry))) (now (old .entry)) (areas (now (next .entry)) (now (sent .entry)) (now (told .entry))) r (now (count .exit)) (areas (now (next .exit)) (now (sent .exit)) (now (told .exit))) ⌝ }
+{
+    let answer = bench::round(plan_in(plan), old, next, sent, told);
+    *count = answer.value;
+    answer.number
+}
+
+// Rounds until no port waits; how many goes to `rounds`.
+#[no_mangle]
+pub extern "C" fn bench_settle(
+    plan: &[u8],
+    state: &mut [u32],
+    second: &mut [u32],
+    allowance: u32,
+    rounds: &mut u32,
+) -> u32
+    ensures { λ r. ⌜ Settles (planIn (now (plan .entry))) (pair (now (state .entry)) (now (second .entry))) allowance r (now (rounds .exit)) (pair (now (state .exit)) (now (second .exit))) ⌝ }
+{
+    let answer = bench::settle(plan_in(plan), state, second, allowance);
+    *rounds = answer.value;
+    answer.number
+}
+
+// The devices that interrupts of k reach from a device: how many, and the set of them.
+#[no_mangle]
+pub extern "C" fn bench_reach(
+    plan: &[u8],
+    state: &[u32],
+    device: usize,
+    k: u32,
+    devices: &mut u32,
+    set: &mut u32,
+) -> u32
+    ensures { λ r. ⌜ Reaches (planIn (now (plan .entry))) (now (state .entry)) device k r (now (devices .exit)) (now (set .exit)) ⌝ }
+{
+    let answer = reach::reach(plan_in(plan), state, device, k);
+    *devices = answer.value;
+    *set = answer.set;
+    answer.number
+}
+
+// The text that the program settle prints for a file; its length goes to `used`.
+#[no_mangle]
+pub extern "C" fn bench_report(
+    file: &[u8],
+    state: &mut [u32],
+    second: &mut [u32],
+    text: &mut [u8],
+    used: &mut u32,
+) -> u32
+    ensures { λ r. ⌜ Reports (now (file .entry)) (lent (now (state .entry)) (now (second .entry)) (now (text .entry))) r (now (used .exit)) (lent (now (state .exit)) (now (second .exit)) (now (text .exit))) ⌝ }
+{
+    let answer = report::report(file, state, second, text);
+    *used = answer.value;
+    answer.number
+}

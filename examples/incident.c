@@ -1,0 +1,93 @@
+/* The incident, from C: five sources keep a way busy, and interrupt 7 is requested at device 3. Its handler, device 4,
+ * acknowledges too early, and its host is told of the one interrupt again and again. With the wait that the bench gives it
+ * is told once.
+ *
+ *     bin/example incident < examples/incident.plan
+ */
+#include "bench.h"
+
+/* The kit's compiler has no headers of C's library. */
+long read(int file, void *into, unsigned long size);
+int printf(const char *format, ...);
+_Noreturn void exit(int status);
+
+enum { SOURCE = 3, HANDLER = 4, IDENTIFIER = 7 };
+
+/* How a told word is made up: kind x 65,536 + device x 256 + identifier. */
+enum { TOLD = 1 * 65536 + HANDLER * 256 + IDENTIFIER };
+
+/* An array as the two parameters that an area is. */
+#define AREA(array) (array), sizeof(array) / sizeof *(array)
+
+/* A plan file has at most 16,896 bytes; one more shows that a file is too long. */
+static bench_u8 file[16897];
+static bench_size length;
+
+/* A round builds the next state in another area, so two of them take turns. */
+static bench_u32 states[2][BENCH_STATE];
+static int now;
+static bench_u32 sent[BENCH_SENT];
+static bench_u32 told[BENCH_TOLD];
+
+/* Ends the program where a call was refused. */
+static void must(const char *call, bench_u32 number) {
+    if (number) {
+        printf("%s is refused by %u\n", call, number);
+        exit(1);
+    }
+}
+
+/* The network starts afresh, and everybody requests. */
+static void begin(void) {
+    must("start", bench_start(file, length, AREA(states[now])));
+    for (bench_u32 i = 0; i < 5; i++)
+        must("request", bench_request(file, length, AREA(states[now]), 5 + i, 8 + i));
+    must("request", bench_request(file, length, AREA(states[now]), SOURCE, IDENTIFIER));
+}
+
+/* Plays rounds, and counts how often the handler's host is told of the interrupt. */
+static bench_u32 play(bench_u32 rounds) {
+    bench_u32 times = 0;
+    for (; rounds; rounds--) {
+        bench_u32 count;
+        must("round", bench_round(file, length, AREA(states[now]), AREA(states[!now]), AREA(sent), AREA(told), &count));
+        for (bench_u32 i = 0; i < count; i++)
+            times += told[i] == TOLD;
+        now = !now;
+    }
+    return times;
+}
+
+/* The handler acknowledges after a wait, and the network runs on. */
+static void acknowledge_after(bench_u32 wait) {
+    begin();
+    bench_u32 times = play(wait);
+    must("acknowledge", bench_acknowledge(file, length, AREA(states[now]), HANDLER, IDENTIFIER));
+    times += play(14);
+    printf("acknowledged after %u rounds: told %u time%s\n", wait, times, times == 1 ? "" : "s");
+}
+
+int main(void) {
+    long got;
+    while ((got = read(0, file + length, sizeof file - length)) > 0)
+        length += got;
+
+    bench_u32 block;
+    bench_u32 bad = bench_plan_read(file, length, &block);
+    if (bad) {
+        printf("the plan is refused by %u in block %u\n", bad, block);
+        return 1;
+    }
+
+    printf("interrupt %u of device %u, handled by device %u\n", IDENTIFIER, SOURCE, HANDLER);
+    acknowledge_after(4);
+
+    /* How long the handler has to wait: until nothing waits. */
+    bench_u32 wait;
+    begin();
+    must("settle", bench_settle(file, length, AREA(states[now]), AREA(states[!now]), 4096, &wait));
+    printf("nothing waits after %u rounds\n", wait);
+
+    acknowledge_after(wait);
+    return 0;
+}

@@ -1,0 +1,25 @@
+#!/bin/sh
+# The incident from C. What the example has to print is stored, and is what the bench in tests/, written apart from ours,
+# comes to. A call that is refused ends it, with a status that is not 0.
+set -eu
+cd "$(dirname "$0")/.."
+work=$(mktemp -d)
+trap 'rm -rf "$work"' EXIT
+
+bin/example incident <examples/incident.plan >"$work/given"
+cmp "$work/given" tests/incident.txt
+
+# For its input the example ends with this line, and fails.
+fails() {
+    if bin/example incident >"$work/given"; then
+        echo "the example took a plan that it cannot play"
+        exit 1
+    fi
+    [ "$(tail -n 1 "$work/given")" = "$1" ]
+}
+fails "request is refused by 4" <examples/three.plan
+head -c 1024 examples/incident.plan | fails "the plan is refused by 25 in block 0"
+cat examples/full.plan examples/idle.plan | fails "the plan is refused by 20 in block 0"
+
+if command -v python3 >/dev/null 2>&1; then python3 tests/incident.py | cmp - tests/incident.txt; fi
+echo "incident: ok"
