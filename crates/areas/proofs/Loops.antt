@@ -1,5 +1,5 @@
 -- Counted loops: the invariant of the code's loop, and what holds after all the turns.
-use mathlib.Core.Path.{_≡_, refl, ap, subst, _∙_}
+use mathlib.Core.Path.{_≡_, refl, sym, ap, subst, _∙_}
 use mathlib.Core.Logic.{_⊎_, inl, inr, _≢_}
 use Prim.Native.Nat.{ℕ, zero, suc, _+_, _≤_, _<_}
 use native.Mathlib.Nat.{add-zero, add-suc}
@@ -74,6 +74,13 @@ module _ {S : Type 0} (f : ℕ → S → S) where
   -- turns after the first k that change nothing
   pub upTo-still : (k m : ℕ) → k ≤ m → (s : S) → ((j : ℕ) → k ≤ j → j < m → f j (upTo f k s) ≡ upTo f k s) → upTo f m s ≡ upTo f k s
   upTo-still k m l s h = keeps-from (λ t. t ≡ upTo f k s) k m l (λ j t a b e. ap (f j) e ∙ h j a b) s refl
+
+  pub still : {m k n : ℕ} {s₀ s : S} → After f m k s₀ s → k ≤ n → n ≤ m → ((j : ℕ) → k ≤ j → j < n → f j s ≡ s) → After f m n s₀ s
+  still {k = k} {n = n} {s₀ = s₀} v l h q =
+      record {
+        within = h;
+        is = v .is ∙ sym (upTo-still k n l s₀ (λ j a b. subst (λ t. f j t ≡ t) (v .is) (q j a b)));
+      }
 
   -- a look that no turn changes
   pub untouched : {X : Type 0} (look : S → X) (m : ℕ) → ((j : ℕ) (s : S) → j < m → look (f j s) ≡ look s) → (s : S) → look (upTo f m s) ≡ look s

@@ -1,5 +1,5 @@
 -- An area written from its first word on: the invariant of the loops that copy and fill.
-use mathlib.Core.Path.{_≡_, _∙_}
+use mathlib.Core.Path.{_≡_, refl, sym, _∙_}
 use mathlib.Core.List.{List}
 use Prim.Native.Nat.{ℕ, _+_, _≤_, _<_}
 use native.Mathlib.Omega.{arith}
@@ -31,3 +31,7 @@ module _ {n : ℕ} {f : ℕ → ℕ} {area : List ℕ} where
 
   pub done : {i : ℕ} → Written n f area i → n ≤ i → area ≡ table n f
   done v h = is-table n f area 0 (v .long) (λ k l. v .same k (omega arith))
+
+-- all words of another area
+pub done-copy : {n : ℕ} {from area : List ℕ} {i : ℕ} → Written n (λ k. getD from k 0) area i → n ≤ i → length from ≡ n → area ≡ from
+done-copy {n} {from} v h e = done v h ∙ sym (is-table n (λ k. getD from k 0) from 0 e (λ k l. refl))

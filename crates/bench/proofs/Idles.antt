@@ -1,21 +1,26 @@
 -- What a round passes over: it is so in every sound state of a held plan, and passing over it changes nothing.
 use mathlib.Core.Path.{_≡_, sym, ap, _∙_}
-use mathlib.Core.Bool.{Bool}
+use mathlib.Core.Bool.{Bool, false}
 use mathlib.Core.List.{List, []}
 use Prim.Native.Nat.{ℕ, _+_, _*_, _/_, _%_, _≤_, _<_}
 use native.Mathlib.Omega.{arith}
+use lib.ListN.{length, getD, List·getD-eq-default}
+use borrow.Author.Tests.{le-ltb}
 use Rattle.areas.specs.Loop.{upTo}
 use Rattle.areas.proofs.Loops.{untouched}
 use Rattle.bits.specs.Set.{bit}
+use Rattle.plan.specs.Reading.{Held}
 use Rattle.plan.specs.declared.Plan.{Plan}
+use Rattle.plan.proofs.Round.{held-few}
 use Rattle.bench.specs.State.{State, word, registerAt, timerAt, timer}
-use Rattle.bench.specs.Network.{devices}
+use Rattle.bench.specs.Network.{devices, exists, peer}
 use Rattle.bench.specs.Sound.{Sound}
-use Rattle.bench.specs.Round.{World, tick}
-use Rattle.bench.specs.Idle.{Rests}
+use Rattle.bench.specs.Round.{World, tick, arrives}
+use Rattle.bench.specs.Idle.{Rests, Unused}
 use Rattle.bench.specs.Telling.{Seen, seen, Follows}
 use Rattle.bench.proofs.Marks.{tick-other}
-use Rattle.bench.proofs.Stepped.{tick-idle}
+use Rattle.bench.proofs.Plans.{absent-loose}
+use Rattle.bench.proofs.Stepped.{tick-idle, arrives-nothing}
 use Rattle.bench.proofs.Tellings.{world, follows-still, shows-none}
 
 -- ---- timers
@@ -59,3 +64,25 @@ module _ (isRouter : ℕ → Bool) where
         rests = λ k l z.
             is (timerAt d k) (omega arith) ∙ r .rests k l (sym (ap (λ (v : ℕ). bit v k) (is (registerAt d) (omega arith))) ∙ z);
       }
+
+-- ---- ports
+
+-- the ports that a device lacks, of a sound state
+pub sound-unused : {plan : Plan} {s : State} → Held plan → Sound plan s → (d : ℕ) → d < 32 → Unused s d (getD (plan .core .ports) d 0)
+sound-unused {plan} {s} h x d l =
+    record {
+      most = held-few plan h d l .1;
+      unused = λ q kind a b k.
+          let device : q / 8 ≡ d = omega arith in
+          x .no-port q kind (omega arith) (rw device (le-ltb (q % 8) (getD (plan .core .ports) d 0) (omega arith))) (omega arith);
+    }
+
+-- at them nothing arrives, as they lead nowhere
+pub arrives-unused : (plan : Plan) → Held plan → (sent : List ℕ) → length sent ≡ 256 → (d q : ℕ) → d < 32 → 8 * d + getD (plan .core .ports) d 0 ≤ q → q < 8 * d + 8
+    → (w : World) → arrives plan sent q w ≡ w
+arrives-unused plan h sent e d q l a b w =
+    let device : q / 8 ≡ d = omega arith in
+    let none : exists plan q ≡ false = rw device (le-ltb (q % 8) (getD (plan .core .ports) d 0) (omega arith)) in
+    let byte : getD sent (peer plan q) 256 ≡ 256 =
+    ap (λ (p : ℕ). getD sent p 256) (absent-loose plan h q (omega arith) none) ∙ List·getD-eq-default sent 256 (omega arith) in
+    arrives-nothing plan sent q 256 (sym byte) w (omega arith)

@@ -13,6 +13,7 @@ use Rattle.bits.specs.Set.{bit, leave}
 use Rattle.bits.specs.First.{Finds, following}
 use Rattle.bits.specs.declared.Found.{Found}
 use Rattle.bits.specs.declared.Found.the-variants.{At, Nowhere}
+use Rattle.bits.proofs.Sets.{bit-zero}
 use Rattle.bits.proofs.Firsts.{first-unique, firstFrom-finds}
 use Rattle.codes.specs.declared.Code.{Code}
 use Rattle.device.specs.Reaction.{reacts}
@@ -64,6 +65,12 @@ module _ (old : State) (q : ℕ) where
   pub chosen-is : {r : Found} → Finds (bitOr (word old (1056 + 4 * q)) (waiting old 1 q)) (next old q) r → r ≡ chosen old q
   unfolding chosen
   chosen-is f = rw add-zero (first-unique _ _ _ _ f (firstFrom-finds _ _))
+
+  -- nothing waits
+  pub chosen-none : ((kind : ℕ) → kind < 2 → waiting old kind q ≡ 0) → chosen old q ≡ Nowhere
+  unfolding chosen Finds
+  chosen-none h =
+      rw (h 0 (omega arith), h 1 (omega arith)) (first-unique 0 (next old q) _ Nowhere (firstFrom-finds 0 (next old q)) (λ k l. bit-zero k))
 
   pub post-nothing : chosen old q ≡ Nowhere → sends old q ≡ 256
   unfolding sends

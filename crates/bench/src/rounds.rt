@@ -12,7 +12,7 @@ ghost use Rattle.plan.specs.Reading.{Held};
 ghost use Rattle.bench.specs.Sound.{Sound};
 ghost use Rattle.bench.specs.Round.{tick, chosen, sends, unqueued, timed, forwarded, tells, acted, arrived, reached};
 ghost use Rattle.bench.specs.Playing.{Plays};
-ghost use Rattle.bench.specs.Idle.{Rests};
+ghost use Rattle.bench.specs.Idle.{Rests, Unused};
 ghost use Rattle.bench.specs.Telling.{Notes, areas, seen, Follows, Played};
 use crate::Answer;
 use crate::DEVICE;
@@ -129,14 +129,27 @@ fn post_one(q: usize, old: &[u32], next: &mut [u32]) -> u32
     160 + k
 }
 
-// All ports; 256 where nothing is sent.
-fn post_all(n: usize, old: &[u32], next: &mut [u32], sent: &mut [u32])
-    requires { ⌜ (n ≤ 32) × (length (now old) ≡ 2080) × (length (now next) ≡ 2080) × (length (now sent) ≡ 256) ⌝ }
+// The number of a device's ports, widened. That it fits is known of a parameter, and not of an element
+// of a lent array.
+fn wide(ports: u8) -> usize
+    ensures { λ r. ⌜ r ≡ ports ⌝ }
+{
+    ports as usize
+}
+
+// All ports, by device; 256 where nothing is sent. A port that its device lacks has nothing to send,
+// and is passed over.
+fn post_all(n: usize, ports: &[u8; 32], old: &[u32], next: &mut [u32], sent: &mut [u32])
+    requires { ⌜ (n ≤ 32) × ((d : ℕ) → d < n → Unused (now old) d (getD (now ports) d 0)) × (length (now old) ≡ 2080) × (length (now next) ≡ 2080) × (length (now sent) ≡ 256) ⌝ }
     ensures { λ _. ⌜ (now (next .exit) ≡ upTo (unqueued (now (old .entry))) (8 * n) (now (next .entry))) × (now (sent .exit) ≡ table 256 (λ q. cond (ltb q (8 * n)) (sends (now (old .entry)) q) 256)) ⌝ }
 {
     areas::fill(sent, 256);
-    for q in 0..8 * n {
-        sent[q] = post_one(q, old, next);
+    for d in 0..n {
+        let first = 8 * d;
+        let end = first + wide(ports[d]);
+        for q in first..end {
+            sent[q] = post_one(q, old, next);
+        }
     }
 }
 
@@ -262,7 +275,8 @@ fn load_of(loads: [u16; 2], role: u8) -> u32
     0
 }
 
-// What the far ends sent arrives, by receiving device, then port.
+// What the far ends sent arrives, by receiving device, then port. A port that its device lacks leads
+// nowhere, and is passed over.
 fn arrive_all(
     core: Core,
     peers: [[u16; 8]; 32],
@@ -271,29 +285,58 @@ fn arrive_all(
     told: &mut [u32],
     count: usize,
 ) -> usize
-    requires { ⌜ (core .devices ≤ 32) × (length (now state) ≡ 2080) × (count ≤ 1024) ⌝ }
+    requires { ⌜ Held (record { core = core; peers = peers }) × (length (now sent) ≡ 256) × (length (now state) ≡ 2080) × (count ≤ 1024) ⌝ }
     ensures { λ r. ⌜ Follows (reached (record { core = core; peers = peers }) (now (sent .entry))) (seen (now (state .entry)) (now (told .entry)) count) (seen (now (state .exit)) (now (told .exit)) r) ⌝ }
 {
     let loads = core.loads;
     let mut count = count;
-    for q in 0..8 * core.devices {
-        let byte = heard(peers[q / 8][q % 8], sent);
-        if byte < 256 {
-            let role = core.role[q / 8];
-            let load = load_of(loads, role);
-            count = arrive_one(
-                role == 1,
-                load,
-                &core.permissions,
-                q,
-                byte as u8,
-                state,
-                told,
-                count,
-            );
+    for d in 0..core.devices {
+        let role = core.role[d];
+        let load = load_of(loads, role);
+        let row = peers[d];
+        let first = 8 * d;
+        let past = first + wide(core.ports[d]);
+        for q in first..past {
+            let byte = heard(row[q % 8], sent);
+            if byte < 256 {
+                count = arrive_one(
+                    role == 1,
+                    load,
+                    &core.permissions,
+                    q,
+                    byte as u8,
+                    state,
+                    told,
+                    count,
+                );
+            }
         }
     }
     count
+}
+
+// ---- the round
+
+// The words of a state by value, and put into an area. A state is copied by way of its value: of two
+// lent areas the compiler does not know that they lie apart, and so cannot copy them in one go.
+fn words_of(state: &[u32]) -> [u32; 2080]
+    requires { ⌜ length (now state) ≡ 2080 ⌝ }
+    ensures { λ r. ⌜ r ≡ now (state .entry) ⌝ }
+{
+    let mut words = [0u32; 2080];
+    for i in 0..2080 {
+        words[i] = state[i];
+    }
+    words
+}
+
+fn put_words(words: [u32; 2080], state: &mut [u32])
+    requires { ⌜ length (now state) ≡ 2080 ⌝ }
+    ensures { λ _. ⌜ now (state .exit) ≡ words ⌝ }
+{
+    for i in 0..2080 {
+        state[i] = words[i];
+    }
 }
 
 // The round, with no checks.
@@ -308,9 +351,9 @@ pub(crate) fn play(
     requires { ⌜ Held (record { core = core; peers = peers }) × Sound (record { core = core; peers = peers }) (now old) × (length (now next) ≡ 2080) × (length (now sent) ≡ 256) ⌝ }
     ensures { λ r. ⌜ Played (record { core = core; peers = peers }) (now (old .entry)) (now (told .entry)) (now (next .exit)) (now (sent .exit)) (now (told .exit)) r ⌝ }
 {
-    areas::copy(old, next);
+    put_words(words_of(old), next);
     let count = tick_all(core.devices, &core.role, next, told);
-    post_all(core.devices, old, next, sent);
+    post_all(core.devices, &core.ports, old, next, sent);
     arrive_all(core, peers, sent, next, told, count)
 }
 

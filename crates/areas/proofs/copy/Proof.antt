@@ -1,11 +1,10 @@
-use mathlib.Core.Path.{refl, sym, _∙_}
+use mathlib.Core.Path.{refl}
 use Prim.Native.Nat.{_-_}
 use lib.ListN.{length, getD}
 use borrow.Author.Needs.{needs}
 use borrow.Author.Tests.{eq-eqb, ne-eqb}
 use Rattle.areas.specs.Put.{copied}
-use Rattle.areas.proofs.Tables.{is-table}
-use Rattle.areas.proofs.Written.{Written, turn, done}
+use Rattle.areas.proofs.Written.{Written, turn, done-copy}
 use Rattle.areas.proofs.copy.Statement.{statement}
 use Rattle.areas.proofs.copy.Tie as tie
 
@@ -48,9 +47,7 @@ same-length c = search needs
 
 returns-2 : tie.Need-returns-2 Inv-loop μ-loop
 unfolding copied
-returns-2 c =
-    let src = c .before .before .before .args .src .now in
-    rw (eq-eqb _ _ (c .before .before .if1 .left)) (done (c .before .loop .inv) (c .loop-test .left) ∙ sym (is-table (length src) (λ k. getD src k 0) src 0 refl (λ k l. refl)))
+returns-2 c = rw (eq-eqb _ _ (c .before .before .if1 .left)) (done-copy (c .before .loop .inv) (c .loop-test .left) refl)
 
 pub copy-spec : {M : Type 1} → statement M
 copy-spec =

@@ -1,123 +1,215 @@
 use mathlib.Core.Path.{_≡_, ap, _∙_}
-use mathlib.Core.List.{List}
+use mathlib.Core.List.{List, []}
 use mathlib.Core.Logic.{⊎-elim}
-use Prim.Native.Nat.{ℕ, _+_, _-_, _*_, _≤_, _<_}
+use Prim.Native.Nat.{ℕ, _+_, _-_, _*_, _/_, _%_, _≤_, _<_}
 use native.Mathlib.Omega.{arith}
-use lib.ListN.{length}
+use lib.ListN.{length, getD}
 use Rattle.areas.specs.Loop.{upTo}
 use Rattle.plan.specs.declared.Plan.{Plan}
-use Rattle.bench.specs.Network.{devices}
-use Rattle.bench.specs.Round.{arrives, reached}
+use Rattle.plan.proofs.Round.{held-few}
+use Rattle.bench.specs.Network.{devices, role, router}
+use Rattle.bench.specs.Round.{World, arrived, arrives, reached}
 use Rattle.bench.specs.Telling.{Seen, seen, Follows}
-use Rattle.bench.proofs.Tellings.{leads, silent, lands, follows-none, follows-more, follows-done}
+use Rattle.bench.proofs.Tellings.{leads, silent, lands, follows-none, follows-more, follows-still, follows-done}
 use Rattle.bench.proofs.Stepped.{arrives-nothing, arrives-byte}
+use Rattle.bench.proofs.Plans.{few}
+use Rattle.bench.proofs.Idles.{arrives-unused}
 use borrow.Author.Needs.{needs}
 use Rattle.bench.proofs.rounds.arrive_all.Statement.{statement}
 use Rattle.bench.proofs.rounds.arrive_all.Tie as tie
 
--- at q ports something has arrived, and at most one word was told at each
+-- at the ports before q something has arrived, and at most one word was told at each
 record Reached (plan : Plan) (sent : List ℕ) (size : ℕ) (x : Seen) (q : ℕ) (y : Seen) : Type 0 where
   within : q ≤ 8 * devices plan
+  few : devices plan ≤ 32
   count : y .count ≤ 1024 + q
   state : length (y .state) ≡ 2080
   area : length (y .area) ≡ size
   follows : Follows (upTo (arrives plan sent) q) x y
 
-again : {plan : Plan} {sent : List ℕ} {size : ℕ} {x : Seen} {q : ℕ} {y z : Seen} → Reached plan sent size x q y → q < 8 * devices plan
-    → Follows (arrives plan sent q) y z → z .count ≤ y .count + 1 → length (z .state) ≡ length (y .state) → length (z .area) ≡ length (y .area)
-    → Reached plan sent size x (q + 1) z
-again v h p n s a =
-    record { within = omega arith; count = omega (arith, v .count); state = s ∙ v .state; area = a ∙ v .area; follows = follows-more _ (v .follows) p }
+module _ {plan : Plan} {sent : List ℕ} {size : ℕ} {x : Seen} {q : ℕ} {y : Seen} (v : Reached plan sent size x q y) where
+  again : q < 8 * devices plan → {z : Seen} → Follows (arrives plan sent q) y z → z .count ≤ y .count + 1 → length (z .state) ≡ length (y .state)
+      → length (z .area) ≡ length (y .area) → Reached plan sent size x (q + 1) z
+  again h p n s a =
+      record {
+        within = omega arith;
+        few = v .few;
+        count = omega (arith, v .count);
+        state = s ∙ v .state;
+        area = a ∙ v .area;
+        follows = follows-more _ (v .follows) p;
+      }
+
+  -- at the ports up to e nothing arrives
+  skip : {e : ℕ} → q ≤ e → e ≤ 8 * devices plan → ((j : ℕ) → q ≤ j → j < e → (w : World) → arrives plan sent j w ≡ w) → Reached plan sent size x e y
+  skip l h none =
+      record {
+        within = h;
+        few = v .few;
+        count = omega (arith, v .count);
+        state = v .state;
+        area = v .area;
+        follows = follows-still _ (v .follows) l (λ w e j a b. none j a b _);
+      }
+
+-- port q is one of device d
+module _ (plan : Plan) (sent : List ℕ) (q d byte : ℕ) (device : q / 8 ≡ d) (e : byte ≡ getD sent (getD (getD (plan .peers) d []) (q % 8) 0) 256) where
+  here-byte : (load : ℕ) → load ≡ getD (plan .core .loads) (role plan d) 0 → byte < 256 → (w : World)
+      → arrives plan sent q w ≡ arrived (λ _. load) (plan .core .permissions) q (router plan d) byte w
+  here-byte load l h w = rw (← device) (arrives-byte plan sent q byte (rw device e) w load h (rw device l))
+
+  here-nothing : 256 ≤ byte → (w : World) → arrives plan sent q w ≡ w
+  here-nothing h w = arrives-nothing plan sent q byte (rw device e) w h
+
+abbrev Inv-loop2 : tie.InvT-loop2
+Inv-loop2 sent state₀ told₀ count core peers loads count₀ d role load row first past q₀ d-end state told count' q =
+    ((size : ℕ) (x : Seen) → Reached (record { core = core; peers = peers }) sent size x first (seen state₀ told₀ count₀) → Reached (record { core = core; peers = peers }) sent size x q (seen state told count'))
+    × (first ≤ q)
+    × (q ≤ past)
+    × (past ≤ 8 * core .devices)
+
+abbrev μ-loop2 : tie.MeasureT-loop2
+μ-loop2 sent state₀ told₀ count core peers loads count₀ d role load row first past q₀ d-end state told count' q = past - q
 
 abbrev Inv-loop : tie.InvT-loop
-Inv-loop sent state₀ told₀ count core peers loads count₀ q₀ q-end state told count' q = Reached (record { core = core; peers = peers }) sent (length told₀) (seen state₀ told₀ count) q (seen state told count')
+Inv-loop sent state₀ told₀ count core peers loads count₀ d₀ d-end state told count' d = Reached (record { core = core; peers = peers }) sent (length told₀) (seen state₀ told₀ count) (8 * d) (seen state told count')
 
 abbrev μ-loop : tie.MeasureT-loop
-μ-loop sent state₀ told₀ count core peers loads count₀ q₀ q-end state told count' q = 8 * core .devices - q
+μ-loop sent state₀ told₀ count core peers loads count₀ d₀ d-end state told count' d = core .devices - d
 
-mul-q-end : tie.Need-mul-q-end Inv-loop μ-loop
-mul-q-end c = search needs
+loop-holds : tie.Need-loop-holds Inv-loop2 μ-loop2 Inv-loop μ-loop
+loop-holds c =
+    let s = c .before .before .before .before in
+    record { within = omega arith; few = few _ (s .pre .0); count = omega arith; state = search needs; area = search needs; follows = follows-none _ }
 
-loop-holds : tie.Need-loop-holds Inv-loop μ-loop
-loop-holds c = record { within = omega arith; count = omega arith; state = search needs; area = search needs; follows = follows-none _ }
-
-mul-heard : tie.Need-mul-heard Inv-loop μ-loop
-mul-heard c = search needs
-
-mul-heard-2 : tie.Need-mul-heard-2 Inv-loop μ-loop
-mul-heard-2 c = search needs
-
-index-1-heard : tie.Need-index-1-heard Inv-loop μ-loop
-index-1-heard c = search needs
-
-index-2-heard : tie.Need-index-2-heard Inv-loop μ-loop
-index-2-heard c = search needs
-
-heard-requires : tie.Need-heard-requires Inv-loop μ-loop
-heard-requires c κs = search needs
-
-element-copy-out-role : tie.Need-element-copy-out-role Inv-loop μ-loop
+element-copy-out-role : tie.Need-element-copy-out-role Inv-loop2 μ-loop2 Inv-loop μ-loop
 element-copy-out-role c = search needs
 
-load-of-requires : tie.Need-load-of-requires Inv-loop μ-loop
+load-of-requires : tie.Need-load-of-requires Inv-loop2 μ-loop2 Inv-loop μ-loop
 load-of-requires c κs = search needs
 
-cast-arrive-one : tie.Need-cast-arrive-one Inv-loop μ-loop
+mul-row : tie.Need-mul-row Inv-loop2 μ-loop2 Inv-loop μ-loop
+mul-row c = search needs
+
+array-copy-out-row : tie.Need-array-copy-out-row Inv-loop2 μ-loop2 Inv-loop μ-loop
+array-copy-out-row c = search needs
+
+mul-first : tie.Need-mul-first Inv-loop2 μ-loop2 Inv-loop μ-loop
+mul-first c = search needs
+
+element-copy-out-wide : tie.Need-element-copy-out-wide Inv-loop2 μ-loop2 Inv-loop μ-loop
+element-copy-out-wide c = search needs
+
+wide-requires : tie.Need-wide-requires Inv-loop2 μ-loop2 Inv-loop μ-loop
+wide-requires c κs = search needs
+
+add-past : tie.Need-add-past Inv-loop2 μ-loop2 Inv-loop μ-loop
+add-past c = omega (arith, held-few _ (c .before .before .before .before .before .before .before .before .before .before .before .pre .0) (c .before .before .before .before .before .before .loop .d) (omega arith) .1)
+
+loop2-holds : tie.Need-loop2-holds Inv-loop2 μ-loop2 Inv-loop μ-loop
+loop2-holds c =
+    let most = held-few _ (c .before .before .before .before .before .before .before .before .before .before .before .pre .0) (c .before .before .before .before .before .before .loop .d) (omega arith) .1 in
+    (λ size x v. v, omega arith, omega arith, omega arith)
+
+mul-heard : tie.Need-mul-heard Inv-loop2 μ-loop2 Inv-loop μ-loop
+mul-heard c = search needs
+
+array-read-heard : tie.Need-array-read-heard Inv-loop2 μ-loop2 Inv-loop μ-loop
+array-read-heard c = search needs
+
+heard-requires : tie.Need-heard-requires Inv-loop2 μ-loop2 Inv-loop μ-loop
+heard-requires c κs = search needs
+
+cast-arrive-one : tie.Need-cast-arrive-one Inv-loop2 μ-loop2 Inv-loop μ-loop
 cast-arrive-one c = search needs
 
-arrive-one-requires : tie.Need-arrive-one-requires Inv-loop μ-loop
-arrive-one-requires c κs = search needs
+arrive-one-requires : tie.Need-arrive-one-requires Inv-loop2 μ-loop2 Inv-loop μ-loop
+arrive-one-requires c κs =
+    let l = c .before .before .before .before .before .before .before in
+    let v = l .loop2 .inv .0 _ _ (l .before .before .before .before .before .before .before .loop .inv) in
+    (v .state, omega arith, omega (arith, v .count))
 
-add-q : tie.Need-add-q Inv-loop μ-loop
+add-q : tie.Need-add-q Inv-loop2 μ-loop2 Inv-loop μ-loop
 add-q c = search needs
 
-loop-less : tie.Need-loop-less Inv-loop μ-loop
+loop2-less : tie.Need-loop2-less Inv-loop2 μ-loop2 Inv-loop μ-loop
+loop2-less c = search needs
+
+loop2-again : tie.Need-loop2-again Inv-loop2 μ-loop2 Inv-loop μ-loop
+loop2-again c =
+    let l = c .before .before .before in
+    let o = l .before .before .before .before .before .before .before in
+    let most = held-few _ (o .before .before .before .before .before .pre .0) (o .loop .d) (omega arith) .1 in
+    let device : l .loop2 .q / 8 ≡ o .loop .d = omega arith in
+    let byte = c .before .heard .ensures in
+    let load = c .before .before .before .before .before .before .before .load-of .ensures in (
+      λ size x v. let u = l .loop2 .inv .0 size x v in
+          ⊎-elim
+          (λ w. again u (omega arith)
+          (lands (w .10) (w .11) (w .12) (leads (λ told. here-byte _ _ _ _ _ device byte _ load (w .0 .taken) _) (w .5 .ensures .0)))
+          (omega (arith, w .12, w .5 .ensures .1))
+          (ap length (w .10) ∙ w .5 .kept .1 .1 .1 .1 .1 .0)
+          (ap length (w .11) ∙ w .5 .kept .1 .1 .1 .1 .1 .1 .0))
+          (λ w. again u (omega arith) (lands (w .1) (w .2) (w .3) (silent (λ told. here-nothing _ _ _ _ _ device byte (w .0 .left) _))) (omega (arith, w .3)) (ap length (w .1)) (ap length (w .2)))
+          (c .if1 .came),
+      omega arith,
+      omega arith,
+      l .loop2 .inv .3,
+    )
+
+add-d : tie.Need-add-d Inv-loop2 μ-loop2 Inv-loop μ-loop
+add-d c = search needs
+
+loop-less : tie.Need-loop-less Inv-loop2 μ-loop2 Inv-loop μ-loop
 loop-less c = search needs
 
-loop-again : tie.Need-loop-again Inv-loop μ-loop
+loop-again : tie.Need-loop-again Inv-loop2 μ-loop2 Inv-loop μ-loop
 loop-again c =
-    let l = c .before .before .before .before .loop .inv in
-    let less = c .before .before .before .loop-test .taken in
-    let byte = c .before .heard .ensures in
-    ⊎-elim
-    (λ w. again l less
-    (lands (w .12) (w .13) (w .14) (leads (λ told. arrives-byte _ _ _ _ byte _ _ (w .0 .taken) (w .2 .ensures)) (w .7 .ensures .0)))
-    (omega (arith, w .14, w .7 .ensures .1))
-    (ap length (w .12) ∙ w .7 .kept .1 .1 .1 .1 .1 .0)
-    (ap length (w .13) ∙ w .7 .kept .1 .1 .1 .1 .1 .1 .0))
-    (λ w. again l less (lands (w .1) (w .2) (w .3) (silent (λ told. arrives-nothing _ _ _ _ byte _ (w .0 .left)))) (omega (arith, w .3)) (ap length (w .1)) (ap length (w .2)))
-    (c .if1 .came)
+    let l = c .before in
+    let o = l .before .before .before .before .before .before .before in
+    let s = o .before .before .before .before .before in
+    let most = held-few _ (s .pre .0) (o .loop .d) (omega arith) .1 in
+    let ports = l .before .wide .ensures in
+    skip (l .loop2 .inv .0 _ _ (o .loop .inv)) (omega arith) (omega arith)
+    (λ j a b. arrives-unused _ (s .pre .0) _ (s .pre .1) (o .loop .d) j (omega arith) (omega arith) (omega arith))
 
-same-length : tie.Need-same-length Inv-loop μ-loop
+same-length : tie.Need-same-length Inv-loop2 μ-loop2 Inv-loop μ-loop
 same-length c = search needs
 
-same-length-2 : tie.Need-same-length-2 Inv-loop μ-loop
+same-length-2 : tie.Need-same-length-2 Inv-loop2 μ-loop2 Inv-loop μ-loop
 same-length-2 c = search needs
 
-returns : tie.Need-returns Inv-loop μ-loop
+returns : tie.Need-returns Inv-loop2 μ-loop2 Inv-loop μ-loop
 unfolding reached
-returns c =
-    let l = c .before .loop .inv in
-    follows-done _ (l .follows) (omega arith)
+returns c = follows-done _ (c .before .loop .inv .follows) (omega (arith, c .before .loop .inv .within))
 
 pub arrive-all-spec : {M : Type 1} → statement M
 arrive-all-spec =
     tie.close
     (tie.spec
+    Inv-loop2
+    μ-loop2
     Inv-loop
     μ-loop
-    mul-q-end
     loop-holds
-    mul-heard
-    mul-heard-2
-    index-1-heard
-    index-2-heard
-    heard-requires
     element-copy-out-role
     load-of-requires
+    mul-row
+    array-copy-out-row
+    mul-first
+    element-copy-out-wide
+    wide-requires
+    add-past
+    loop2-holds
+    mul-heard
+    array-read-heard
+    heard-requires
     cast-arrive-one
     arrive-one-requires
     add-q
+    loop2-less
+    loop2-again
+    add-d
     loop-less
     loop-again
     same-length
