@@ -1,6 +1,7 @@
 pub mod Apart
 pub mod Asked
 pub mod Called
+pub mod Flags
 pub mod Idles
 pub mod Kept
 pub mod Marks

@@ -44,8 +44,17 @@ pub(crate) fn word(state: &[u32], i: usize) -> u32
     0
 }
 
+// Word i of a state whose length is known.
+fn inside(state: &[u32], i: usize) -> u32
+    requires { ⌜ i < length (now state) ⌝ }
+    ensures { λ r. ⌜ r ≡ State·word (now (state .entry)) i ⌝ }
+{
+    state[i]
+}
+
 // Are the timers of n devices sound? A state has room for 32.
 fn all_timed(n: usize, state: &[u32]) -> bool
+    requires { ⌜ length (now state) ≡ 2080 ⌝ }
     ensures { λ r. ⌜ r ≡ allTimed n (now (state .entry)) ⌝ }
 {
     for d in 0..32 {
@@ -61,14 +70,14 @@ fn all_timed(n: usize, state: &[u32]) -> bool
 
 // Are the timers of device d sound?
 fn device_timed(state: &[u32], d: usize) -> bool
-    requires { ⌜ d < 32 ⌝ }
+    requires { ⌜ (length (now state) ≡ 2080) × (d < 32) ⌝ }
     ensures { λ r. ⌜ r ≡ deviceTimed (now (state .entry)) d ⌝ }
 {
-    let register = word(state, DEVICE * d);
+    let register = inside(state, DEVICE * d);
     for k in 0..32 {
         if !timer_sound(
             bits::get(register, k as u32),
-            word(state, DEVICE * d + 1 + k),
+            inside(state, DEVICE * d + 1 + k),
         ) {
             return false;
         }
@@ -91,13 +100,14 @@ fn timer_sound(on: u32, timer: u32) -> bool
 
 // Are the words behind those of n devices 0, up to the ports?
 fn rest_zero(n: usize, state: &[u32]) -> bool
+    requires { ⌜ length (now state) ≡ 2080 ⌝ }
     ensures { λ r. ⌜ r ≡ restZero n (now (state .entry)) ⌝ }
 {
     if 32 <= n {
         return true;
     }
     for i in DEVICE * n..PORTS {
-        if word(state, i) != 0 {
+        if inside(state, i) != 0 {
             return false;
         }
     }
@@ -111,6 +121,7 @@ fn ports_sound(
     peers: &[[u16; 8]; 32],
     state: &[u32],
 ) -> bool
+    requires { ⌜ length (now state) ≡ 2080 ⌝ }
     ensures { λ r. ⌜ r ≡ portsSound (now (ports .entry)) (now (permissions .entry)) (now (peers .entry)) (now (state .entry)) ⌝ }
 {
     for q in 0..256 {
@@ -123,7 +134,7 @@ fn ports_sound(
 
 // Is port q sound, where its device has so many, and else 0?
 fn port_sound(state: &[u32], q: usize, ports: u8, peer: u16, permissions: u8) -> bool
-    requires { ⌜ q < 256 ⌝ }
+    requires { ⌜ (length (now state) ≡ 2080) × (q < 256) ⌝ }
     ensures { λ r. ⌜ r ≡ portSound (now (state .entry)) q ports peer permissions ⌝ }
 {
     if q % 8 < ports as usize {
@@ -133,11 +144,11 @@ fn port_sound(state: &[u32], q: usize, ports: u8, peer: u16, permissions: u8) ->
 }
 
 fn port_zero(state: &[u32], q: usize) -> bool
-    requires { ⌜ q < 256 ⌝ }
+    requires { ⌜ (length (now state) ≡ 2080) × (q < 256) ⌝ }
     ensures { λ r. ⌜ r ≡ portZero (now (state .entry)) q ⌝ }
 {
     for i in 0..4 {
-        if word(state, PORTS + PORT * q + i) != 0 {
+        if inside(state, PORTS + PORT * q + i) != 0 {
             return false;
         }
     }
@@ -146,22 +157,28 @@ fn port_zero(state: &[u32], q: usize) -> bool
 
 // Is port q sound, whose peer and permissions these are?
 fn port_kept(state: &[u32], q: usize, peer: u16, permissions: u8) -> bool
-    requires { ⌜ q < 256 ⌝ }
+    requires { ⌜ (length (now state) ≡ 2080) × (q < 256) ⌝ }
     ensures { λ r. ⌜ r ≡ portKept (now (state .entry)) q peer permissions ⌝ }
 {
     let at = PORTS + PORT * q;
-    if 31 < word(state, at + 2) {
+    if 31 < inside(state, at + 2) {
         return false;
     }
-    let running = word(state, at + 3);
+    let running = inside(state, at + 3);
     if !flag_sound(state, running, peer) {
         return false;
     }
-    waiting_sound(word(state, at), word(state, at + 1), running, permissions)
+    waiting_sound(
+        inside(state, at),
+        inside(state, at + 1),
+        running,
+        permissions,
+    )
 }
 
 // Is the running flag 0 or 1, as at the other end, and 0 where there is none?
 fn flag_sound(state: &[u32], running: u32, peer: u16) -> bool
+    requires { ⌜ length (now state) ≡ 2080 ⌝ }
     ensures { λ r. ⌜ r ≡ flagSound (now (state .entry)) running peer ⌝ }
 {
     if 1 < running {
@@ -173,7 +190,7 @@ fn flag_sound(state: &[u32], running: u32, peer: u16) -> bool
     if 256 < peer {
         return true;
     }
-    running == word(state, PORTS + PORT * peer as usize + RUNNING)
+    running == inside(state, PORTS + PORT * peer as usize + RUNNING)
 }
 
 // Have the waiting sets no common bit, and may what is in them wait?
@@ -222,25 +239,10 @@ fn write_first(peers: &[[u16; 8]; 32], state: &mut [u32])
     requires { ⌜ length (now state) ≡ 2080 ⌝ }
     ensures { λ r. ⌜ now (state .exit) ≡ table 2080 (firstWord (now (peers .entry))) ⌝ }
 {
-    for i in 0..2080 {
-        state[i] = first_word(peers, i);
+    areas::fill(state, 0);
+    for q in 0..256 {
+        if peers[q / 8][q % 8] != 256 {
+            state[PORTS + PORT * q + RUNNING] = 1;
+        }
     }
-}
-
-// Word i of the start state: 1 for the flag of a connected port.
-fn first_word(peers: &[[u16; 8]; 32], i: usize) -> u32
-    requires { ⌜ i < 2080 ⌝ }
-    ensures { λ r. ⌜ r ≡ firstWord (now (peers .entry)) i ⌝ }
-{
-    if i < PORTS {
-        return 0;
-    }
-    if i % 4 != 3 {
-        return 0;
-    }
-    let q = (i - PORTS) / PORT;
-    if peers[q / 8][q % 8] == 256 {
-        return 0;
-    }
-    1
 }

@@ -24,11 +24,11 @@ Inv-loop state d register k₀ k = (k ≤ 32) × ((i : ℕ) → i < k → timerS
 abbrev μ-loop : tie.MeasureT-loop
 μ-loop state d register k₀ k = 32 - k
 
-mul-word : tie.Need-mul-word Inv-loop μ-loop
-mul-word c = search needs
+mul-inside : tie.Need-mul-inside Inv-loop μ-loop
+mul-inside c = search needs
 
-word-requires : tie.Need-word-requires Inv-loop μ-loop
-word-requires c κs = search needs
+inside-requires : tie.Need-inside-requires Inv-loop μ-loop
+inside-requires c κs = search needs
 
 loop-holds : tie.Need-loop-holds Inv-loop μ-loop
 loop-holds c = (omega arith, below-none _)
@@ -39,17 +39,17 @@ cast-get c = search needs
 get-requires : tie.Need-get-requires Inv-loop μ-loop
 get-requires c κs = search needs
 
-mul-word-2 : tie.Need-mul-word-2 Inv-loop μ-loop
-mul-word-2 c = search needs
+mul-inside-2 : tie.Need-mul-inside-2 Inv-loop μ-loop
+mul-inside-2 c = search needs
 
-add-word : tie.Need-add-word Inv-loop μ-loop
-add-word c = search needs
+add-inside : tie.Need-add-inside Inv-loop μ-loop
+add-inside c = search needs
 
-add-word-2 : tie.Need-add-word-2 Inv-loop μ-loop
-add-word-2 c = search needs
+add-inside-2 : tie.Need-add-inside-2 Inv-loop μ-loop
+add-inside-2 c = search needs
 
-word-requires-2 : tie.Need-word-requires-2 Inv-loop μ-loop
-word-requires-2 c κs = search needs
+inside-requires-2 : tie.Need-inside-requires-2 Inv-loop μ-loop
+inside-requires-2 c κs = search needs
 
 timer-sound-requires : tie.Need-timer-sound-requires Inv-loop μ-loop
 timer-sound-requires c κs = search needs
@@ -58,7 +58,7 @@ returns : tie.Need-returns Inv-loop μ-loop
 unfolding deviceTimed
 returns c =
     let w = c .before .before in
-    let e = tested _ _ _ (w .before .before .before .before .word .ensures) (w .before .get .ensures) (w .word2 .ensures) (c .before .timer-sound .ensures) in
+    let e = tested _ _ _ (w .before .before .before .before .inside .ensures) (w .before .get .ensures) (w .inside2 .ensures) (c .before .timer-sound .ensures) in
     sym (every-not 32 _ _ (omega arith) (e ∙ not-true _ (c .if1 .taken)))
 
 add-k : tie.Need-add-k Inv-loop μ-loop
@@ -70,7 +70,7 @@ loop-less c = omega arith
 loop-again : tie.Need-loop-again Inv-loop μ-loop
 loop-again c =
     let w = c .before .before in
-    let e = tested _ _ _ (w .before .before .before .before .word .ensures) (w .before .get .ensures) (w .word2 .ensures) (c .before .timer-sound .ensures) in
+    let e = tested _ _ _ (w .before .before .before .before .inside .ensures) (w .before .get .ensures) (w .inside2 .ensures) (c .before .timer-sound .ensures) in
     (omega arith, below-more _ _ (w .before .before .before .loop .inv .1) (e ∙ not-false _ (c .if1 .left)))
 
 returns-2 : tie.Need-returns-2 Inv-loop μ-loop
@@ -83,15 +83,15 @@ device-timed-spec =
     (tie.spec
     Inv-loop
     μ-loop
-    mul-word
-    word-requires
+    mul-inside
+    inside-requires
     loop-holds
     cast-get
     get-requires
-    mul-word-2
-    add-word
-    add-word-2
-    word-requires-2
+    mul-inside-2
+    add-inside
+    add-inside-2
+    inside-requires-2
     timer-sound-requires
     returns
     add-k

@@ -18,21 +18,21 @@ mul-at c = search needs
 add-at : tie.Need-add-at
 add-at c = search needs
 
-add-word : tie.Need-add-word
-add-word c = search needs
+add-inside : tie.Need-add-inside
+add-inside c = search needs
 
-word-requires : tie.Need-word-requires
-word-requires c κs = search needs
+inside-requires : tie.Need-inside-requires
+inside-requires c κs = search needs
 
 returns : tie.Need-returns
 unfolding portKept
-returns c = simp (← c .before .word .ensures, lt-leb _ _ (c .if1 .taken))
+returns c = simp (← c .before .inside .ensures, lt-leb _ _ (c .if1 .taken))
 
-add-word-2 : tie.Need-add-word-2
-add-word-2 c = search needs
+add-inside-2 : tie.Need-add-inside-2
+add-inside-2 c = search needs
 
-word-requires-2 : tie.Need-word-requires-2
-word-requires-2 c κs = search needs
+inside-requires-2 : tie.Need-inside-requires-2
+inside-requires-2 c κs = search needs
 
 flag-sound-requires : tie.Need-flag-sound-requires
 flag-sound-requires c κs = search needs
@@ -41,20 +41,20 @@ returns-2 : tie.Need-returns-2
 unfolding portKept
 returns-2 c =
     simp (
-      ← c .before .before .before .before .word .ensures,
+      ← c .before .before .before .before .inside .ensures,
       le-leb _ _ (c .before .before .before .if1 .left),
-      ← c .before .before .word2 .ensures,
+      ← c .before .before .inside2 .ensures,
       sym (c .before .flag-sound .ensures) ∙ not-true _ (c .if2 .taken),
     )
 
-word-requires-3 : tie.Need-word-requires-3
-word-requires-3 c κs = search needs
+inside-requires-3 : tie.Need-inside-requires-3
+inside-requires-3 c κs = search needs
 
-add-word-3 : tie.Need-add-word-3
-add-word-3 c = search needs
+add-inside-3 : tie.Need-add-inside-3
+add-inside-3 c = search needs
 
-word-requires-4 : tie.Need-word-requires-4
-word-requires-4 c κs = search needs
+inside-requires-4 : tie.Need-inside-requires-4
+inside-requires-4 c κs = search needs
 
 waiting-sound-requires : tie.Need-waiting-sound-requires
 waiting-sound-requires c κs = search needs
@@ -64,12 +64,12 @@ unfolding portKept
 returns-3 c =
     let args = c .before .before .before .before .before .before .before .before .before .args in
     simp (
-      ← c .before .before .before .before .before .before .before .word .ensures,
+      ← c .before .before .before .before .before .before .before .inside .ensures,
       le-leb _ _ (c .before .before .before .before .before .before .if1 .left),
-      ← c .before .before .before .before .before .word2 .ensures,
+      ← c .before .before .before .before .before .inside2 .ensures,
       sym (c .before .before .before .before .flag-sound .ensures) ∙ not-false _ (c .before .before .before .if2 .left),
-      first-set (args .state .now) (args .q) (c .before .before .word3 .ensures),
-      ← c .before .word4 .ensures,
+      first-set (args .state .now) (args .q) (c .before .before .inside3 .ensures),
+      ← c .before .inside4 .ensures,
       ← c .waiting-sound .ensures,
     )
 
@@ -79,15 +79,15 @@ port-kept-spec =
     (tie.spec
     mul-at
     add-at
-    add-word
-    word-requires
+    add-inside
+    inside-requires
     returns
-    add-word-2
-    word-requires-2
+    add-inside-2
+    inside-requires-2
     flag-sound-requires
     returns-2
-    word-requires-3
-    add-word-3
-    word-requires-4
+    inside-requires-3
+    add-inside-3
+    inside-requires-4
     waiting-sound-requires
     returns-3)

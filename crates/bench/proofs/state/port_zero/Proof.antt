@@ -22,21 +22,21 @@ abbrev μ-loop : tie.MeasureT-loop
 loop-holds : tie.Need-loop-holds Inv-loop μ-loop
 loop-holds c = (omega arith, below-none _)
 
-mul-word : tie.Need-mul-word Inv-loop μ-loop
-mul-word c = search needs
+mul-inside : tie.Need-mul-inside Inv-loop μ-loop
+mul-inside c = search needs
 
-add-word : tie.Need-add-word Inv-loop μ-loop
-add-word c = search needs
+add-inside : tie.Need-add-inside Inv-loop μ-loop
+add-inside c = search needs
 
-add-word-2 : tie.Need-add-word-2 Inv-loop μ-loop
-add-word-2 c = search needs
+add-inside-2 : tie.Need-add-inside-2 Inv-loop μ-loop
+add-inside-2 c = search needs
 
-word-requires : tie.Need-word-requires Inv-loop μ-loop
-word-requires c κs = search needs
+inside-requires : tie.Need-inside-requires Inv-loop μ-loop
+inside-requires c κs = search needs
 
 returns : tie.Need-returns Inv-loop μ-loop
 unfolding portZero
-returns c = sym (every-not 4 _ (c .before .before .before .loop .i) (omega arith) (rw (← c .before .word .ensures) (ne-eqb _ _ (c .if1 .taken))))
+returns c = sym (every-not 4 _ (c .before .before .before .loop .i) (omega arith) (rw (← c .before .inside .ensures) (ne-eqb _ _ (c .if1 .taken))))
 
 add-i : tie.Need-add-i Inv-loop μ-loop
 add-i c = search needs
@@ -45,7 +45,7 @@ loop-less : tie.Need-loop-less Inv-loop μ-loop
 loop-less c = omega arith
 
 loop-again : tie.Need-loop-again Inv-loop μ-loop
-loop-again c = (omega arith, below-more _ _ (c .before .before .before .loop .inv .1) (eq-eqb _ _ (sym (c .before .word .ensures) ∙ c .if1 .left)))
+loop-again c = (omega arith, below-more _ _ (c .before .before .before .loop .inv .1) (eq-eqb _ _ (sym (c .before .inside .ensures) ∙ c .if1 .left)))
 
 returns-2 : tie.Need-returns-2 Inv-loop μ-loop
 unfolding portZero
@@ -58,10 +58,10 @@ port-zero-spec =
     Inv-loop
     μ-loop
     loop-holds
-    mul-word
-    add-word
-    add-word-2
-    word-requires
+    mul-inside
+    add-inside
+    add-inside-2
+    inside-requires
     returns
     add-i
     loop-less

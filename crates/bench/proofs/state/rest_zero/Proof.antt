@@ -29,14 +29,14 @@ mul-i c = search needs
 loop-holds : tie.Need-loop-holds Inv-loop μ-loop
 loop-holds c = (omega arith, omega arith, λ j l. or-left _ _ (lt-ltb _ _ l))
 
-word-requires : tie.Need-word-requires Inv-loop μ-loop
-word-requires c κs = search needs
+inside-requires : tie.Need-inside-requires Inv-loop μ-loop
+inside-requires c κs = search needs
 
 returns-2 : tie.Need-returns-2 Inv-loop μ-loop
 unfolding restZero
 returns-2 c =
     let w = c .before .before .before in
-    sym (every-not 1056 _ (w .loop .i) (omega arith) (simp (le-ltb (w .loop .i) (33 * w .before .before .before .args .n) (omega arith), ← c .before .word .ensures, ne-eqb _ _ (c .if2 .taken))))
+    sym (every-not 1056 _ (w .loop .i) (omega arith) (simp (le-ltb (w .loop .i) (33 * w .before .before .before .args .n) (omega arith), ← c .before .inside .ensures, ne-eqb _ _ (c .if2 .taken))))
 
 add-i : tie.Need-add-i Inv-loop μ-loop
 add-i c = search needs
@@ -47,7 +47,7 @@ loop-less c = omega arith
 loop-again : tie.Need-loop-again Inv-loop μ-loop
 loop-again c =
     let w = c .before .before .before in
-    let zero = eq-eqb _ _ (sym (c .before .word .ensures) ∙ c .if2 .left) in
+    let zero = eq-eqb _ _ (sym (c .before .inside .ensures) ∙ c .if2 .left) in
     (omega arith, omega arith, below-more _ _ (w .loop .inv .2) (or-right (ltb (w .loop .i) (33 * w .before .before .before .args .n)) _ zero))
 
 returns-3 : tie.Need-returns-3 Inv-loop μ-loop
@@ -63,7 +63,7 @@ rest-zero-spec =
     returns
     mul-i
     loop-holds
-    word-requires
+    inside-requires
     returns-2
     add-i
     loop-less

@@ -1,57 +1,69 @@
--- `bench::state::write_first` meets its contract. The invariant: the words before word i are written. Assumes nothing.
-use mathlib.Core.Path.{_≡_, _∙_}
-use mathlib.Core.List.{List}
-use Prim.Native.Nat.{ℕ, _+_, _-_, _<_, _≤_}
+-- `bench::state::write_first` meets its contract. The invariant: the ports before port q are written, in an area that is 0 otherwise. Assumes nothing.
+use mathlib.Core.Path.{_∙_, ap}
+use mathlib.Core.Logic.{⊎-elim, inl, inr}
+use Prim.Native.Nat.{_-_, _≤_}
 use native.Mathlib.Omega.{arith}
-use lib.ListN.{length, getD, set, length-set}
-use lib.Seq.{getD-set-same, getD-set-other}
-use borrow.Author.Count.{below-none, below-more}
-use Rattle.areas.proofs.Tables.{is-table}
-use Rattle.bench.specs.Steps.{firstWord}
+use Rattle.areas.specs.Table.{table}
+use Rattle.bench.proofs.Flags.{Begun, begins, again, all-begun}
 use borrow.Author.Needs.{needs}
 use Rattle.bench.proofs.state.write_first.Statement.{statement}
 use Rattle.bench.proofs.state.write_first.Tie as tie
 
--- one word more
-written : (f : ℕ → ℕ) (l : List ℕ) (i v : ℕ) → i < length l → v ≡ f i → ((j : ℕ) → j < i → getD l j 0 ≡ f j)
-    → (j : ℕ) → j < i + 1 → getD (set l i v) j 0 ≡ f j
-written f l i v h e w =
-    below-more _ i (λ j k. getD-set-other l i j v 0 (λ q. absurd (omega arith)) ∙ w j k) (getD-set-same l i v 0 h ∙ e)
-
 abbrev Inv-loop : tie.InvT-loop
-Inv-loop peers state₀ i₀ state i = (i ≤ 2080) × (length state ≡ 2080) × ((j : ℕ) → j < i → getD state j 0 ≡ firstWord peers j)
+Inv-loop peers state₀ q₀ state q = (q ≤ 256) × Begun peers q state
 
 abbrev μ-loop : tie.MeasureT-loop
-μ-loop peers state₀ i₀ state i = 2080 - i
+μ-loop peers state₀ q₀ state q = 256 - q
+
+fill-requires : tie.Need-fill-requires Inv-loop μ-loop
+fill-requires c κs = search needs
 
 loop-holds : tie.Need-loop-holds Inv-loop μ-loop
-loop-holds c = (omega arith, c .before .pre, below-none _)
+loop-holds c = (omega arith, begins _ _ (c .before .before .fill .ensures ∙ ap (λ n. table n (λ _. 0)) (c .before .before .before .before .before .pre)))
 
-first-word-requires : tie.Need-first-word-requires Inv-loop μ-loop
-first-word-requires c κs = search needs
+mul-if1 : tie.Need-mul-if1 Inv-loop μ-loop
+mul-if1 c = search needs
+
+mul-if1-2 : tie.Need-mul-if1-2 Inv-loop μ-loop
+mul-if1-2 c = search needs
+
+index-1-if1 : tie.Need-index-1-if1 Inv-loop μ-loop
+index-1-if1 c = search needs
+
+index-2-if1 : tie.Need-index-2-if1 Inv-loop μ-loop
+index-2-if1 c = search needs
 
 mul-state : tie.Need-mul-state Inv-loop μ-loop
 mul-state c = search needs
 
+add-state : tie.Need-add-state Inv-loop μ-loop
+add-state c = search needs
+
+add-state-2 : tie.Need-add-state-2 Inv-loop μ-loop
+add-state-2 c = search needs
+
+mul-state-2 : tie.Need-mul-state-2 Inv-loop μ-loop
+mul-state-2 c = search needs
+
 slice-write-state : tie.Need-slice-write-state Inv-loop μ-loop
 slice-write-state c = search needs
 
-add-i : tie.Need-add-i Inv-loop μ-loop
-add-i c = search needs
+add-q : tie.Need-add-q Inv-loop μ-loop
+add-q c = search needs
 
 loop-less : tie.Need-loop-less Inv-loop μ-loop
-loop-less c = omega arith
+loop-less c = search needs
 
 loop-again : tie.Need-loop-again Inv-loop μ-loop
 loop-again c =
-    let v = c .before .before .loop in
-    (omega arith, length-set (v .state) (v .i) _ ∙ v .inv .1, written _ (v .state) (v .i) _ (omega arith) (c .first-word .ensures) (v .inv .2))
+    let l = c .before .before .before .loop in
+    (omega arith, again _ (l .q) (l .state) (c .if1 .state) (omega arith) (l .inv .1) (⊎-elim (λ w. inl (w .0 .taken, w .1)) (λ w. inr (w .0 .left, w .1)) (c .if1 .came)))
 
 same-length : tie.Need-same-length Inv-loop μ-loop
 same-length c = search needs
 
 returns : tie.Need-returns Inv-loop μ-loop
-returns c = is-table 2080 _ _ 0 (c .before .loop .inv .1) (λ j l. c .before .loop .inv .2 j (omega arith))
+returns c = all-begun _ _ _ (omega arith) (c .before .loop .inv .1)
 
 pub write-first-spec : {M : Type 1} → statement M
 write-first-spec =
@@ -59,11 +71,18 @@ write-first-spec =
     (tie.spec
     Inv-loop
     μ-loop
+    fill-requires
     loop-holds
-    first-word-requires
+    mul-if1
+    mul-if1-2
+    index-1-if1
+    index-2-if1
     mul-state
+    add-state
+    add-state-2
+    mul-state-2
     slice-write-state
-    add-i
+    add-q
     loop-less
     loop-again
     same-length
