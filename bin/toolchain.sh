@@ -34,13 +34,24 @@ build() {
     mv "$stamp.new" "$stamp"
 }
 
-# Compiles and links a program: compile SOURCE PROGRAM, and then the archives that it needs. The kit has no headers
-# of C's library.
-compile() {
-    source=$1 program=$2
-    shift 2
-    "$tools/bin/clang" --target=x86_64-linux-gnu -O3 -fPIE -Wall -Wextra -Werror -I"$here/include" -c "$source" -o "$program.o"
+# Compiles a source: object SOURCE OBJECT. The kit has no headers of C's library.
+object() {
+    "$tools/bin/clang" --target=x86_64-linux-gnu -O3 -fPIE -Wall -Wextra -Werror -I"$here/include" -c "$1" -o "$2"
+}
+
+# Links a program: linked PROGRAM, and then the objects and archives that it needs.
+linked() {
+    program=$1
+    shift
     "$tools/bin/ld.lld" -pie -dynamic-linker /lib64/ld-linux-x86-64.so.2 -o "$program" \
-        "$lib/Scrt1.o" "$lib/crti.o" "$lib/crtbeginS.o" "$program.o" "$@" \
+        "$lib/Scrt1.o" "$lib/crti.o" "$lib/crtbeginS.o" "$@" \
         "$lib/libc.so.6" "$lib/libc_nonshared.a" "$lib/libgcc.a" "$lib/crtendS.o" "$lib/crtn.o" "$lib/ld-linux-x86-64.so.2"
+}
+
+# Compiles and links a program of one source: compile SOURCE PROGRAM, and then the archives that it needs.
+compile() {
+    object "$1" "$2.o"
+    program=$2
+    shift 2
+    linked "$program" "$program.o" "$@"
 }

@@ -1,0 +1,281 @@
+/* One comparison is one call made to the judge and to the bench, with everything that it touches compared.
+ *
+ * Each area is lent to each of the two in a place of its own, with guard bytes at both sides, and with the same content. */
+#include "driver.h"
+
+enum { GUARD = 64, GUARD_BYTE = 0xA5, LENT = 6 };
+
+/* What a call may do with an area: nothing, write it unless it refuses, or write it in any case. */
+enum use { INPUT, AREA, VALUE };
+
+struct lent {
+    const char *name;
+    enum use use;
+    u32 width; /* bytes in an item */
+    size from, bytes;
+    _Alignas(16) u8 before[ROOM + sizeof(size)], judge[ROOM + 3 * GUARD], bench[ROOM + 3 * GUARD];
+};
+
+static struct lent lents[LENT];
+static u32 lent_count;
+static size seed, this_case, in_case;
+static enum call this_call;
+static size asked[5];
+static size comparisons[CALLS], hits[CALLS][27];
+
+static const char *const names[CALLS] = {
+    "code read", "code write", "react", "plan read", "start", "request", "acknowledge", "link stop", "link start", "reset",
+    "round", "settle", "reach", "report"};
+
+/* Every number that a call can answer; the run has to hit each. */
+enum { END = 255 };
+static const u8 numbers[CALLS][12] = {
+    [CODE_READ] = {0, END}, [CODE_WRITE] = {0, 5, END}, [REACT] = {0, END}, [PLAN_READ] = {0, 20, 21, 22, 23, 24, 25, 26, END},
+    [START] = {0, 1, 3, END}, [REQUEST] = {0, 1, 2, 4, 5, 6, 7, 8, 9, END}, [ACKNOWLEDGES] = {0, 1, 2, 4, 5, 6, 7, 8, 9, END},
+    [LINK_STOP] = {0, 1, 2, 4, 7, 10, END}, [LINK_START] = {0, 1, 2, 4, 7, 10, END}, [RESET] = {0, 1, 2, 4, END},
+    [ROUND] = {0, 1, 2, 3, END}, [SETTLE] = {0, 1, 2, 3, 11, 12, END}, [REACH] = {0, 1, 2, 4, 5, 6, END}, [REPORT] = {0, 3, END}};
+
+void case_begin(size of_seed, size which) {
+    seed = of_seed;
+    this_case = which;
+    in_case = 0;
+    random_begin(seed, which);
+}
+
+_Noreturn void fail(const char *what, size judge, size bench) {
+    printf("judge: %s: judge %lu, bench %lu\n", what, judge, bench);
+    printf("in %s(%lu, %lu, %lu, %lu, %lu), comparison %lu of the case\n", names[this_call], asked[0], asked[1], asked[2],
+           asked[3], asked[4], in_case);
+    printf("again: conformance/run --seed %lu --case %lu\n", seed, this_case);
+    exit(1);
+}
+
+static void begin(enum call call, size a, size b, size c, size d, size e) {
+    this_call = call;
+    const size given[] = {a, b, c, d, e};
+    memcpy(asked, given, sizeof asked);
+    lent_count = 0;
+}
+
+/* Lends an area; one with no content is full of random bytes. An area of bytes may start at any address. */
+static struct lent *lend(const char *name, enum use use, u32 width, const void *content, size length) {
+    struct lent *lent = &lents[lent_count++];
+    lent->name = name;
+    lent->use = use;
+    lent->width = width;
+    lent->bytes = length * width;
+    lent->from = GUARD + (width == 1 ? pick(16) : 0);
+    if (content)
+        memcpy(lent->before, content, lent->bytes);
+    for (size i = 0; !content && i < lent->bytes; i += sizeof(size)) {
+        size word = random_word();
+        memcpy(lent->before + i, &word, sizeof word);
+    }
+    u8 *both[] = {lent->judge, lent->bench};
+    for (u32 i = 0; i < 2; i++) {
+        memset(both[i], GUARD_BYTE, lent->from);
+        memcpy(both[i] + lent->from, lent->before, lent->bytes);
+        memset(both[i] + lent->from + lent->bytes, GUARD_BYTE, GUARD);
+    }
+    return lent;
+}
+
+static void *by_judge(struct lent *lent) {
+    return lent->judge + lent->from;
+}
+
+static void *by_bench(struct lent *lent) {
+    return lent->bench + lent->from;
+}
+
+static flag guarded(const u8 *place, const struct lent *lent) {
+    flag kept = 1;
+    for (size i = 0; i < lent->from; i++)
+        kept &= place[i] == GUARD_BYTE;
+    for (size i = 0; i < GUARD; i++)
+        kept &= place[lent->from + lent->bytes + i] == GUARD_BYTE;
+    return kept;
+}
+
+/* Two contents that should be the same; where they are not, the first item that differs is named. */
+static void same(const struct lent *lent, const char *what, const u8 *judge, const u8 *bench) {
+    if (!memcmp(judge, bench, lent->bytes))
+        return;
+    size i = 0;
+    while (!memcmp(judge + i * lent->width, bench + i * lent->width, lent->width))
+        i++;
+    u32 ours = 0, theirs = 0;
+    memcpy(&ours, judge + i * lent->width, lent->width);
+    memcpy(&theirs, bench + i * lent->width, lent->width);
+    printf("judge: the %s, %s, first at %lu\n", lent->name, what, i);
+    fail("it differs", ours, theirs);
+}
+
+/* Compares what a call answered and all that it was lent. A refusal but 12 changes no area. */
+static u32 finish(u32 judge, u32 bench) {
+    flag answers_number = this_call != CODE_READ && this_call != REACT;
+    if (judge != bench)
+        fail("the numbers differ", judge, bench);
+    flag refused = answers_number && bench != 0 && bench != 12;
+    for (u32 i = 0; i < lent_count; i++) {
+        struct lent *lent = &lents[i];
+        if (!guarded(lent->judge, lent) || !guarded(lent->bench, lent))
+            fail("written beside an area (1: kept)", guarded(lent->judge, lent), guarded(lent->bench, lent));
+        same(lent, "after the call", by_judge(lent), by_bench(lent));
+        if (lent->use == INPUT || (lent->use == AREA && refused))
+            same(lent, "which may not change", lent->before, by_bench(lent));
+    }
+    in_case++;
+    comparisons[this_call]++;
+    hits[this_call][answers_number ? bench : 0]++;
+    return bench;
+}
+
+u32 try_code_read(u8 byte) {
+    begin(CODE_READ, byte, 0, 0, 0, 0);
+    struct lent *value = lend("value", VALUE, 4, 0, 1);
+    u32 judge = judge_code_read(byte, by_judge(value));
+    return finish(judge, bench_code_read(byte, by_bench(value)));
+}
+
+u32 try_code_write(u32 kind, u32 value) {
+    begin(CODE_WRITE, kind, value, 0, 0, 0);
+    struct lent *byte = lend("byte", VALUE, 4, 0, 1);
+    u32 judge = judge_code_write(kind, value, by_judge(byte));
+    return finish(judge, bench_code_write(kind, value, by_bench(byte)));
+}
+
+u32 try_react(u32 role, u32 running, u32 permissions, u32 device_register, u8 byte) {
+    begin(REACT, role, running, permissions, device_register, byte);
+    struct lent *bits = lend("register", AREA, 4, &device_register, 1);
+    u32 judge = judge_react(role, running, permissions, by_judge(bits), byte);
+    return finish(judge, bench_react(role, running, permissions, by_bench(bits), byte));
+}
+
+u32 try_plan_read(const struct plan *plan) {
+    begin(PLAN_READ, plan->length, 0, 0, 0, 0);
+    struct lent *file = lend("file", INPUT, 1, plan->bytes, plan->length), *block = lend("block", VALUE, 4, 0, 1);
+    u32 judge = judge_plan_read(by_judge(file), plan->length, by_judge(block));
+    return finish(judge, bench_plan_read(by_bench(file), plan->length, by_bench(block)));
+}
+
+/* The calls that change a state, by their name; other is an identifier or a port. */
+u32 judge_change(enum call call, const u8 *plan, size plan_length, u32 *state, size state_length, size device, size other) {
+    switch (call) {
+    case START: return judge_start(plan, plan_length, state, state_length);
+    case REQUEST: return judge_request(plan, plan_length, state, state_length, device, other);
+    case ACKNOWLEDGES: return judge_acknowledge(plan, plan_length, state, state_length, device, other);
+    case LINK_STOP: return judge_link_stop(plan, plan_length, state, state_length, device, other);
+    case LINK_START: return judge_link_start(plan, plan_length, state, state_length, device, other);
+    default: return judge_reset(plan, plan_length, state, state_length, device);
+    }
+}
+
+static u32 bench_change(enum call call, const u8 *plan, size plan_length, u32 *state, size state_length, size device,
+                        size other) {
+    switch (call) {
+    case START: return bench_start(plan, plan_length, state, state_length);
+    case REQUEST: return bench_request(plan, plan_length, state, state_length, device, other);
+    case ACKNOWLEDGES: return bench_acknowledge(plan, plan_length, state, state_length, device, other);
+    case LINK_STOP: return bench_link_stop(plan, plan_length, state, state_length, device, other);
+    case LINK_START: return bench_link_start(plan, plan_length, state, state_length, device, other);
+    default: return bench_reset(plan, plan_length, state, state_length, device);
+    }
+}
+
+u32 try_change(enum call call, const struct plan *plan, struct state *state, size device, size other) {
+    begin(call, plan->length, state->length, device, other, 0);
+    struct lent *file = lend("plan", INPUT, 1, plan->bytes, plan->length);
+    struct lent *area = lend("state", AREA, 4, state->words, state->length);
+    u32 judge = judge_change(call, by_judge(file), plan->length, by_judge(area), state->length, device, other);
+    finish(judge, bench_change(call, by_bench(file), plan->length, by_bench(area), state->length, device, other));
+    memcpy(state->words, by_bench(area), area->bytes);
+    return judge;
+}
+
+u32 try_round(const struct plan *plan, const struct state *old, struct played *played) {
+    size next_length = played->next.length, sent_length = played->sent_length, told_length = played->told_length;
+    begin(ROUND, plan->length, old->length, next_length, sent_length, told_length);
+    struct lent *file = lend("plan", INPUT, 1, plan->bytes, plan->length);
+    struct lent *from = lend("old state", INPUT, 4, old->words, old->length);
+    struct lent *next = lend("next state", AREA, 4, 0, next_length), *sent = lend("bytes sent", AREA, 4, 0, sent_length);
+    struct lent *told = lend("words told", AREA, 4, 0, told_length), *count = lend("count", VALUE, 4, 0, 1);
+    u32 judge = judge_round(by_judge(file), plan->length, by_judge(from), old->length, by_judge(next), next_length,
+                            by_judge(sent), sent_length, by_judge(told), told_length, by_judge(count));
+    u32 bench = bench_round(by_bench(file), plan->length, by_bench(from), old->length, by_bench(next), next_length,
+                            by_bench(sent), sent_length, by_bench(told), told_length, by_bench(count));
+    finish(judge, bench);
+    memcpy(played->next.words, by_bench(next), next->bytes);
+    memcpy(played->sent, by_bench(sent), sent->bytes);
+    memcpy(played->told, by_bench(told), told->bytes);
+    memcpy(&played->count, by_bench(count), count->bytes);
+    return bench;
+}
+
+u32 try_settle(const struct plan *plan, struct state *state, size second_length, u32 allowance) {
+    begin(SETTLE, plan->length, state->length, second_length, allowance, 0);
+    struct lent *file = lend("plan", INPUT, 1, plan->bytes, plan->length);
+    struct lent *area = lend("state", AREA, 4, state->words, state->length);
+    struct lent *second = lend("second area", AREA, 4, 0, second_length), *rounds = lend("rounds", VALUE, 4, 0, 1);
+    u32 judge = judge_settle(by_judge(file), plan->length, by_judge(area), state->length, by_judge(second), second_length,
+                             allowance, by_judge(rounds));
+    u32 bench = bench_settle(by_bench(file), plan->length, by_bench(area), state->length, by_bench(second), second_length,
+                             allowance, by_bench(rounds));
+    finish(judge, bench);
+    memcpy(state->words, by_bench(area), area->bytes);
+    return bench;
+}
+
+u32 try_reach(const struct plan *plan, const struct state *state, size device, u32 k) {
+    begin(REACH, plan->length, state->length, device, k, 0);
+    struct lent *file = lend("plan", INPUT, 1, plan->bytes, plan->length);
+    struct lent *area = lend("state", INPUT, 4, state->words, state->length);
+    struct lent *devices = lend("devices", VALUE, 4, 0, 1), *set = lend("set", VALUE, 4, 0, 1);
+    u32 judge = judge_reach(by_judge(file), plan->length, by_judge(area), state->length, device, k, by_judge(devices),
+                            by_judge(set));
+    return finish(judge, bench_reach(by_bench(file), plan->length, by_bench(area), state->length, device, k,
+                                     by_bench(devices), by_bench(set)));
+}
+
+u32 try_report(const struct plan *plan, struct printed *printed) {
+    size state_length = printed->state_length, second_length = printed->second_length, text_length = printed->text_length;
+    begin(REPORT, plan->length, state_length, second_length, text_length, 0);
+    struct lent *file = lend("file", INPUT, 1, plan->bytes, plan->length);
+    struct lent *state = lend("state", AREA, 4, 0, state_length), *second = lend("second area", AREA, 4, 0, second_length);
+    struct lent *text = lend("text", AREA, 1, 0, text_length), *used = lend("length used", VALUE, 4, 0, 1);
+    u32 judge = judge_report(by_judge(file), plan->length, by_judge(state), state_length, by_judge(second), second_length,
+                             by_judge(text), text_length, by_judge(used));
+    u32 bench = bench_report(by_bench(file), plan->length, by_bench(state), state_length, by_bench(second), second_length,
+                             by_bench(text), text_length, by_bench(used));
+    finish(judge, bench);
+    memcpy(printed->text, by_bench(text), text->bytes);
+    memcpy(&printed->used, by_bench(used), used->bytes);
+    return bench;
+}
+
+flag all_hit(void) {
+    flag all = 1;
+    for (u32 c = 0; c < CALLS; c++)
+        for (u32 i = 0; numbers[c][i] != END; i++)
+            if (!hits[c][numbers[c][i]]) {
+                printf("%s was never answered by %u\n", names[c], numbers[c][i]);
+                all = 0;
+            }
+    return all;
+}
+
+void table(void) {
+    size sum = 0;
+    for (u32 c = 0; c < CALLS; c++) {
+        printf("%-12s %9lu\n", names[c], comparisons[c]);
+        sum += comparisons[c];
+    }
+    printf("%-12s %9lu\nnumber     answers\n", "comparisons", sum);
+    for (u32 n = 0; n <= 26; n++) {
+        size times = 0;
+        for (u32 c = 0; c < CALLS; c++)
+            times += hits[c][n];
+        if (times)
+            printf("%6u %11lu\n", n, times);
+    }
+}

@@ -1,0 +1,122 @@
+/* Plan files with something wrong, the check put right or left as it was. Some damage does no harm: the judge decides. */
+#include "driver.h"
+
+static u32 devices_of(const struct plan *plan) {
+    return plan->length / BLOCK - 1;
+}
+
+static void cut(struct plan *plan) {
+    const size lengths[] = {0, 1, 511, 513, plan->length - 1, plan->length + 1, plan->length - BLOCK, plan->length + BLOCK,
+                            BLOCK, LONGEST_FILE - BLOCK, LONGEST_FILE, LONGEST_FILE + 1, LONGEST_FILE + BLOCK,
+                            pick(ROOM), pick(40) * BLOCK};
+    size length = lengths[pick(sizeof lengths / sizeof *lengths)];
+    if (length > plan->length)
+        memset(plan->bytes + plan->length, once_in(2) ? 0 : pick(256), length - plan->length);
+    plan->length = length;
+}
+
+/* A value near the old one, at a limit, or any. */
+static u8 other_value(u8 old) {
+    const u8 values[] = {old + 1, old - 1, 0, 1, 2, 8, 9, 15, 16, 31, 32, 33, 254, 255, pick(256), old ^ 1 << pick(8)};
+    return values[pick(sizeof values / sizeof *values)];
+}
+
+static void change(u8 *byte) {
+    *byte = other_value(*byte);
+}
+
+static void change_check(struct plan *plan, u32 block) {
+    u8 *check = plan->bytes + BLOCK * block + 510;
+    u32 value = check[0] + 256 * check[1];
+    put_number(check, 2, once_in(2) ? value + 1 - 2 * pick(2) : pick(65536));
+}
+
+/* A remainder that is not reduced: it fits into two bytes for the smallest loads and one device or two. */
+static void raise_check(struct plan *plan) {
+    set_loads(plan, 1, 1);
+    if (block_check(plan->bytes) + 65521 <= 65535)
+        put_number(plan->bytes + 510, 2, block_check(plan->bytes) + 65521);
+}
+
+static void put_loads(struct plan *plan) {
+    u32 load = pick(3) ? 1 + pick(5) : pick(65535);
+    set_loads(plan, once_in(3) ? 0 : load + pick(2), once_in(3) ? 0 : load);
+}
+
+/* Connections that are good fields and yet bad: a port that points to itself, to a port elsewhere, to one that its device
+ * lacks, or nowhere while its peer points to it. */
+static void misconnect(struct plan *plan, u32 device) {
+    u32 ports = device_block(plan, device)[3], p = pick(ports > PORTS || ports < 1 ? PORTS : ports);
+    u8 *entry = port_entry(plan, device, p);
+    switch (pick(4)) {
+    case 0: put_number(entry, 4, device + 256 * p); break;
+    case 1: put_number(entry, 4, pick(devices_of(plan)) + 256 * pick(PORTS) + 65536 * pick(16)); break;
+    case 2: put_number(entry, 4, 0xFFFF); break;
+    default: entry[1] = pick(PORTS);
+    }
+}
+
+/* Fields of a port entry that do not go together. */
+static void misfit(struct plan *plan, u32 device) {
+    u8 *entry = port_entry(plan, device, pick(PORTS));
+    switch (pick(6)) {
+    case 0: put_number(entry, 4, 0xFFFF + 65536 * pick(17)); break;
+    case 1: put_number(entry, 4, 0xFF00 + pick(33)); break;
+    case 2: put_number(entry, 4, 0x00FF + 256 * pick(9)); break;
+    case 3: entry[2] = 16 << pick(4); break;
+    case 4: entry[3] = 1 << pick(8); break;
+    default: put_number(entry, 4, 0);
+    }
+}
+
+/* A role with the ports or masks of the other, or masks with a common bit. */
+static void misdress(struct plan *plan, u32 device) {
+    u8 *block = device_block(plan, device);
+    u32 bit = pick(32), mask = 4 + 4 * pick(2);
+    switch (pick(4)) {
+    case 0: block[2] = pick(3); break;
+    case 1: block[3] = pick(10); break;
+    case 2: block[mask + bit / 8] ^= 1 << bit % 8; break;
+    default: block[4 + bit / 8] |= 1 << bit % 8, block[8 + bit / 8] |= 1 << bit % 8;
+    }
+}
+
+static void damage_block_0(struct plan *plan) {
+    switch (pick(6)) {
+    case 0: change(plan->bytes + pick(6)); break;
+    case 1: plan->bytes[6 + pick(504)] = 1 + pick(255); break;
+    case 2: change_check(plan, 0); return;
+    case 3: raise_check(plan); return;
+    case 4: put_loads(plan); return;
+    default: plan->bytes[1] += 1 - 2 * pick(2);
+    }
+    if (!once_in(4))
+        seal(plan, 0);
+}
+
+static void damage_device(struct plan *plan, u32 device) {
+    u8 *block = device_block(plan, device);
+    switch (pick(8)) {
+    case 0: change(block + pick(2)); break;
+    case 1: change(block + pick(44)); break;
+    case 2: block[44 + pick(466)] = 1 + pick(255); break;
+    case 3: change_check(plan, 1 + device); return;
+    case 4: misdress(plan, device); break;
+    case 5: misfit(plan, device); break;
+    default: misconnect(plan, device);
+    }
+    if (!once_in(6))
+        seal(plan, 1 + device);
+}
+
+/* One fault, or two or three that have to be told in their order. */
+void damage(struct plan *plan) {
+    for (u32 times = once_in(3) ? 2 + pick(2) : 1; times; times--) {
+        u32 devices = devices_of(plan);
+        switch (pick(8)) {
+        case 0: cut(plan); return;
+        case 1: damage_block_0(plan); break;
+        default: damage_device(plan, pick(devices));
+        }
+    }
+}

@@ -1,0 +1,101 @@
+/* The driver: makes input, gives it to the judge and through the C door to the bench, and compares all that they touch. */
+#ifndef DRIVER_H
+#define DRIVER_H
+#include "../judge/judge.h"
+#include "bench.h"
+
+/* The kit's compiler has no headers of C's library. */
+int printf(const char *format, ...);
+_Noreturn void exit(int status);
+int memcmp(const void *one, const void *other, unsigned long bytes);
+void *memcpy(void *restrict to, const void *restrict from, unsigned long bytes);
+void *memset(void *to, int byte, unsigned long bytes);
+int strcmp(const char *one, const char *other);
+unsigned long strtoul(const char *text, char **end, int base);
+
+/* The longest area lent: a text of twice the least length. */
+enum { ROOM = 2 * TEXT_BYTES };
+
+struct plan {
+    size length;
+    u8 bytes[ROOM];
+};
+
+struct state {
+    size length; /* in words; wrong ones are tried too */
+    u32 words[2 * STATE_WORDS];
+};
+
+/* What a round builds. The lengths are given, and may be wrong. */
+struct played {
+    struct state next;
+    size sent_length, told_length;
+    u32 sent[2 * SENT_WORDS], told[2 * TOLD_WORDS], count;
+};
+
+/* What a report prints, and the lengths of its areas. */
+struct printed {
+    size state_length, second_length, text_length;
+    u32 used;
+    u8 text[ROOM];
+};
+
+/* random.c: numbers that follow from a seed and a case alone. */
+void random_begin(size seed, size which);
+size random_word(void);
+u32 pick(u32 below);
+flag once_in(u32 times);
+size wild(u32 limit);
+
+/* compare.c: a call to both. Every try_ compares all numbers and areas, counts, and gives what the bench answered. */
+enum call {
+    CODE_READ, CODE_WRITE, REACT, PLAN_READ, START, REQUEST, ACKNOWLEDGES, LINK_STOP, LINK_START, RESET, ROUND, SETTLE,
+    REACH, REPORT, CALLS
+};
+void case_begin(size seed, size which);
+_Noreturn void fail(const char *what, size judge, size bench);
+flag all_hit(void);
+void table(void);
+u32 try_code_read(u8 byte);
+u32 try_code_write(u32 kind, u32 value);
+u32 try_react(u32 role, u32 running, u32 permissions, u32 device_register, u8 byte);
+u32 try_plan_read(const struct plan *plan);
+u32 judge_change(enum call call, const u8 *plan, size plan_length, u32 *state, size state_length, size device, size other);
+u32 try_change(enum call call, const struct plan *plan, struct state *state, size device, size other);
+u32 try_round(const struct plan *plan, const struct state *old, struct played *played);
+u32 try_settle(const struct plan *plan, struct state *state, size second_length, u32 allowance);
+u32 try_reach(const struct plan *plan, const struct state *state, size device, u32 k);
+u32 try_report(const struct plan *file, struct printed *printed);
+
+/* plans.c: accepted files of every shape. */
+u8 *device_block(struct plan *plan, u32 device);
+u8 *port_entry(struct plan *plan, u32 device, u32 port);
+void seal(struct plan *plan, u32 block);
+void blank(struct plan *plan, u32 devices);
+void be_router(struct plan *plan, u32 device, u32 ports);
+void connect_ports(struct plan *plan, u32 device, u32 port, u32 peer, u32 peer_port, u8 permissions);
+void set_loads(struct plan *plan, u32 router, u32 node);
+void put_number(u8 *at, u32 bytes, u32 number);
+void make_plan(struct plan *plan);
+
+/* damage.c: the same with something wrong. */
+void damage(struct plan *plan);
+
+/* states.c: any sound state, and states with one clause of soundness broken; 0 where the plan has no place for it. */
+enum { CLAUSES = 15 };
+u32 *port_words(struct state *state, u32 device, u32 port);
+void sound_state(struct plan *plan, struct state *state);
+flag break_state(struct plan *plan, struct state *state, u32 clause);
+
+/* trials.c, known.c and demand.c: what is tried. */
+void known_values(void);
+void try_tables(void);
+void try_files(struct plan *plan);
+void try_calls(struct plan *plan);
+void try_run(struct plan *plan, u32 rounds);
+void try_settling(struct plan *plan);
+void try_reports(struct plan *plan);
+void likely_call(struct plan *plan, enum call *call, size *device, size *other);
+u32 try_demand_3(const struct plan *plan); /* the rounds in its window; 0 where nobody can send */
+
+#endif

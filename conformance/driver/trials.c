@@ -1,0 +1,210 @@
+/* What is tried on a network: files, calls from any state, runs of rounds, settling, reach and reports. */
+#include "driver.h"
+
+/* The whole of what a byte means, and the edges of all else that codes and a device take. */
+void try_tables(void) {
+    const u32 edges[] = {0, 1, 2, 3, 4, 31, 32, 33, 63, 64, 127, 128, 159, 160, 191, 192, 255, 256, 257, 0x10000, 0x80000000,
+                         0x80000001, 0xFFFFFFFF};
+    const u32 truths[] = {0, 1, 0x80000000};
+    enum { EDGES = sizeof edges / sizeof *edges, TRUTHS = sizeof truths / sizeof *truths };
+    for (u32 byte = 0; byte < 256; byte++)
+        try_code_read(byte);
+    for (u32 kind = 0; kind < EDGES; kind++)
+        for (u32 value = 0; value < 70 + EDGES; value++)
+            try_code_write(edges[kind], value < 70 ? value : edges[value - 70]);
+    for (u32 role = 0; role < TRUTHS; role++)
+        for (u32 running = 0; running < TRUTHS; running++)
+            for (u32 permissions = 0; permissions < 16; permissions++)
+                for (u32 byte = 0; byte < 256; byte++) {
+                    u32 bit = 1u << byte % 32, any = random_word(), above = once_in(2) ? random_word() << 4 : 0;
+                    try_react(truths[role], truths[running], permissions | above, any | bit, byte);
+                    try_react(truths[role], truths[running], permissions | above, any & ~bit, byte);
+                }
+}
+
+static size wrong_length(size right) {
+    const size lengths[] = {0, 1, right - 1, right + 1, right / 2, 2 * right, pick(2 * right)};
+    return lengths[pick(sizeof lengths / sizeof *lengths)];
+}
+
+static size length_near(size right) {
+    return once_in(10) ? wrong_length(right) : right;
+}
+
+/* A source or handler of something, if there is one near; kind by kind, since a request needs a source. */
+static void likely_host(struct plan *plan, enum call call, size *device, size *other) {
+    for (u32 tries = 0; tries < 8; tries++) {
+        u32 d = pick(plan->bytes[1]), k = pick(32);
+        const u8 *mask = device_block(plan, d) + (call == ACKNOWLEDGES ? 8 : 4);
+        for (u32 i = 0; i < 32; i++, k = (k + 1) % 32)
+            if (mask[k / 8] >> k % 8 & 1) {
+                *device = d;
+                *other = k;
+                return;
+            }
+    }
+}
+
+/* A call that changes a state, mostly one that can be taken. */
+void likely_call(struct plan *plan, enum call *call, size *device, size *other) {
+    const enum call calls[] = {REQUEST, REQUEST, REQUEST, REQUEST, ACKNOWLEDGES, ACKNOWLEDGES, ACKNOWLEDGES,
+                               LINK_START, LINK_START, LINK_STOP, RESET};
+    *call = calls[pick(sizeof calls / sizeof *calls)];
+    *device = wild(plan->bytes[1]);
+    *other = wild(*call == LINK_START || *call == LINK_STOP ? PORTS : IDENTIFIERS);
+    if ((*call == REQUEST || *call == ACKNOWLEDGES) && !once_in(6))
+        likely_host(plan, *call, device, other);
+    if ((*call == LINK_START || *call == LINK_STOP) && *device < plan->bytes[1] && !once_in(6))
+        *other = pick(device_block(plan, *device)[3] % (PORTS + 1) + 1);
+}
+
+static void right_lengths(struct played *played) {
+    played->next.length = STATE_WORDS;
+    played->sent_length = SENT_WORDS;
+    played->told_length = TOLD_WORDS;
+}
+
+static u32 any_allowance(void) {
+    const u32 values[] = {0, 1, 2, 3, 10, pick(100), MOST_ALLOWED + 1, 2 * MOST_ALLOWED, 65536, 0x80000000, 0xFFFFFFFF};
+    return values[pick(sizeof values / sizeof *values)];
+}
+
+/* One call of those that take a state. Its numbers are likely ones for a plan; the plan that it is given may be another. */
+static u32 any_call(struct plan *likely, const struct plan *plan, struct state *state) {
+    static struct played played;
+    enum call call;
+    size device, other;
+    likely_call(likely, &call, &device, &other);
+    switch (pick(8)) {
+    case 0:
+        played.next.length = length_near(STATE_WORDS);
+        played.sent_length = length_near(SENT_WORDS);
+        played.told_length = length_near(TOLD_WORDS);
+        return try_round(plan, state, &played);
+    case 1: return try_settle(plan, state, length_near(STATE_WORDS), any_allowance());
+    case 2:
+        if (once_in(2))
+            likely_host(likely, REQUEST, &device, &other);
+        return try_reach(plan, state, device, other);
+    default: return try_change(call, plan, state, device, other);
+    }
+}
+
+static void must_be(u32 wanted, u32 given) {
+    if (wanted != given)
+        fail("the paper's number, and that of both", wanted, given);
+}
+
+void try_files(struct plan *plan) {
+    static struct plan damaged;
+    static struct state state;
+    must_be(0, try_plan_read(plan));
+    for (u32 i = 0; i < 16; i++) {
+        damaged = *plan;
+        damage(&damaged);
+        u32 number = try_plan_read(&damaged);
+        if (number == 0 || !once_in(3))
+            continue;
+        sound_state(plan, &state);
+        if (once_in(4))
+            state.length = wrong_length(STATE_WORDS);
+        must_be(1, once_in(8) ? try_change(START, &damaged, &state, 0, 0) : any_call(plan, &damaged, &state));
+    }
+}
+
+/* Calls from any sound state, from ones with one clause broken, from any words, and with wrong lengths. */
+void try_calls(struct plan *plan) {
+    static struct state state;
+    state.length = STATE_WORDS;
+    must_be(0, try_change(START, plan, &state, 0, 0));
+    state.length = wrong_length(STATE_WORDS);
+    must_be(state.length == STATE_WORDS ? 0 : 3, try_change(START, plan, &state, 0, 0));
+    for (u32 i = 0; i < 40; i++) {
+        sound_state(plan, &state);
+        any_call(plan, plan, &state);
+    }
+    for (u32 clause = 0; clause < CLAUSES; clause++) {
+        sound_state(plan, &state);
+        if (break_state(plan, &state, clause))
+            must_be(2, any_call(plan, plan, &state));
+    }
+    for (u32 i = 0; i < 6; i++) {
+        sound_state(plan, &state);
+        state.length = wrong_length(STATE_WORDS);
+        if (state.length != STATE_WORDS)
+            must_be(2, any_call(plan, plan, &state));
+        sound_state(plan, &state);
+        state.words[pick(STATE_WORDS)] = once_in(2) ? pick(34) : random_word();
+        any_call(plan, plan, &state);
+    }
+}
+
+/* Rounds with calls between them, the state handed on. */
+void try_run(struct plan *plan, u32 rounds) {
+    static struct state state;
+    static struct played played;
+    enum call call;
+    size device, other;
+    sound_state(plan, &state);
+    if (once_in(2))
+        must_be(0, try_change(START, plan, &state, 0, 0));
+    right_lengths(&played);
+    for (u32 calls = pick(5); rounds; rounds--) {
+        for (u32 i = pick(1 + calls); i; i--) {
+            likely_call(plan, &call, &device, &other);
+            try_change(call, plan, &state, device, other);
+        }
+        must_be(0, try_round(plan, &state, &played));
+        state = played.next;
+    }
+}
+
+void try_settling(struct plan *plan) {
+    static struct state state;
+    const u32 allowances[] = {0, 1, 1 + pick(40), pick(200), MOST_ALLOWED + 1, 0xFFFFFFFF, once_in(4) ? MOST_ALLOWED : 300};
+    for (u32 i = 0; i < sizeof allowances / sizeof *allowances; i++) {
+        sound_state(plan, &state);
+        u32 number = try_settle(plan, &state, STATE_WORDS, allowances[i]);
+        must_be(allowances[i] > MOST_ALLOWED ? 11 : number == 12 ? 12 : 0, number);
+    }
+    for (u32 d = 0; d < plan->bytes[1]; d++) {
+        size device = d, k = pick(32);
+        if (d % 4 == 0)
+            sound_state(plan, &state);
+        try_reach(plan, &state, device, k);
+        likely_host(plan, REQUEST, &device, &k);
+        try_reach(plan, &state, device, k);
+    }
+}
+
+static u32 count_sources(struct plan *plan) {
+    u32 count = 0;
+    for (u32 d = 0; d < plan->bytes[1]; d++)
+        for (u32 i = 0; i < 32; i++)
+            count += device_block(plan, d)[4 + i / 8] >> i % 8 & 1;
+    return count;
+}
+
+/* A report settles once for each source: with short loads that can take all rounds allowed, so fewer are left. */
+static void thin(struct plan *plan, u32 most) {
+    while (count_sources(plan) > most)
+        for (u32 d = 0; d < plan->bytes[1]; d++) {
+            for (u32 i = 4; i < 8; i++)
+                device_block(plan, d)[i] &= random_word() >> 32;
+            seal(plan, 1 + d);
+        }
+}
+
+void try_reports(struct plan *plan) {
+    static struct plan file;
+    static struct printed printed;
+    const size texts[] = {TEXT_BYTES, TEXT_BYTES, TEXT_BYTES + 1, 2 * TEXT_BYTES, TEXT_BYTES - 1, 0, pick(TEXT_BYTES)};
+    file = *plan;
+    thin(&file, plan->bytes[3] > 0 ? (once_in(20) ? 1024 : 50) : 2);
+    if (once_in(3))
+        damage(&file);
+    printed.state_length = length_near(STATE_WORDS);
+    printed.second_length = length_near(STATE_WORDS);
+    printed.text_length = texts[pick(sizeof texts / sizeof *texts)];
+    try_report(&file, &printed);
+}

@@ -1,0 +1,110 @@
+/* The calls between rounds. Each tests its refusals in the order of the table, and changes nothing before the last. */
+#include "judge.h"
+
+/* A request sets the bit and an acknowledge clears it; all else is the same for both. */
+u32 host_calls(struct network *net, size device, enum kind kind, u32 k) {
+    if (device >= net->devices)
+        return 4;
+    if (k >= IDENTIFIERS)
+        return 5;
+    struct device *node = &net->device[device];
+    struct port *port = &node->port[0];
+    flag wanted = kind == INTERRUPT;
+    if (!(wanted ? node->source[k] : node->handler[k]))
+        return 6; /* a router is neither */
+    if (!port->running)
+        return 7;
+    if (!port->may_send[kind])
+        return 8;
+    if (node->set[k] == wanted)
+        return 9;
+    node->set[k] = wanted;
+    node->timer[k] = wanted ? net->node_load : 0;
+    queue(port, (struct code){kind, k});
+    return 0;
+}
+
+static u32 host_call(const u8 *plan, size plan_length, u32 *state, size state_length, size device, enum kind kind, u32 k) {
+    struct network net;
+    u32 number = network_read(&net, plan, plan_length, state, state_length);
+    if (!number)
+        number = host_calls(&net, device, kind, k);
+    if (!number)
+        state_write(&net, state);
+    return number;
+}
+
+u32 judge_request(const u8 *plan, size plan_length, u32 *state, size state_length, size device, u32 k) {
+    return host_call(plan, plan_length, state, state_length, device, INTERRUPT, k);
+}
+
+u32 judge_acknowledge(const u8 *plan, size plan_length, u32 *state, size state_length, size device, u32 k) {
+    return host_call(plan, plan_length, state, state_length, device, ACKNOWLEDGE, k);
+}
+
+/* A stop clears what waits at this end, and a node forgets; next stays, and so does a router's register. */
+static void stop_end(struct port *port) {
+    clear_waiting(port);
+    if (!port->device->router)
+        clear_device(port->device);
+}
+
+static u32 link_call(const u8 *plan, size plan_length, u32 *state, size state_length, size device, size port, flag run) {
+    struct network net;
+    u32 number = network_read(&net, plan, plan_length, state, state_length);
+    if (number)
+        return number;
+    if (device >= net.devices || port >= net.device[device].ports)
+        return 4;
+    struct port *end = &net.device[device].port[port];
+    if (!end->peer)
+        return 7;
+    if (end->running == run)
+        return 10;
+    end->running = run;
+    end->peer->running = run;
+    if (!run) {
+        stop_end(end);
+        stop_end(end->peer);
+    }
+    state_write(&net, state);
+    return 0;
+}
+
+u32 judge_link_stop(const u8 *plan, size plan_length, u32 *state, size state_length, size device, size port) {
+    return link_call(plan, plan_length, state, state_length, device, port, 0);
+}
+
+u32 judge_link_start(const u8 *plan, size plan_length, u32 *state, size state_length, size device, size port) {
+    return link_call(plan, plan_length, state, state_length, device, port, 1);
+}
+
+u32 judge_start(const u8 *plan, size plan_length, u32 *state, size state_length) {
+    struct network net;
+    u32 block;
+    if (file_read(&net, plan, plan_length, &block))
+        return 1;
+    if (state_length != STATE_WORDS)
+        return 3;
+    start(&net);
+    state_write(&net, state);
+    return 0;
+}
+
+/* The running flags stay: a reset stops no link. */
+u32 judge_reset(const u8 *plan, size plan_length, u32 *state, size state_length, size device) {
+    struct network net;
+    u32 number = network_read(&net, plan, plan_length, state, state_length);
+    if (number)
+        return number;
+    if (device >= net.devices)
+        return 4;
+    struct device *reset = &net.device[device];
+    clear_device(reset);
+    for (u32 p = 0; p < reset->ports; p++) {
+        clear_waiting(&reset->port[p]);
+        reset->port[p].next = 0;
+    }
+    state_write(&net, state);
+    return 0;
+}

@@ -1,0 +1,131 @@
+/* "Plan file": the reader, with its refusals in the paper's order. */
+#include "judge.h"
+
+/* An entry of a port in a device's block: peer device, peer port, permissions, zero. */
+enum { FIRST_ENTRY = 12, ENTRY = 4, PEER_DEVICE = 0, PEER_PORT = 1, PERMISSIONS = 2, SPARE = 3, NOWHERE = 255 };
+enum { BEHIND_FIELDS_0 = 6, BEHIND_FIELDS = FIRST_ENTRY + ENTRY * PORTS, CHECK_AT = 510 };
+
+static u32 number_at(const u8 *at, u32 bytes) {
+    return bytes ? at[0] + 256 * number_at(at + 1, bytes - 1) : 0;
+}
+
+u32 block_check(const u8 *block) {
+    u32 sum = 0;
+    for (u32 i = 0; i < CHECK_AT; i++)
+        sum += (i + 1) * block[i];
+    return sum % 65521;
+}
+
+static flag zero(const u8 *block, u32 from) {
+    for (u32 i = from; i < CHECK_AT; i++)
+        if (block[i])
+            return 0;
+    return 1;
+}
+
+static const u8 *entry_at(const u8 *file, u32 device, u32 port) {
+    return file + BLOCK * (1 + device) + FIRST_ENTRY + ENTRY * port;
+}
+
+static u32 block_0_read(struct network *net, const u8 *block) {
+    if (number_at(block + CHECK_AT, 2) != block_check(block))
+        return 21;
+    if (block[0] != 1)
+        return 22;
+    net->devices = block[1];
+    net->router_load = number_at(block + 2, 2);
+    net->node_load = number_at(block + 4, 2);
+    if (net->devices < 1 || net->devices > DEVICES)
+        return 23;
+    if (net->router_load < 1 || net->node_load < 1 || net->router_load > net->node_load)
+        return 23;
+    return zero(block, BEHIND_FIELDS_0) ? 0 : 24;
+}
+
+static flag entry_good(const u8 *entry, flag exists, u32 devices) {
+    if (entry[PEER_DEVICE] == NOWHERE && entry[PEER_PORT] == NOWHERE)
+        return entry[PERMISSIONS] == 0 && entry[SPARE] == 0;
+    return exists && entry[PEER_DEVICE] < devices && entry[PEER_PORT] < PORTS && entry[PERMISSIONS] <= 15 &&
+           entry[SPARE] == 0;
+}
+
+/* Role, ports, and the masks: both 0 for a router, with no common bit for a node. */
+static flag role_read(struct device *device, const u8 *block) {
+    u32 source = number_at(block + 4, 4), handler = number_at(block + 8, 4);
+    if (block[2] > 1)
+        return 0;
+    device->router = block[2] == 1;
+    device->ports = block[3];
+    for (u32 k = 0; k < IDENTIFIERS; k++) {
+        device->source[k] = source >> k & 1;
+        device->handler[k] = handler >> k & 1;
+        if (device->source[k] && (device->router || device->handler[k]))
+            return 0;
+        if (device->handler[k] && device->router)
+            return 0;
+    }
+    return device->ports >= 1 && device->ports <= (device->router ? PORTS : 1);
+}
+
+static u32 device_block_read(struct device *device, const u8 *block, u32 devices) {
+    if (number_at(block + CHECK_AT, 2) != block_check(block))
+        return 21;
+    if (block[0] != 2 || block[1] != device->number)
+        return 22;
+    if (!role_read(device, block))
+        return 23;
+    for (u32 p = 0; p < PORTS; p++) {
+        const u8 *entry = block + FIRST_ENTRY + ENTRY * p;
+        if (!entry_good(entry, p < device->ports, devices))
+            return 23;
+        permit(entry[PERMISSIONS], device->port[p].may_send, device->port[p].may_receive);
+        device->port[p].device = device;
+    }
+    return zero(block, BEHIND_FIELDS) ? 0 : 24;
+}
+
+/* The peer's entry exists, points back, and is not the port itself. A port that leads nowhere has nothing wrong. */
+static flag connect(struct network *net, const u8 *file, u32 device, u32 port) {
+    const u8 *entry = entry_at(file, device, port);
+    struct port *end = &net->device[device].port[port];
+    end->peer = 0;
+    if (entry[PEER_DEVICE] == NOWHERE)
+        return 1;
+    struct device *peer = &net->device[entry[PEER_DEVICE]];
+    if (entry[PEER_PORT] >= peer->ports)
+        return 0;
+    const u8 *back = entry_at(file, peer->number, entry[PEER_PORT]);
+    end->peer = &peer->port[entry[PEER_PORT]];
+    return back[PEER_DEVICE] == device && back[PEER_PORT] == port && end->peer != end;
+}
+
+u32 file_read(struct network *net, const u8 *file, size length, u32 *block) {
+    *block = 0;
+    if (length < BLOCK || length > LONGEST_FILE || length % BLOCK != 0)
+        return 20;
+    u32 number = block_0_read(net, file);
+    if (number)
+        return number;
+    if (length / BLOCK != 1 + net->devices)
+        return 25;
+    for (u32 d = 0; d < net->devices; d++) {
+        *block = 1 + d;
+        net->device[d].number = d;
+        number = device_block_read(&net->device[d], file + BLOCK * *block, net->devices);
+        if (number)
+            return number;
+    }
+    for (u32 d = 0; d < net->devices; d++) {
+        *block = 1 + d;
+        for (u32 p = 0; p < net->device[d].ports; p++)
+            if (!connect(net, file, d, p))
+                return 26;
+    }
+    *block = 0;
+    return 0;
+}
+
+u32 judge_plan_read(const u8 *file, size length, u32 *block) {
+    struct network net;
+    return file_read(&net, file, length, block);
+}

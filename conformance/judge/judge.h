@@ -1,0 +1,106 @@
+/* The judge: the paper's bench, written again from the paper alone and made to be read beside it.
+ *
+ * It keeps no area of words and no masks. A device has a flag and a timer per identifier, a port points to its peer and
+ * knows for each identifier what waits. Files and areas are turned into these records, and back, at the edge: file.c and
+ * state.c. The calls at the end take what those of include/bench.h take, and answer with the same numbers. */
+#ifndef JUDGE_H
+#define JUDGE_H
+
+typedef _Bool flag;
+typedef unsigned char u8;
+typedef unsigned int u32;
+typedef unsigned long size;
+
+enum { DEVICES = 32, PORTS = 8, IDENTIFIERS = 32, BLOCK = 512, LONGEST_FILE = BLOCK * (1 + DEVICES) };
+enum { STATE_WORDS = 2080, SENT_WORDS = 256, TOLD_WORDS = 1056, TEXT_BYTES = 14347, MOST_ALLOWED = 4096 };
+
+/* Kinds of code. NOTHING is what waits, or is sent, where no code does. */
+enum kind { TIME_CODE, INTERRUPT, ACKNOWLEDGE, RESERVED, NOTHING };
+struct code {
+    enum kind kind;
+    u32 value;
+};
+
+/* What a device does with a code. */
+enum action { NAMED, LINK_ERROR, IGNORED, FORWARDED, TELLS_HOST };
+
+/* Permissions are looked up by kind: INTERRUPT or ACKNOWLEDGE. */
+struct port {
+    struct device *device;
+    struct port *peer; /* null where the port leads nowhere */
+    flag may_send[ACKNOWLEDGE + 1], may_receive[ACKNOWLEDGE + 1];
+    flag running;
+    enum kind waiting[IDENTIFIERS]; /* one kind at most: the two waiting sets have nothing in common */
+    u32 next;
+    struct code sent; /* in the round that is being played */
+};
+
+struct device {
+    u32 number;
+    flag router;
+    u32 ports;
+    flag source[IDENTIFIERS], handler[IDENTIFIERS];
+    flag set[IDENTIFIERS]; /* the register */
+    u32 timer[IDENTIFIERS];
+    struct port port[PORTS];
+};
+
+struct network {
+    u32 devices, router_load, node_load;
+    struct device device[DEVICES];
+};
+
+/* What hosts are told in a round, in the order of the telling. */
+struct told {
+    u32 count;
+    u32 word[TOLD_WORDS];
+};
+
+/* code.c: codes, and one device's reaction, which changes the register and says what is done. */
+struct code code_read(u8 byte);
+u32 code_byte(struct code code);
+void permit(u32 permissions, flag may_send[], flag may_receive[]);
+enum action react(flag router, flag running, const flag may_receive[], flag set[], struct code code);
+
+/* file.c: the number of the first fault in a plan file, or 0 with the plan in the network. */
+u32 block_check(const u8 *block);
+u32 file_read(struct network *net, const u8 *file, size length, u32 *block);
+
+/* state.c: the areas' edge. network_read gives 1, 2, or 0 with plan and state in the network. */
+void clear_device(struct device *device);
+void clear_waiting(struct port *port);
+void start(struct network *net);
+u32 network_read(struct network *net, const u8 *plan, size plan_length, const u32 *state, size state_length);
+void state_write(const struct network *net, u32 *words);
+
+/* calls.c and round.c: what happens to a network. */
+u32 host_calls(struct network *net, size device, enum kind kind, u32 k);
+void queue(struct port *port, struct code code);
+void play_round(struct network *net, struct told *told);
+u32 settle(struct network *net, u32 allowance, u32 *rounds);
+
+/* reach.c: the least crossings from a source to each device, UNREACHED for none; the number of devices reached. */
+enum { UNREACHED = DEVICES };
+u32 crossings(const struct network *net, u32 source, u32 distance[DEVICES]);
+
+/* The calls, as in include/bench.h. */
+u32 judge_code_read(u8 byte, u32 *value);
+u32 judge_code_write(u32 kind, u32 value, u32 *byte);
+u32 judge_react(u32 role, u32 running, u32 permissions, u32 *device_register, u8 byte);
+u32 judge_plan_read(const u8 *file, size length, u32 *block);
+u32 judge_start(const u8 *plan, size plan_length, u32 *state, size state_length);
+u32 judge_request(const u8 *plan, size plan_length, u32 *state, size state_length, size device, u32 k);
+u32 judge_acknowledge(const u8 *plan, size plan_length, u32 *state, size state_length, size device, u32 k);
+u32 judge_link_stop(const u8 *plan, size plan_length, u32 *state, size state_length, size device, size port);
+u32 judge_link_start(const u8 *plan, size plan_length, u32 *state, size state_length, size device, size port);
+u32 judge_reset(const u8 *plan, size plan_length, u32 *state, size state_length, size device);
+u32 judge_round(const u8 *plan, size plan_length, const u32 *old, size old_length, u32 *next, size next_length, u32 *sent,
+                size sent_length, u32 *told, size told_length, u32 *count);
+u32 judge_settle(const u8 *plan, size plan_length, u32 *state, size state_length, u32 *second, size second_length,
+                 u32 allowance, u32 *rounds);
+u32 judge_reach(const u8 *plan, size plan_length, const u32 *state, size state_length, size device, u32 k, u32 *devices,
+                u32 *set);
+u32 judge_report(const u8 *file, size length, u32 *state, size state_length, u32 *second, size second_length, u8 *text,
+                 size text_length, u32 *text_used);
+
+#endif

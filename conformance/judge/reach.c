@@ -1,0 +1,52 @@
+/* Reach, as a search in breadth: devices leave a queue in the order of their crossings, so that the first way to a device
+ * is a shortest one. */
+#include "judge.h"
+
+/* Does an interrupt that this port sends get into the device at the other end? */
+static flag passes(const struct port *port) {
+    return port->peer && port->running && port->may_send[INTERRUPT] && port->peer->may_receive[INTERRUPT];
+}
+
+u32 crossings(const struct network *net, u32 source, u32 distance[DEVICES]) {
+    u32 line[DEVICES], first = 0, last = 0;
+    for (u32 d = 0; d < DEVICES; d++)
+        distance[d] = UNREACHED;
+    distance[source] = 0;
+    line[last++] = source;
+    for (; first < last; first++) {
+        const struct device *from = &net->device[line[first]];
+        if (!from->router && from->number != source)
+            continue; /* a node passes nothing on */
+        for (u32 p = 0; p < from->ports; p++) {
+            if (!passes(&from->port[p]))
+                continue;
+            u32 to = from->port[p].peer->device->number;
+            if (distance[to] != UNREACHED)
+                continue;
+            distance[to] = distance[from->number] + 1;
+            line[last++] = to;
+        }
+    }
+    return last;
+}
+
+u32 judge_reach(const u8 *plan, size plan_length, const u32 *state, size state_length, size device, u32 k, u32 *devices,
+                u32 *set) {
+    struct network net;
+    u32 distance[DEVICES];
+    *devices = 0;
+    *set = 0;
+    u32 number = network_read(&net, plan, plan_length, state, state_length);
+    if (number)
+        return number;
+    if (device >= net.devices)
+        return 4;
+    if (k >= IDENTIFIERS)
+        return 5;
+    if (!net.device[device].source[k])
+        return 6;
+    *devices = crossings(&net, device, distance);
+    for (u32 d = 0; d < DEVICES; d++)
+        *set |= (u32)(distance[d] != UNREACHED) << d;
+    return 0;
+}

@@ -1,0 +1,138 @@
+/* Rounds and settling. A round works in the records where they stand: every code is sent before the first arrives, so
+ * what is sent comes from the old waiting sets only. */
+#include "judge.h"
+
+enum { TOLD_INTERRUPT = 1, TOLD_ACKNOWLEDGE = 2, TOLD_TIMEOUT = 3, SENT_NONE = 256 };
+
+/* A kind that the port may not send changes nothing: what waits of the other kind stays. */
+void queue(struct port *port, struct code code) {
+    if (port->running && port->may_send[code.kind])
+        port->waiting[code.value] = code.kind;
+}
+
+static void tell(struct told *told, u32 kind, const struct device *node, u32 k) {
+    told->word[told->count++] = kind * 65536 + node->number * 256 + k;
+}
+
+/* Step 1. */
+static void timers_fall(struct device *device, struct told *told) {
+    for (u32 k = 0; k < IDENTIFIERS; k++) {
+        if (device->timer[k] == 0 || --device->timer[k] > 0)
+            continue;
+        device->set[k] = 0;
+        if (!device->router)
+            tell(told, TOLD_TIMEOUT, device, k);
+    }
+}
+
+/* Step 2. */
+static void send(struct port *port) {
+    port->sent.kind = NOTHING;
+    for (u32 i = 0; i < IDENTIFIERS; i++) {
+        u32 k = (port->next + i) % IDENTIFIERS;
+        if (port->waiting[k] == NOTHING)
+            continue;
+        port->sent = (struct code){port->waiting[k], k};
+        port->waiting[k] = NOTHING;
+        port->next = (k + 1) % IDENTIFIERS;
+        return;
+    }
+}
+
+/* Step 3, for one code. */
+static void arrive(struct network *net, struct port *port, struct code code, struct told *told) {
+    struct device *device = port->device;
+    enum action action = react(device->router, port->running, port->may_receive, device->set, code);
+    if (action != FORWARDED && action != TELLS_HOST)
+        return;
+    u32 load = device->router ? net->router_load : net->node_load;
+    device->timer[code.value] = code.kind == INTERRUPT ? load : 0;
+    if (action == TELLS_HOST) {
+        tell(told, code.kind == INTERRUPT ? TOLD_INTERRUPT : TOLD_ACKNOWLEDGE, device, code.value);
+        return;
+    }
+    for (u32 p = 0; p < device->ports; p++)
+        if (&device->port[p] != port)
+            queue(&device->port[p], code);
+}
+
+void play_round(struct network *net, struct told *told) {
+    told->count = 0;
+    for (u32 d = 0; d < net->devices; d++)
+        timers_fall(&net->device[d], told);
+    for (u32 d = 0; d < net->devices; d++)
+        for (u32 p = 0; p < net->device[d].ports; p++)
+            send(&net->device[d].port[p]);
+    for (u32 d = 0; d < net->devices; d++)
+        for (u32 p = 0; p < net->device[d].ports; p++) {
+            struct port *port = &net->device[d].port[p];
+            if (port->peer && port->peer->sent.kind != NOTHING)
+                arrive(net, port, port->peer->sent, told);
+        }
+}
+
+static flag anything_waits(const struct network *net) {
+    for (u32 d = 0; d < net->devices; d++)
+        for (u32 p = 0; p < net->device[d].ports; p++)
+            for (u32 k = 0; k < IDENTIFIERS; k++)
+                if (net->device[d].port[p].waiting[k] != NOTHING)
+                    return 1;
+    return 0;
+}
+
+/* 12 where the allowance does not suffice, with the network as it is after that many rounds. */
+u32 settle(struct network *net, u32 allowance, u32 *rounds) {
+    struct told told;
+    for (*rounds = 0; anything_waits(net); ++*rounds) {
+        if (*rounds == allowance)
+            return 12;
+        play_round(net, &told);
+    }
+    return 0;
+}
+
+static void sent_write(const struct network *net, u32 *sent) {
+    for (u32 i = 0; i < SENT_WORDS; i++)
+        sent[i] = SENT_NONE;
+    for (u32 d = 0; d < net->devices; d++)
+        for (u32 p = 0; p < net->device[d].ports; p++)
+            if (net->device[d].port[p].sent.kind != NOTHING)
+                sent[PORTS * d + p] = code_byte(net->device[d].port[p].sent);
+}
+
+u32 judge_round(const u8 *plan, size plan_length, const u32 *old, size old_length, u32 *next, size next_length, u32 *sent,
+                size sent_length, u32 *told, size told_length, u32 *count) {
+    struct network net;
+    struct told telling;
+    *count = 0;
+    u32 number = network_read(&net, plan, plan_length, old, old_length);
+    if (number)
+        return number;
+    if (next_length != STATE_WORDS || sent_length != SENT_WORDS || told_length != TOLD_WORDS)
+        return 3;
+    play_round(&net, &telling);
+    state_write(&net, next);
+    sent_write(&net, sent);
+    for (u32 i = 0; i < TOLD_WORDS; i++)
+        told[i] = i < telling.count ? telling.word[i] : 0;
+    *count = telling.count;
+    return 0;
+}
+
+u32 judge_settle(const u8 *plan, size plan_length, u32 *state, size state_length, u32 *second, size second_length,
+                 u32 allowance, u32 *rounds) {
+    struct network net;
+    *rounds = 0;
+    u32 number = network_read(&net, plan, plan_length, state, state_length);
+    if (number)
+        return number;
+    if (second_length != STATE_WORDS)
+        return 3;
+    if (allowance > MOST_ALLOWED)
+        return 11;
+    number = settle(&net, allowance, rounds);
+    state_write(&net, state);
+    for (u32 i = 0; i < STATE_WORDS; i++)
+        second[i] = 0;
+    return number;
+}

@@ -1,0 +1,130 @@
+/* The state: how it starts, and how it stands in an area of 2,080 words. */
+#include "judge.h"
+
+/* Of a device: the register and the timers. Of a port: waiting interrupts, waiting acknowledges, next, running. */
+enum { DEVICE_WORDS = 1 + IDENTIFIERS, FIRST_PORT = DEVICE_WORDS * DEVICES, PORT_WORDS = 4 };
+
+static size device_at(u32 d) {
+    return DEVICE_WORDS * d;
+}
+
+static size port_at(u32 d, u32 p) {
+    return FIRST_PORT + PORT_WORDS * (PORTS * d + p);
+}
+
+void clear_device(struct device *device) {
+    for (u32 k = 0; k < IDENTIFIERS; k++) {
+        device->set[k] = 0;
+        device->timer[k] = 0;
+    }
+}
+
+void clear_waiting(struct port *port) {
+    for (u32 k = 0; k < IDENTIFIERS; k++)
+        port->waiting[k] = NOTHING;
+}
+
+void start(struct network *net) {
+    for (u32 d = 0; d < net->devices; d++) {
+        struct device *device = &net->device[d];
+        clear_device(device);
+        for (u32 p = 0; p < device->ports; p++) {
+            clear_waiting(&device->port[p]);
+            device->port[p].next = 0;
+            device->port[p].running = device->port[p].peer != 0;
+        }
+    }
+}
+
+static flag all_zero(const u32 *words, u32 count) {
+    for (u32 i = 0; i < count; i++)
+        if (words[i])
+            return 0;
+    return 1;
+}
+
+/* A timer runs exactly where the bit is 1. */
+static flag registers_read(struct device *device, const u32 *words) {
+    flag sound = 1;
+    for (u32 k = 0; k < IDENTIFIERS; k++) {
+        u32 timer = words[1 + k];
+        device->set[k] = words[0] >> k & 1;
+        device->timer[k] = timer;
+        sound &= device->set[k] ? timer >= 1 && timer <= 65535 : timer == 0;
+    }
+    return sound;
+}
+
+/* What waits for one identifier; an identifier in both sets, or in one that the port may not send, is not sound. */
+static flag waiting_read(struct port *port, u32 k, flag interrupt, flag acknowledge) {
+    port->waiting[k] = interrupt ? INTERRUPT : acknowledge ? ACKNOWLEDGE : NOTHING;
+    if (interrupt && acknowledge)
+        return 0;
+    return port->waiting[k] == NOTHING || (port->running && port->may_send[port->waiting[k]]);
+}
+
+static flag port_read(struct port *port, const u32 *words) {
+    port->next = words[2];
+    port->running = words[3] == 1;
+    flag sound = words[2] < IDENTIFIERS && words[3] <= 1 && !(port->running && !port->peer);
+    for (u32 k = 0; k < IDENTIFIERS; k++)
+        sound &= waiting_read(port, k, words[0] >> k & 1, words[1] >> k & 1);
+    return sound;
+}
+
+static flag device_read(struct device *device, const u32 *words) {
+    flag sound = registers_read(device, words + device_at(device->number));
+    for (u32 p = 0; p < PORTS; p++) {
+        const u32 *of_port = words + port_at(device->number, p);
+        sound &= p < device->ports ? port_read(&device->port[p], of_port) : all_zero(of_port, PORT_WORDS);
+    }
+    return sound;
+}
+
+static flag ends_agree(const struct device *device) {
+    for (u32 p = 0; p < device->ports; p++)
+        if (device->port[p].peer && device->port[p].peer->running != device->port[p].running)
+            return 0;
+    return 1;
+}
+
+static flag state_read(struct network *net, const u32 *words, size length) {
+    if (length != STATE_WORDS)
+        return 0;
+    flag sound = 1;
+    for (u32 d = 0; d < net->devices; d++)
+        sound &= device_read(&net->device[d], words);
+    for (u32 d = 0; d < net->devices; d++)
+        sound &= ends_agree(&net->device[d]);
+    for (u32 d = net->devices; d < DEVICES; d++)
+        sound &= all_zero(words + device_at(d), DEVICE_WORDS) && all_zero(words + port_at(d, 0), PORT_WORDS * PORTS);
+    return sound;
+}
+
+u32 network_read(struct network *net, const u8 *plan, size plan_length, const u32 *state, size state_length) {
+    u32 block;
+    if (file_read(net, plan, plan_length, &block))
+        return 1;
+    return state_read(net, state, state_length) ? 0 : 2;
+}
+
+void state_write(const struct network *net, u32 *words) {
+    for (u32 i = 0; i < STATE_WORDS; i++)
+        words[i] = 0;
+    for (u32 d = 0; d < net->devices; d++) {
+        const struct device *device = &net->device[d];
+        for (u32 k = 0; k < IDENTIFIERS; k++) {
+            words[device_at(d)] |= (u32)device->set[k] << k;
+            words[device_at(d) + 1 + k] = device->timer[k];
+        }
+        for (u32 p = 0; p < device->ports; p++) {
+            const struct port *port = &device->port[p];
+            u32 *of_port = words + port_at(d, p);
+            for (u32 k = 0; k < IDENTIFIERS; k++)
+                if (port->waiting[k] != NOTHING)
+                    of_port[port->waiting[k] == ACKNOWLEDGE] |= (u32)1 << k;
+            of_port[2] = port->next;
+            of_port[3] = port->running;
+        }
+    }
+}
