@@ -42,12 +42,18 @@ void case_begin(size of_seed, size which) {
     random_begin(seed, which);
 }
 
-_Noreturn void fail(const char *what, size judge, size bench) {
-    printf("judge: %s: judge %lu, bench %lu\n", what, judge, bench);
+_Noreturn void fail(const char *what, size one, size other) {
+    printf("judge: %s: %lu, %lu\n", what, one, other);
     printf("in %s(%lu, %lu, %lu, %lu, %lu), comparison %lu of the case\n", names[this_call], asked[0], asked[1], asked[2],
            asked[3], asked[4], in_case);
     printf("again: conformance/run --seed %lu --case %lu\n", seed, this_case);
     exit(1);
+}
+
+/* What the paper says of both. */
+void must_be(const char *what, size wanted, size given) {
+    if (wanted != given)
+        fail(what, wanted, given);
 }
 
 static void begin(enum call call, size a, size b, size c, size d, size e) {
@@ -108,19 +114,18 @@ static void same(const struct lent *lent, const char *what, const u8 *judge, con
     memcpy(&ours, judge + i * lent->width, lent->width);
     memcpy(&theirs, bench + i * lent->width, lent->width);
     printf("judge: the %s, %s, first at %lu\n", lent->name, what, i);
-    fail("it differs", ours, theirs);
+    fail("it differs (should be, is)", ours, theirs);
 }
 
 /* Compares what a call answered and all that it was lent. A refusal but 12 changes no area. */
 static u32 finish(u32 judge, u32 bench) {
     flag answers_number = this_call != CODE_READ && this_call != REACT;
-    if (judge != bench)
-        fail("the numbers differ", judge, bench);
+    must_be("the numbers of judge and bench", judge, bench);
     flag refused = answers_number && bench != 0 && bench != 12;
     for (u32 i = 0; i < lent_count; i++) {
         struct lent *lent = &lents[i];
         if (!guarded(lent->judge, lent) || !guarded(lent->bench, lent))
-            fail("written beside an area (1: kept)", guarded(lent->judge, lent), guarded(lent->bench, lent));
+            fail("an area's guards (1 if kept by judge, by bench)", guarded(lent->judge, lent), guarded(lent->bench, lent));
         same(lent, "after the call", by_judge(lent), by_bench(lent));
         if (lent->use == INPUT || (lent->use == AREA && refused))
             same(lent, "which may not change", lent->before, by_bench(lent));

@@ -17,7 +17,7 @@ static flag find_source(struct trial *trial) {
     u32 first = pick(DEVICES * IDENTIFIERS);
     for (u32 i = 0; i < DEVICES * IDENTIFIERS; i++) {
         u32 at = (first + i) % (DEVICES * IDENTIFIERS), d = at / IDENTIFIERS, k = at % IDENTIFIERS;
-        if (d >= plan.bytes[1] || !(device_block(&plan, d)[4 + k / 8] >> k % 8 & 1))
+        if (d >= plan.bytes[1] || !in_mask(&plan, d, SOURCES, k))
             continue;
         if (!port_words(&state, d, 0)[3] || !(port_entry(&plan, d, 0)[2] & 1))
             continue;
@@ -35,8 +35,8 @@ static flag make_source(struct trial *trial) {
         u8 *block = device_block(&plan, d), *entry = port_entry(&plan, d, 0);
         if (block[2] == 1 || entry[0] == 255)
             continue;
-        block[4 + trial->k / 8] |= 1 << trial->k % 8;
-        block[8 + trial->k / 8] &= ~(1 << trial->k % 8);
+        block[SOURCES + trial->k / 8] |= 1 << trial->k % 8;
+        block[HANDLERS + trial->k / 8] &= ~(1 << trial->k % 8);
         entry[2] |= 1;
         seal(&plan, 1 + d);
         port_words(&state, d, 0)[3] = port_words(&state, entry[0], entry[1])[3] = 1;
@@ -49,8 +49,8 @@ static flag make_source(struct trial *trial) {
 /* The identifier is unset and waits nowhere. */
 static void unset(u32 k) {
     for (u32 d = 0; d < DEVICES; d++) {
-        state.words[33 * d] &= ~(1u << k);
-        state.words[33 * d + 1 + k] = 0;
+        device_words(&state, d)[0] &= ~(1u << k);
+        device_words(&state, d)[1 + k] = 0;
         for (u32 p = 0; p < PORTS; p++) {
             port_words(&state, d, p)[0] &= ~(1u << k);
             port_words(&state, d, p)[1] &= ~(1u << k);
@@ -58,12 +58,25 @@ static void unset(u32 k) {
     }
 }
 
+/* The most that can be in its way: at every port all others wait that may, and come before it. */
+static void crowd(u32 k) {
+    for (u32 d = 0; d < plan.bytes[1]; d++)
+        for (u32 p = 0; p < device_block(&plan, d)[3]; p++) {
+            u32 *words = port_words(&state, d, p), others = ~(1u << k);
+            words[2] = (k + 1) % IDENTIFIERS;
+            if (words[3] && port_entry(&plan, d, p)[2] & 4)
+                words[1] = others & ~words[0];
+            if (words[3] && port_entry(&plan, d, p)[2] & 1)
+                words[0] = others & ~words[1];
+        }
+}
+
 /* The window of 32 x (D + 1) rounds, and loads that are longer, by one in half of the trials. */
 static void set_window(struct trial *trial) {
     struct network net;
     u32 farthest = 0;
-    if (network_read(&net, plan.bytes, plan.length, state.words, state.length))
-        fail("the driver's state is sound", 0, 2);
+    must_be("demand 3: plan and state are good", 0,
+            network_read(&net, plan.bytes, plan.length, state.words, state.length));
     crossings(&net, trial->source, trial->distance);
     for (u32 d = 0; d < DEVICES; d++)
         if (trial->distance[d] != UNREACHED && trial->distance[d] > farthest)
@@ -89,7 +102,7 @@ static void other_call(const struct trial *trial) {
 
 static void check_held(const struct trial *trial, u32 round) {
     for (u32 d = 0; d < DEVICES; d++) {
-        flag held = state.words[33 * d] >> trial->k & 1;
+        flag held = device_words(&state, d)[0] >> trial->k & 1;
         if (trial->distance[d] == UNREACHED && held)
             fail("demand 3: held out of reach (device, round)", d, round);
         if (trial->distance[d] != UNREACHED && round >= 32 * trial->distance[d] && !held)
@@ -121,19 +134,17 @@ u32 try_demand_3(const struct plan *given) {
     if (!find_source(&trial) && !make_source(&trial))
         return 0;
     unset(trial.k);
+    if (once_in(2))
+        crowd(trial.k);
     set_window(&trial);
-    if (try_change(REQUEST, &plan, &state, trial.source, trial.k))
-        fail("demand 3: the request is taken", trial.source, trial.k);
+    must_be("demand 3: the request is taken", 0, try_change(REQUEST, &plan, &state, trial.source, trial.k));
     check_held(&trial, 0);
-    played.next.length = STATE_WORDS;
-    played.sent_length = SENT_WORDS;
-    played.told_length = TOLD_WORDS;
+    right_lengths(&played);
     u32 calls = pick(4);
     for (u32 round = 1; round <= trial.window; round++) {
         for (u32 i = pick(1 + calls); i; i--)
             other_call(&trial);
-        if (try_round(&plan, &state, &played))
-            fail("demand 3: a round is played", round, trial.window);
+        must_be("demand 3: a round is played", 0, try_round(&plan, &state, &played));
         state = played.next;
         check_sent(&trial, round);
         check_held(&trial, round);

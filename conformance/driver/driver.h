@@ -53,7 +53,8 @@ enum call {
     REACH, REPORT, CALLS
 };
 void case_begin(size seed, size which);
-_Noreturn void fail(const char *what, size judge, size bench);
+_Noreturn void fail(const char *what, size one, size other);
+void must_be(const char *what, size wanted, size given);
 flag all_hit(void);
 void table(void);
 u32 try_code_read(u8 byte);
@@ -67,7 +68,9 @@ u32 try_settle(const struct plan *plan, struct state *state, size second_length,
 u32 try_reach(const struct plan *plan, const struct state *state, size device, u32 k);
 u32 try_report(const struct plan *file, struct printed *printed);
 
-/* plans.c: accepted files of every shape. */
+/* plans.c: accepted files of every shape. A mask is named by where it stands in a block. */
+enum { SOURCES = 4, HANDLERS = 8 };
+flag in_mask(struct plan *plan, u32 device, u32 mask, u32 k);
 u8 *device_block(struct plan *plan, u32 device);
 u8 *port_entry(struct plan *plan, u32 device, u32 port);
 void seal(struct plan *plan, u32 block);
@@ -83,6 +86,7 @@ void damage(struct plan *plan);
 
 /* states.c: any sound state, and states with one clause of soundness broken; 0 where the plan has no place for it. */
 enum { CLAUSES = 15 };
+u32 *device_words(struct state *state, u32 device);
 u32 *port_words(struct state *state, u32 device, u32 port);
 void sound_state(struct plan *plan, struct state *state);
 flag break_state(struct plan *plan, struct state *state, u32 clause);
@@ -95,6 +99,7 @@ void try_calls(struct plan *plan);
 void try_run(struct plan *plan, u32 rounds);
 void try_settling(struct plan *plan);
 void try_reports(struct plan *plan);
+void right_lengths(struct played *played);
 void likely_call(struct plan *plan, enum call *call, size *device, size *other);
 u32 try_demand_3(const struct plan *plan); /* the rounds in its window; 0 where nobody can send */
 

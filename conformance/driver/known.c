@@ -1,14 +1,10 @@
-/* The values that the paper itself gives, asked of both. */
+/* The values that the paper itself gives, asked of both, and the fullest report. */
 #include "driver.h"
 
 static struct plan plan;
 static struct state state;
 static struct played played;
-
-static void known(const char *what, size paper, size bench) {
-    if (paper != bench)
-        fail(what, paper, bench);
-}
+static struct printed printed = {.state_length = STATE_WORDS, .second_length = STATE_WORDS, .text_length = TEXT_BYTES};
 
 /* Node 0, source of 5, to router 1, to node 2, handler of 5. */
 static void three_in_a_row(void) {
@@ -16,7 +12,7 @@ static void three_in_a_row(void) {
     be_router(&plan, 1, 2);
     connect_ports(&plan, 0, 0, 1, 0, 15);
     connect_ports(&plan, 1, 1, 2, 0, 15);
-    device_block(&plan, 0)[4] = device_block(&plan, 2)[8] = 1 << 5;
+    device_block(&plan, 0)[SOURCES] = device_block(&plan, 2)[HANDLERS] = 1 << 5;
     set_loads(&plan, 100, 200);
     for (u32 block = 1; block <= 3; block++)
         seal(&plan, block);
@@ -24,57 +20,69 @@ static void three_in_a_row(void) {
 
 static void known_report(void) {
     static const char text[] = "network 3\n0 5 2 3\n";
-    static struct printed printed = {.state_length = STATE_WORDS, .second_length = STATE_WORDS, .text_length = TEXT_BYTES};
-    known("the report of the paper's plan", 0, try_report(&plan, &printed));
-    known("its length", sizeof text - 1, printed.used);
-    known("its text", 0, memcmp(text, printed.text, sizeof text - 1) != 0);
+    must_be("the report of the paper's plan", 0, try_report(&plan, &printed));
+    must_be("its length", sizeof text - 1, printed.used);
+    must_be("its text", 0, memcmp(text, printed.text, sizeof text - 1) != 0);
+}
+
+/* 32 nodes in pairs, each a source of everything: no text has more lines. */
+static void fullest_report(void) {
+    blank(&plan, DEVICES);
+    for (u32 d = 0; d < DEVICES; d++) {
+        if (d % 2 == 0 && d < 30)
+            connect_ports(&plan, d, 0, d + 1, 0, 15);
+        put_number(device_block(&plan, d) + SOURCES, 4, 0xFFFFFFFF);
+        seal(&plan, 1 + d);
+    }
+    set_loads(&plan, 65535, 65535);
+    must_be("the fullest report", 0, try_report(&plan, &printed));
 }
 
 /* What node 0 sends, and its next then, from a waiting set and a next. */
 static void known_choice(u32 waiting, u32 next, u32 sent, u32 then) {
-    state.length = played.next.length = STATE_WORDS;
-    played.sent_length = SENT_WORDS;
-    played.told_length = TOLD_WORDS;
-    known("the start", 0, try_change(START, &plan, &state, 0, 0));
+    state.length = STATE_WORDS;
+    right_lengths(&played);
+    must_be("the start", 0, try_change(START, &plan, &state, 0, 0));
     port_words(&state, 0, 0)[0] = waiting;
     port_words(&state, 0, 0)[2] = next;
-    known("a round", 0, try_round(&plan, &state, &played));
-    known("the code chosen", sent, played.sent[0]);
-    known("the next then", then, port_words(&played.next, 0, 0)[2]);
+    must_be("a round", 0, try_round(&plan, &state, &played));
+    must_be("the code chosen", sent, played.sent[0]);
+    must_be("the next then", then, port_words(&played.next, 0, 0)[2]);
 }
 
 /* A load of 1 set in a round clears in the next. */
 static void known_timer(void) {
     set_loads(&plan, 1, 1);
     known_choice(1 << 5, 0, 128 + 5, 6);
-    known("the router holds 5", 1 << 5, played.next.words[33]);
+    must_be("the router holds 5", 1 << 5, *device_words(&played.next, 1));
     state = played.next;
-    known("a round", 0, try_round(&plan, &state, &played));
-    known("the router holds nothing", 0, played.next.words[33]);
+    must_be("a round", 0, try_round(&plan, &state, &played));
+    must_be("the router holds nothing", 0, *device_words(&played.next, 1));
 }
 
 static void known_files(void) {
     set_loads(&plan, 9, 8);
-    known("timers 9 and 8", 23, try_plan_read(&plan));
+    must_be("timers 9 and 8", 23, try_plan_read(&plan));
     set_loads(&plan, 8, 8);
-    known("timers 8 and 8", 0, try_plan_read(&plan));
+    must_be("timers 8 and 8", 0, try_plan_read(&plan));
     plan.length = BLOCK;
     plan.bytes[1] = 33;
     seal(&plan, 0);
-    known("33 devices in a lone block", 23, try_plan_read(&plan));
+    must_be("33 devices in a lone block", 23, try_plan_read(&plan));
     plan.length = 0;
-    known("an empty file", 20, try_plan_read(&plan));
+    must_be("an empty file", 20, try_plan_read(&plan));
 }
 
 void known_values(void) {
+    fullest_report();
     three_in_a_row();
     known_report();
     known_choice(1 << 5 | 1 << 9, 6, 128 + 9, 10);
     known_choice(1 << 5, 6, 128 + 5, 6);
     known_choice(1u << 31, 31, 128 + 31, 0);
     known_choice(0, 6, 256, 6);
-    known("allowance 4,096", 0, try_settle(&plan, &state, STATE_WORDS, MOST_ALLOWED));
-    known("allowance 4,097", 11, try_settle(&plan, &state, STATE_WORDS, MOST_ALLOWED + 1));
+    must_be("allowance 4,096", 0, try_settle(&plan, &state, STATE_WORDS, MOST_ALLOWED));
+    must_be("allowance 4,097", 11, try_settle(&plan, &state, STATE_WORDS, MOST_ALLOWED + 1));
     known_timer();
     known_files();
 }

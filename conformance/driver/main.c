@@ -1,7 +1,7 @@
 /* The cases, each from the seed and its number alone. */
 #include "driver.h"
 
-enum { SEED = 20120831, BOUNDED = 1600, LONG = 32000 };
+enum { SEED = 20120831, BOUNDED = 2400, LONG = 12000 };
 
 static struct plan plan;
 static size demands;
@@ -32,6 +32,7 @@ static int usage(void) {
 
 int main(int count, char **words) {
     size seed = SEED, first = 0, cases = BOUNDED;
+    flag whole = 1;
     for (int i = 1; i < count; i++) {
         flag has_number = i + 1 < count;
         if (!strcmp(words[i], "--long"))
@@ -41,7 +42,7 @@ int main(int count, char **words) {
         else if (!strcmp(words[i], "--cases") && has_number)
             cases = strtoul(words[++i], 0, 0);
         else if (!strcmp(words[i], "--case") && has_number)
-            first = strtoul(words[++i], 0, 0), cases = 1;
+            first = strtoul(words[++i], 0, 0), cases = 1, whole = 0;
         else
             return usage();
     }
@@ -51,7 +52,7 @@ int main(int count, char **words) {
     table();
     printf("demand 3 tried on %lu of the networks, for up to %u rounds; in the others no node is joined to anything\n", demands,
            longest);
-    if (!first && !all_hit())
+    if (whole && !all_hit())
         return 1;
     printf("judge: ok\n");
     return 0;

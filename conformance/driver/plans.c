@@ -11,6 +11,10 @@ u8 *port_entry(struct plan *plan, u32 device, u32 port) {
     return device_block(plan, device) + 12 + 4 * port;
 }
 
+flag in_mask(struct plan *plan, u32 device, u32 mask, u32 k) {
+    return device_block(plan, device)[mask + k / 8] >> k % 8 & 1;
+}
+
 void put_number(u8 *at, u32 bytes, u32 number) {
     for (u32 i = 0; i < bytes; i++)
         at[i] = number >> 8 * i;
@@ -195,8 +199,9 @@ static void dress(struct plan *plan, u32 devices) {
             trim(plan, d);
             continue;
         }
-        put_number(block + 4, 4, source & ~(once_in(2) ? handler : 0));
-        put_number(block + 8, 4, handler & ~(block[4] + 256u * block[5] + 65536u * block[6] + (u32)block[7] * 16777216));
+        u32 both = source & handler, yields = random_word();
+        put_number(block + SOURCES, 4, source & ~(both & yields));
+        put_number(block + HANDLERS, 4, handler & ~(both & ~yields));
     }
 }
 

@@ -1,12 +1,12 @@
 /* Sound states by the letter of the paper, which are more than calls and rounds can make, and states that are not sound. */
 #include "driver.h"
 
-u32 *port_words(struct state *state, u32 device, u32 port) {
-    return state->words + 1056 + 4 * (8 * device + port);
+u32 *device_words(struct state *state, u32 device) {
+    return state->words + 33 * device;
 }
 
-static u32 devices_of(const struct plan *plan) {
-    return plan->bytes[1];
+u32 *port_words(struct state *state, u32 device, u32 port) {
+    return state->words + 1056 + 4 * (8 * device + port);
 }
 
 static u32 some_of(u32 density) {
@@ -35,8 +35,8 @@ void sound_state(struct plan *plan, struct state *state) {
     u32 set = pick(4), waiting = pick(4), brief = pick(3), stopped = once_in(3) ? 3 : 30;
     state->length = STATE_WORDS;
     memset(state->words, 0, sizeof state->words);
-    for (u32 d = 0; d < devices_of(plan); d++) {
-        u32 *words = state->words + 33 * d;
+    for (u32 d = 0; d < plan->bytes[1]; d++) {
+        u32 *words = device_words(state, d);
         words[0] = some_of(set);
         for (u32 k = 0; k < IDENTIFIERS; k++)
             if (words[0] >> k & 1)
@@ -82,9 +82,9 @@ static flag break_port(const u8 *entry, u32 *words, u32 clause) {
 
 static flag break_at(struct plan *plan, struct state *state, u32 clause) {
     u32 d = pick(DEVICES), p = pick(PORTS), value = once_in(2) ? 1 : 1u << pick(32);
-    flag device = d < devices_of(plan), port = device && p < device_block(plan, d)[3];
+    flag device = d < plan->bytes[1], port = device && p < device_block(plan, d)[3];
     if (clause == 13) {
-        state->words[33 * d + pick(33)] = value;
+        device_words(state, d)[pick(33)] = value;
         return !device;
     }
     if (clause == 14) {
@@ -92,7 +92,7 @@ static flag break_at(struct plan *plan, struct state *state, u32 clause) {
         return !port;
     }
     if (clause < 4)
-        return device && break_timer(state->words + 33 * d, clause);
+        return device && break_timer(device_words(state, d), clause);
     return port && break_port(port_entry(plan, d, p), port_words(state, d, p), clause);
 }
 

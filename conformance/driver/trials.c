@@ -35,9 +35,8 @@ static size length_near(size right) {
 static void likely_host(struct plan *plan, enum call call, size *device, size *other) {
     for (u32 tries = 0; tries < 8; tries++) {
         u32 d = pick(plan->bytes[1]), k = pick(32);
-        const u8 *mask = device_block(plan, d) + (call == ACKNOWLEDGES ? 8 : 4);
         for (u32 i = 0; i < 32; i++, k = (k + 1) % 32)
-            if (mask[k / 8] >> k % 8 & 1) {
+            if (in_mask(plan, d, call == ACKNOWLEDGES ? HANDLERS : SOURCES, k)) {
                 *device = d;
                 *other = k;
                 return;
@@ -58,7 +57,7 @@ void likely_call(struct plan *plan, enum call *call, size *device, size *other) 
         *other = pick(device_block(plan, *device)[3] % (PORTS + 1) + 1);
 }
 
-static void right_lengths(struct played *played) {
+void right_lengths(struct played *played) {
     played->next.length = STATE_WORDS;
     played->sent_length = SENT_WORDS;
     played->told_length = TOLD_WORDS;
@@ -90,15 +89,10 @@ static u32 any_call(struct plan *likely, const struct plan *plan, struct state *
     }
 }
 
-static void must_be(u32 wanted, u32 given) {
-    if (wanted != given)
-        fail("the paper's number, and that of both", wanted, given);
-}
-
 void try_files(struct plan *plan) {
     static struct plan damaged;
     static struct state state;
-    must_be(0, try_plan_read(plan));
+    must_be("an accepted file", 0, try_plan_read(plan));
     for (u32 i = 0; i < 16; i++) {
         damaged = *plan;
         damage(&damaged);
@@ -108,7 +102,8 @@ void try_files(struct plan *plan) {
         sound_state(plan, &state);
         if (once_in(4))
             state.length = wrong_length(STATE_WORDS);
-        must_be(1, once_in(8) ? try_change(START, &damaged, &state, 0, 0) : any_call(plan, &damaged, &state));
+        must_be("a call with a damaged file", 1,
+                once_in(8) ? try_change(START, &damaged, &state, 0, 0) : any_call(plan, &damaged, &state));
     }
 }
 
@@ -116,9 +111,9 @@ void try_files(struct plan *plan) {
 void try_calls(struct plan *plan) {
     static struct state state;
     state.length = STATE_WORDS;
-    must_be(0, try_change(START, plan, &state, 0, 0));
+    must_be("a start", 0, try_change(START, plan, &state, 0, 0));
     state.length = wrong_length(STATE_WORDS);
-    must_be(state.length == STATE_WORDS ? 0 : 3, try_change(START, plan, &state, 0, 0));
+    must_be("a start in this length", state.length == STATE_WORDS ? 0 : 3, try_change(START, plan, &state, 0, 0));
     for (u32 i = 0; i < 40; i++) {
         sound_state(plan, &state);
         any_call(plan, plan, &state);
@@ -126,13 +121,13 @@ void try_calls(struct plan *plan) {
     for (u32 clause = 0; clause < CLAUSES; clause++) {
         sound_state(plan, &state);
         if (break_state(plan, &state, clause))
-            must_be(2, any_call(plan, plan, &state));
+            must_be("a state that is not sound", 2, any_call(plan, plan, &state));
     }
     for (u32 i = 0; i < 6; i++) {
         sound_state(plan, &state);
         state.length = wrong_length(STATE_WORDS);
         if (state.length != STATE_WORDS)
-            must_be(2, any_call(plan, plan, &state));
+            must_be("a state of wrong length", 2, any_call(plan, plan, &state));
         sound_state(plan, &state);
         state.words[pick(STATE_WORDS)] = once_in(2) ? pick(34) : random_word();
         any_call(plan, plan, &state);
@@ -147,14 +142,14 @@ void try_run(struct plan *plan, u32 rounds) {
     size device, other;
     sound_state(plan, &state);
     if (once_in(2))
-        must_be(0, try_change(START, plan, &state, 0, 0));
+        must_be("a start", 0, try_change(START, plan, &state, 0, 0));
     right_lengths(&played);
     for (u32 calls = pick(5); rounds; rounds--) {
         for (u32 i = pick(1 + calls); i; i--) {
             likely_call(plan, &call, &device, &other);
             try_change(call, plan, &state, device, other);
         }
-        must_be(0, try_round(plan, &state, &played));
+        must_be("a round", 0, try_round(plan, &state, &played));
         state = played.next;
     }
 }
@@ -165,7 +160,7 @@ void try_settling(struct plan *plan) {
     for (u32 i = 0; i < sizeof allowances / sizeof *allowances; i++) {
         sound_state(plan, &state);
         u32 number = try_settle(plan, &state, STATE_WORDS, allowances[i]);
-        must_be(allowances[i] > MOST_ALLOWED ? 11 : number == 12 ? 12 : 0, number);
+        must_be("settling", allowances[i] > MOST_ALLOWED ? 11 : number == 12 ? 12 : 0, number);
     }
     for (u32 d = 0; d < plan->bytes[1]; d++) {
         size device = d, k = pick(32);
@@ -181,7 +176,7 @@ static u32 count_sources(struct plan *plan) {
     u32 count = 0;
     for (u32 d = 0; d < plan->bytes[1]; d++)
         for (u32 i = 0; i < 32; i++)
-            count += device_block(plan, d)[4 + i / 8] >> i % 8 & 1;
+            count += in_mask(plan, d, SOURCES, i);
     return count;
 }
 
@@ -189,7 +184,7 @@ static u32 count_sources(struct plan *plan) {
 static void thin(struct plan *plan, u32 most) {
     while (count_sources(plan) > most)
         for (u32 d = 0; d < plan->bytes[1]; d++) {
-            for (u32 i = 4; i < 8; i++)
+            for (u32 i = SOURCES; i < SOURCES + 4; i++)
                 device_block(plan, d)[i] &= random_word() >> 32;
             seal(plan, 1 + d);
         }
