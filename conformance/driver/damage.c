@@ -6,9 +6,10 @@ static u32 devices_of(const struct plan *plan) {
 }
 
 static void cut(struct plan *plan) {
+    u32 any = pick(ROOM), blocks = pick(40);
     const size lengths[] = {0, 1, 511, 513, plan->length - 1, plan->length + 1, plan->length - BLOCK, plan->length + BLOCK,
                             BLOCK, LONGEST_FILE - BLOCK, LONGEST_FILE, LONGEST_FILE + 1, LONGEST_FILE + BLOCK,
-                            pick(ROOM), pick(40) * BLOCK};
+                            any, blocks * BLOCK};
     size length = lengths[pick(sizeof lengths / sizeof *lengths)];
     if (length > plan->length)
         memset(plan->bytes + plan->length, once_in(2) ? 0 : pick(256), length - plan->length);
@@ -17,7 +18,8 @@ static void cut(struct plan *plan) {
 
 /* A value near the old one, at a limit, or any. */
 static u8 other_value(u8 old) {
-    const u8 values[] = {old + 1, old - 1, 0, 1, 2, 8, 9, 15, 16, 31, 32, 33, 254, 255, pick(256), old ^ 1 << pick(8)};
+    u8 any = pick(256), flipped = old ^ 1 << pick(8);
+    const u8 values[] = {old + 1, old - 1, 0, 1, 2, 8, 9, 15, 16, 31, 32, 33, 254, 255, any, flipped};
     return values[pick(sizeof values / sizeof *values)];
 }
 
@@ -39,20 +41,21 @@ static void raise_check(struct plan *plan) {
 }
 
 static void put_loads(struct plan *plan) {
-    u32 load = pick(3) ? 1 + pick(5) : pick(65535);
-    set_loads(plan, once_in(3) ? 0 : load + pick(2), once_in(3) ? 0 : load);
+    u32 load = pick(3) ? 1 + pick(5) : pick(65535), router = once_in(3) ? 0 : load + pick(2), node = once_in(3) ? 0 : load;
+    set_loads(plan, router, node);
 }
 
 /* Connections that are good fields and yet bad: a port that points to itself, to a port elsewhere, to one that its device
  * lacks, or nowhere while its peer points to it. */
 static void misconnect(struct plan *plan, u32 device) {
     u32 ports = device_block(plan, device)[3], p = pick(ports > PORTS || ports < 1 ? PORTS : ports);
+    u32 peer = pick(devices_of(plan)), peer_port = pick(PORTS);
     u8 *entry = port_entry(plan, device, p);
     switch (pick(4)) {
     case 0: put_number(entry, 4, device + 256 * p); break;
-    case 1: put_number(entry, 4, pick(devices_of(plan)) + 256 * pick(PORTS) + 65536 * pick(16)); break;
+    case 1: put_number(entry, 4, peer + 256 * peer_port + 65536 * pick(16)); break;
     case 2: put_number(entry, 4, 0xFFFF); break;
-    default: entry[1] = pick(PORTS);
+    default: entry[1] = peer_port;
     }
 }
 
@@ -82,9 +85,10 @@ static void misdress(struct plan *plan, u32 device) {
 }
 
 static void damage_block_0(struct plan *plan) {
+    u8 dirt = 1 + pick(255);
     switch (pick(6)) {
     case 0: change(plan->bytes + pick(6)); break;
-    case 1: plan->bytes[6 + pick(504)] = 1 + pick(255); break;
+    case 1: plan->bytes[6 + pick(504)] = dirt; break;
     case 2: change_check(plan, 0); return;
     case 3: raise_check(plan); return;
     case 4: put_loads(plan); return;
@@ -95,11 +99,11 @@ static void damage_block_0(struct plan *plan) {
 }
 
 static void damage_device(struct plan *plan, u32 device) {
-    u8 *block = device_block(plan, device);
+    u8 *block = device_block(plan, device), dirt = 1 + pick(255);
     switch (pick(8)) {
     case 0: change(block + pick(2)); break;
     case 1: change(block + pick(44)); break;
-    case 2: block[44 + pick(466)] = 1 + pick(255); break;
+    case 2: block[44 + pick(466)] = dirt; break;
     case 3: change_check(plan, 1 + device); return;
     case 4: misdress(plan, device); break;
     case 5: misfit(plan, device); break;

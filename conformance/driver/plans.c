@@ -74,6 +74,13 @@ static void join(struct plan *plan, u32 device, u32 peer) {
         connect_ports(plan, device, p, peer, q, 0);
 }
 
+static void join_any(struct plan *plan, u32 n, u32 times) {
+    for (; times; times--) {
+        u32 device = pick(n), peer = pick(n);
+        join(plan, device, peer);
+    }
+}
+
 /* The shapes. A shape goes by places 0..n - 1; name[] says which device is at a place. */
 static void tree(struct plan *plan, const u32 *name, u32 n) {
     u32 routers = 1, deep = pick(3), nodes = once_in(8) ? 0 : 1 + pick(3);
@@ -119,8 +126,7 @@ static void anything(struct plan *plan, const u32 *name, u32 n) {
     for (u32 i = 0; i < n; i++)
         if (once_in(2))
             be_router(plan, name[i], 1 + pick(PORTS));
-    for (u32 i = pick(5 * n); i; i--)
-        join(plan, pick(n), pick(n));
+    join_any(plan, n, pick(5 * n));
 }
 
 /* Routers with every port connected. */
@@ -154,8 +160,7 @@ static void shape(struct plan *plan, u32 n) {
     case 5: once_in(3) ? mesh(plan, n) : tree(plan, name, n); break;
     default: anything(plan, name, n);
     }
-    for (u32 i = once_in(3) ? pick(2 * n) : 0; i; i--)
-        join(plan, pick(n), pick(n));
+    join_any(plan, n, once_in(3) ? pick(2 * n) : 0);
 }
 
 /* A router has as many ports as it uses, or some more. */

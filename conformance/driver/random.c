@@ -1,4 +1,5 @@
-/* Numbers that follow from a seed and a case alone, so that a case can be played again without those before it. */
+/* Numbers that follow from a seed and a case alone, so that a case can be played again without those before it. No
+ * expression takes two of them where it matters which is first: C does not say. */
 #include "driver.h"
 
 static size now;
@@ -30,8 +31,9 @@ flag once_in(u32 times) {
 size wild(u32 limit) {
     if (!once_in(8))
         return pick(limit);
+    size any = random_word(), low = pick(limit);
     const size odd[] = {limit, limit + 1, limit - 1, 8, 31, 32, 33, 63, 64, 128, 255, 256, 257, 65535, 65536,
-                        1ul << 31, (1ul << 32) - 1, 1ul << 32, (1ul << 32) + pick(limit), (1ul << 32) * pick(limit),
-                        1ul << 63, (1ul << 63) + pick(limit), ~0ul, ~0ul - pick(limit), random_word()};
+                        1ul << 31, (1ul << 32) - 1, 1ul << 32, (1ul << 32) + low, (1ul << 32) * low,
+                        1ul << 63, (1ul << 63) + low, ~0ul, ~0ul - low, any};
     return odd[pick(sizeof odd / sizeof *odd)];
 }

@@ -72,15 +72,15 @@ static u32 any_allowance(void) {
 static u32 any_call(struct plan *likely, const struct plan *plan, struct state *state) {
     static struct played played;
     enum call call;
-    size device, other;
+    size device, other, length = length_near(STATE_WORDS);
     likely_call(likely, &call, &device, &other);
     switch (pick(8)) {
     case 0:
-        played.next.length = length_near(STATE_WORDS);
+        played.next.length = length;
         played.sent_length = length_near(SENT_WORDS);
         played.told_length = length_near(TOLD_WORDS);
         return try_round(plan, state, &played);
-    case 1: return try_settle(plan, state, length_near(STATE_WORDS), any_allowance());
+    case 1: return try_settle(plan, state, length, any_allowance());
     case 2:
         if (once_in(2))
             likely_host(likely, REQUEST, &device, &other);
@@ -129,7 +129,8 @@ void try_calls(struct plan *plan) {
         if (state.length != STATE_WORDS)
             must_be("a state of wrong length", 2, any_call(plan, plan, &state));
         sound_state(plan, &state);
-        state.words[pick(STATE_WORDS)] = once_in(2) ? pick(34) : random_word();
+        u32 word = once_in(2) ? pick(34) : random_word();
+        state.words[pick(STATE_WORDS)] = word;
         any_call(plan, plan, &state);
     }
 }
@@ -156,7 +157,8 @@ void try_run(struct plan *plan, u32 rounds) {
 
 void try_settling(struct plan *plan) {
     static struct state state;
-    const u32 allowances[] = {0, 1, 1 + pick(40), pick(200), MOST_ALLOWED + 1, 0xFFFFFFFF, once_in(4) ? MOST_ALLOWED : 300};
+    u32 few = 1 + pick(40), more = pick(200), most = once_in(4) ? MOST_ALLOWED : 300;
+    const u32 allowances[] = {0, 1, few, more, most, MOST_ALLOWED + 1, 0xFFFFFFFF};
     for (u32 i = 0; i < sizeof allowances / sizeof *allowances; i++) {
         sound_state(plan, &state);
         u32 number = try_settle(plan, &state, STATE_WORDS, allowances[i]);

@@ -2,7 +2,7 @@
 #include "judge.h"
 
 /* A request sets the bit and an acknowledge clears it; all else is the same for both. */
-u32 host_calls(struct network *net, size device, enum kind kind, u32 k) {
+u32 host_asks(struct network *net, size device, enum kind kind, u32 k) {
     if (device >= net->devices)
         return 4;
     if (k >= IDENTIFIERS)
@@ -28,7 +28,7 @@ static u32 host_call(const u8 *plan, size plan_length, u32 *state, size state_le
     struct network net;
     u32 number = network_read(&net, plan, plan_length, state, state_length);
     if (!number)
-        number = host_calls(&net, device, kind, k);
+        number = host_asks(&net, device, kind, k);
     if (!number)
         state_write(&net, state);
     return number;

@@ -74,7 +74,7 @@ u32 network_read(struct network *net, const u8 *plan, size plan_length, const u3
 void state_write(const struct network *net, u32 *words);
 
 /* calls.c and round.c: what happens to a network. */
-u32 host_calls(struct network *net, size device, enum kind kind, u32 k);
+u32 host_asks(struct network *net, size device, enum kind kind, u32 k);
 void queue(struct port *port, struct code code);
 void play_round(struct network *net, struct told *told);
 u32 settle(struct network *net, u32 allowance, u32 *rounds);

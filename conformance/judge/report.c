@@ -27,7 +27,7 @@ static u32 holders(const struct network *net, u32 k) {
 /* The rounds and the devices then holding the bit, from a fresh start. */
 static void print_settling(struct text *text, struct network *net, u32 device, u32 k) {
     start(net);
-    u32 rounds, refused = host_calls(net, device, INTERRUPT, k);
+    u32 rounds, refused = host_asks(net, device, INTERRUPT, k);
     if (refused) {
         print(text, "r");
         print_number(text, refused);
