@@ -72,10 +72,13 @@ static void misfit(struct plan *plan, u32 device) {
     }
 }
 
-/* A role with the ports or masks of the other, or masks with a common bit. */
+/* A role with the ports or masks of the other, or masks with a common bit. A number of ports shows itself only where no
+ * entry contradicts it, so that some devices lose their entries. */
 static void misdress(struct plan *plan, u32 device) {
     u8 *block = device_block(plan, device);
-    u32 bit = pick(32), mask = 4 + 4 * pick(2);
+    u32 bit = pick(32), mask = once_in(2) ? SOURCES : HANDLERS;
+    for (u32 p = once_in(2) ? 0 : PORTS; p < PORTS; p++)
+        put_number(port_entry(plan, device, p), 4, 0xFFFF);
     switch (pick(4)) {
     case 0: block[2] = pick(3); break;
     case 1: block[3] = pick(10); break;
