@@ -9,6 +9,7 @@ use borrow.Author.Tests.{le-ltb}
 use Rattle.areas.specs.Loop.{upTo}
 use Rattle.areas.proofs.Loops.{untouched}
 use Rattle.bits.specs.Set.{bit}
+use Rattle.plan.specs.Fields.{nobody}
 use Rattle.plan.specs.Reading.{Held}
 use Rattle.plan.specs.declared.Plan.{Plan}
 use Rattle.plan.proofs.Round.{held-few}
@@ -16,10 +17,10 @@ use Rattle.bench.specs.State.{State, word, registerAt, timerAt, timer}
 use Rattle.bench.specs.Network.{devices, exists, peer}
 use Rattle.bench.specs.Sound.{Sound}
 use Rattle.bench.specs.Round.{World, tick, arrives}
-use Rattle.bench.specs.Idle.{Rests, Unused}
+use Rattle.bench.specs.Idle.{Rests, Unused, Idles, Laid}
 use Rattle.bench.specs.Telling.{Seen, seen, Follows}
 use Rattle.bench.proofs.Marks.{tick-other}
-use Rattle.bench.proofs.Plans.{absent-loose}
+use Rattle.bench.proofs.Plans.{few, absent-loose}
 use Rattle.bench.proofs.Stepped.{tick-idle, arrives-nothing}
 use Rattle.bench.proofs.Tellings.{world, follows-still, shows-none}
 
@@ -78,11 +79,29 @@ sound-unused {plan} {s} h x d l =
     }
 
 -- at them nothing arrives, as they lead nowhere
-pub arrives-unused : (plan : Plan) → Held plan → (sent : List ℕ) → length sent ≡ 256 → (d q : ℕ) → d < 32 → 8 * d + getD (plan .core .ports) d 0 ≤ q → q < 8 * d + 8
-    → (w : World) → arrives plan sent q w ≡ w
+pub arrives-unused : (plan : Plan) → Laid (devices plan) (plan .core .ports) (plan .peers) → (sent : List ℕ) → length sent ≡ 256 → (d q : ℕ) → d < devices plan
+    → 8 * d + getD (plan .core .ports) d 0 ≤ q → q < 8 * d + 8 → (w : World) → arrives plan sent q w ≡ w
 arrives-unused plan h sent e d q l a b w =
     let device : q / 8 ≡ d = omega arith in
-    let none : exists plan q ≡ false = rw device (le-ltb (q % 8) (getD (plan .core .ports) d 0) (omega arith)) in
-    let byte : getD sent (peer plan q) 256 ≡ 256 =
-    ap (λ (p : ℕ). getD sent p 256) (absent-loose plan h q (omega arith) none) ∙ List·getD-eq-default sent 256 (omega arith) in
+    let nowhere : peer plan q ≡ nobody = rw device (h .nowhere d (q % 8) l (omega arith) (omega arith)) in
+    let byte : getD sent (peer plan q) 256 ≡ 256 = ap (λ (p : ℕ). getD sent p 256) nowhere ∙ List·getD-eq-default sent 256 (omega arith) in
     arrives-nothing plan sent q 256 (sym byte) w (omega arith)
+
+-- ---- both, of a sound state of a held plan
+
+pub held-laid : (plan : Plan) → Held plan → Laid (devices plan) (plan .core .ports) (plan .peers)
+held-laid plan h =
+    let n = few plan h in
+    record {
+      few = n;
+      most = λ d l. held-few plan h d (omega arith) .1;
+      nowhere = λ d p l a b.
+          let device : (8 * d + p) / 8 ≡ d = omega arith in
+          let place : (8 * d + p) % 8 ≡ p = omega arith in
+          rw (device, place) at (absent-loose plan h (8 * d + p) (omega arith) (rw (device, place) (le-ltb p (getD (plan .core .ports) d 0) a)));
+    }
+
+pub sound-idles : (plan : Plan) → Held plan → {s : State} → Sound plan s → Idles (devices plan) (plan .core .ports) s
+sound-idles plan h x =
+    let n = few plan h in
+    record { size = x .size; resting = λ d l. sound-rests x d l (omega arith); unused = λ d l. sound-unused h x d (omega arith) }

@@ -17,8 +17,10 @@ use Rattle.plan.specs.Reading.{Held}
 use Rattle.plan.specs.declared.Plan.{Plan}
 use Rattle.bench.specs.State.{State}
 use Rattle.bench.specs.Sound.{Sound}
-use Rattle.bench.specs.Round.{round}
+use Rattle.bench.specs.Network.{loadOf}
+use Rattle.bench.specs.Round.{Round, ticked, sentBytes, posted, arrives, reached, round}
 use Rattle.bench.specs.Playing.{Areas, roundAsks, Plays}
+use Rattle.bench.specs.Idle.{bare}
 use Rattle.bench.specs.Telling.{shown, areas, Played}
 use Rattle.bench.proofs.Tolds.{told-fits}
 
@@ -83,8 +85,22 @@ module _ (plan : Plan) (old : State) (before : Areas) where
 pub count-fits : {plan : Plan} {old : State} {before : List ℕ} {next : State} {sent told : List ℕ} {count : ℕ} → Held plan → Played plan old before next sent told count → count ≤ 1056
 count-fits {plan} {old} h p = omega (arith, p .number, told-fits plan old h)
 
--- the plan of its two parts
+-- the parts of a plan that a round reads
+abbrev pub stripped : Plan → Plan
+stripped plan = bare (plan .core .devices) (plan .core .loads) (plan .core .role) (plan .core .ports) (plan .core .permissions) (plan .peers)
+
+pub round-stripped : (plan : Plan) (old : State) → round (stripped plan) old ≡ round plan old
+unfolding round ticked sentBytes posted arrives reached loadOf
+round-stripped plan old = refl
+
 pub played-plan : {plan : Plan} {peers : List (List ℕ)} {old : State} {before : List ℕ} {next : State} {sent told : List ℕ} {count : ℕ} → peers ≡ plan .peers
-    → Played (record { core = plan .core; peers = peers }) old before next sent told count → Played plan old before next sent told count
-played-plan {plan} {old} {before} {next} {sent} {told} {count} e p =
-    subst (λ (l : List (List ℕ)). Played (record { core = plan .core; peers = l }) old before next sent told count) e p
+    → Played (stripped (record { core = plan .core; peers = peers })) old before next sent told count → Played plan old before next sent told count
+played-plan {plan} {peers} {old} {before} {next} {sent} {told} {count} e p =
+    subst (λ (l : List (List ℕ)). Played (record { core = plan .core; peers = l }) old before next sent told count) e
+    (let same = round-stripped (record { core = plan .core; peers = peers }) old in
+    record {
+      state = p .state ∙ ap (λ (r : Round). r .next) same;
+      bytes = p .bytes ∙ ap (λ (r : Round). r .sent) same;
+      words = p .words ∙ ap (λ (r : Round). shown before (r .told)) same;
+      number = p .number ∙ ap (λ (r : Round). length (r .told)) same;
+    })

@@ -8,11 +8,9 @@ ghost use lib.Dec.{eqb, ltb};
 ghost use lib.ListN.{length, getD};
 ghost use Rattle.areas.specs.Loop.{upTo};
 ghost use Rattle.areas.specs.Table.{table};
-ghost use Rattle.plan.specs.Reading.{Held};
-ghost use Rattle.bench.specs.Sound.{Sound};
 ghost use Rattle.bench.specs.Round.{tick, chosen, sends, unqueued, timed, forwarded, tells, acted, arrived, reached};
 ghost use Rattle.bench.specs.Playing.{Plays};
-ghost use Rattle.bench.specs.Idle.{Rests, Unused};
+ghost use Rattle.bench.specs.Idle.{Rests, Unused, Laid, Idles, bare};
 ghost use Rattle.bench.specs.Telling.{Notes, areas, seen, Follows, Played};
 use crate::Answer;
 use crate::DEVICE;
@@ -24,7 +22,6 @@ use crate::state;
 use bits::Found;
 use codes::Code;
 use device::Action;
-use plan::Core;
 use plan::Plan;
 
 // A word told to a host, where there is room for it. It counts all the same, so that a caller who
@@ -278,31 +275,33 @@ fn load_of(loads: [u16; 2], role: u8) -> u32
 // What the far ends sent arrives, by receiving device, then port. A port that its device lacks leads
 // nowhere, and is passed over.
 fn arrive_all(
-    core: Core,
-    peers: [[u16; 8]; 32],
+    n: usize,
+    loads: [u16; 2],
+    roles: &[u8; 32],
+    ports: &[u8; 32],
+    permissions: &[u8; 256],
+    peers: &[[u16; 8]; 32],
     sent: &[u32],
     state: &mut [u32],
     told: &mut [u32],
     count: usize,
 ) -> usize
-    requires { ⌜ Held (record { core = core; peers = peers }) × (length (now sent) ≡ 256) × (length (now state) ≡ 2080) × (count ≤ 1024) ⌝ }
-    ensures { λ r. ⌜ Follows (reached (record { core = core; peers = peers }) (now (sent .entry))) (seen (now (state .entry)) (now (told .entry)) count) (seen (now (state .exit)) (now (told .exit)) r) ⌝ }
+    requires { ⌜ Laid n (now ports) (now peers) × (length (now sent) ≡ 256) × (length (now state) ≡ 2080) × (count ≤ 1024) ⌝ }
+    ensures { λ r. ⌜ Follows (reached (bare n loads (now (roles .entry)) (now (ports .entry)) (now (permissions .entry)) (now (peers .entry))) (now (sent .entry))) (seen (now (state .entry)) (now (told .entry)) count) (seen (now (state .exit)) (now (told .exit)) r) ⌝ }
 {
-    let loads = core.loads;
     let mut count = count;
-    for d in 0..core.devices {
-        let role = core.role[d];
+    for d in 0..n {
+        let role = roles[d];
         let load = load_of(loads, role);
-        let row = peers[d];
         let first = 8 * d;
-        let past = first + wide(core.ports[d]);
+        let past = first + wide(ports[d]);
         for q in first..past {
-            let byte = heard(row[q % 8], sent);
+            let byte = heard(peers[d][q % 8], sent);
             if byte < 256 {
                 count = arrive_one(
                     role == 1,
                     load,
-                    &core.permissions,
+                    permissions,
                     q,
                     byte as u8,
                     state,
@@ -339,22 +338,37 @@ fn put_words(words: [u32; 2080], state: &mut [u32])
     }
 }
 
-// The round, with no checks.
+// The round, with no checks, from the parts of a plan that it reads.
 pub(crate) fn play(
-    core: Core,
-    peers: [[u16; 8]; 32],
+    n: usize,
+    loads: [u16; 2],
+    roles: &[u8; 32],
+    ports: &[u8; 32],
+    permissions: &[u8; 256],
+    peers: &[[u16; 8]; 32],
     old: &[u32],
     next: &mut [u32],
     sent: &mut [u32],
     told: &mut [u32],
 ) -> usize
-    requires { ⌜ Held (record { core = core; peers = peers }) × Sound (record { core = core; peers = peers }) (now old) × (length (now next) ≡ 2080) × (length (now sent) ≡ 256) ⌝ }
-    ensures { λ r. ⌜ Played (record { core = core; peers = peers }) (now (old .entry)) (now (told .entry)) (now (next .exit)) (now (sent .exit)) (now (told .exit)) r ⌝ }
+    requires { ⌜ Laid n (now ports) (now peers) × Idles n (now ports) (now old) × (length (now next) ≡ 2080) × (length (now sent) ≡ 256) ⌝ }
+    ensures { λ r. ⌜ Played (bare n loads (now (roles .entry)) (now (ports .entry)) (now (permissions .entry)) (now (peers .entry))) (now (old .entry)) (now (told .entry)) (now (next .exit)) (now (sent .exit)) (now (told .exit)) r ⌝ }
 {
     put_words(words_of(old), next);
-    let count = tick_all(core.devices, &core.role, next, told);
-    post_all(core.devices, &core.ports, old, next, sent);
-    arrive_all(core, peers, sent, next, told, count)
+    let count = tick_all(n, roles, next, told);
+    post_all(n, ports, old, next, sent);
+    arrive_all(
+        n,
+        loads,
+        roles,
+        ports,
+        permissions,
+        peers,
+        sent,
+        next,
+        told,
+        count,
+    )
 }
 
 // ---- the public door
@@ -397,7 +411,23 @@ pub fn round(
     }
     areas::fill(told, 0);
     let core = plan.core;
-    let count = play(core, plan::peers_of(plan), old, next, sent, told);
+    let peers = plan::peers_of(plan);
+    let loads = core.loads;
+    let roles = core.role;
+    let ports = core.ports;
+    let permissions = core.permissions;
+    let count = play(
+        core.devices,
+        loads,
+        &roles,
+        &ports,
+        &permissions,
+        &peers,
+        old,
+        next,
+        sent,
+        told,
+    );
     Answer {
         number: 0,
         value: count as u32,

@@ -9,6 +9,7 @@ ghost use Rattle.areas.specs.Table.{table};
 ghost use Rattle.plan.specs.Reading.{Held};
 ghost use Rattle.bench.specs.Sound.{Sound};
 ghost use Rattle.bench.specs.Round.{round};
+ghost use Rattle.bench.specs.Idle.{Laid, Idles, bare};
 ghost use Rattle.bench.specs.Settling.{Quiet, Settles};
 ghost use Rattle.bench.specs.Telling.{pair};
 use crate::Answer;
@@ -48,22 +49,48 @@ fn quiet_in(home: bool, state: &[u32], second: &[u32]) -> bool
 
 // A round from the area in use to the other.
 fn advance(
-    core: Core,
-    peers: [[u16; 8]; 32],
+    n: usize,
+    loads: [u16; 2],
+    roles: &[u8; 32],
+    ports: &[u8; 32],
+    permissions: &[u8; 256],
+    peers: &[[u16; 8]; 32],
     home: bool,
     state: &mut [u32],
     second: &mut [u32],
     sent: &mut [u32],
     told: &mut [u32],
 )
-    requires { ⌜ Held (record { core = core; peers = peers }) × Sound (record { core = core; peers = peers }) (cond home (now state) (now second)) × (length (now state) ≡ 2080) × (length (now second) ≡ 2080) × (length (now sent) ≡ 256) ⌝ }
-    ensures { λ _. ⌜ cond home (now (second .exit)) (now (state .exit)) ≡ round (record { core = core; peers = peers }) (cond home (now (state .entry)) (now (second .entry))) .next ⌝ }
+    requires { ⌜ Laid n (now ports) (now peers) × Idles n (now ports) (cond home (now state) (now second)) × (length (now state) ≡ 2080) × (length (now second) ≡ 2080) × (length (now sent) ≡ 256) ⌝ }
+    ensures { λ _. ⌜ cond home (now (second .exit)) (now (state .exit)) ≡ round (bare n loads (now (roles .entry)) (now (ports .entry)) (now (permissions .entry)) (now (peers .entry))) (cond home (now (state .entry)) (now (second .entry))) .next ⌝ }
 {
     if home {
-        rounds::play(core, peers, state, second, sent, told);
+        rounds::play(
+            n,
+            loads,
+            roles,
+            ports,
+            permissions,
+            peers,
+            state,
+            second,
+            sent,
+            told,
+        );
         return;
     }
-    rounds::play(core, peers, second, state, sent, told);
+    rounds::play(
+        n,
+        loads,
+        roles,
+        ports,
+        permissions,
+        peers,
+        second,
+        state,
+        sent,
+        told,
+    );
 }
 
 // The answer is given, where the area in use ends in state, and second as zeros.
@@ -92,6 +119,10 @@ fn run(
     requires { ⌜ Held (record { core = core; peers = peers }) × Sound (record { core = core; peers = peers }) (now state) × (length (now second) ≡ 2080) × (allowance ≤ 4096) ⌝ }
     ensures { λ r. ⌜ Settles (record { core = core; peers = peers }) (pair (now (state .entry)) (now (second .entry))) allowance (r .number) (r .value) (pair (now (state .exit)) (now (second .exit))) ⌝ }
 {
+    let loads = core.loads;
+    let roles = core.role;
+    let ports = core.ports;
+    let permissions = core.permissions;
     let mut sent = [0u32; 256];
     let mut told = [0u32; 1];
     let mut home = true;
@@ -100,7 +131,19 @@ fn run(
         if n == allowance {
             return finish(home, state, second, 12, n);
         }
-        advance(core, peers, home, state, second, &mut sent, &mut told[..0]);
+        advance(
+            core.devices,
+            loads,
+            &roles,
+            &ports,
+            &permissions,
+            &peers,
+            home,
+            state,
+            second,
+            &mut sent,
+            &mut told[..0],
+        );
         home = !home;
         n += 1;
     }

@@ -6,13 +6,12 @@ use native.Mathlib.Omega.{arith}
 use lib.ListN.{length, getD}
 use Rattle.areas.specs.Loop.{upTo}
 use Rattle.plan.specs.declared.Plan.{Plan}
-use Rattle.plan.proofs.Round.{held-few}
 use Rattle.bench.specs.Network.{devices, role, router}
 use Rattle.bench.specs.Round.{World, arrived, arrives, reached}
+use Rattle.bench.specs.Idle.{Laid, bare}
 use Rattle.bench.specs.Telling.{Seen, seen, Follows}
 use Rattle.bench.proofs.Tellings.{leads, silent, lands, follows-none, follows-more, follows-still, follows-done}
 use Rattle.bench.proofs.Stepped.{arrives-nothing, arrives-byte}
-use Rattle.bench.proofs.Plans.{few}
 use Rattle.bench.proofs.Idles.{arrives-unused}
 use borrow.Author.Needs.{needs}
 use Rattle.bench.proofs.rounds.arrive_all.Statement.{statement}
@@ -62,37 +61,34 @@ module _ (plan : Plan) (sent : List ℕ) (q d byte : ℕ) (device : q / 8 ≡ d)
   here-nothing h w = arrives-nothing plan sent q byte (rw device e) w h
 
 abbrev Inv-loop2 : tie.InvT-loop2
-Inv-loop2 sent state₀ told₀ count core peers loads count₀ d role load row first past q₀ d-end state told count' q =
-    ((size : ℕ) (x : Seen) → Reached (record { core = core; peers = peers }) sent size x first (seen state₀ told₀ count₀) → Reached (record { core = core; peers = peers }) sent size x q (seen state told count'))
+Inv-loop2 n loads roles ports permissions peers sent state₀ told₀ count count₀ d role load first past q₀ state told count' q =
+    ((size : ℕ) (x : Seen) → Reached (bare n loads roles ports permissions peers) sent size x first (seen state₀ told₀ count₀) → Reached (bare n loads roles ports permissions peers) sent size x q (seen state told count'))
     × (first ≤ q)
     × (q ≤ past)
-    × (past ≤ 8 * core .devices)
+    × (past ≤ 8 * n)
 
 abbrev μ-loop2 : tie.MeasureT-loop2
-μ-loop2 sent state₀ told₀ count core peers loads count₀ d role load row first past q₀ d-end state told count' q = past - q
+μ-loop2 n loads roles ports permissions peers sent state₀ told₀ count count₀ d role load first past q₀ state told count' q =
+    past - q
 
 abbrev Inv-loop : tie.InvT-loop
-Inv-loop sent state₀ told₀ count core peers loads count₀ d₀ d-end state told count' d = Reached (record { core = core; peers = peers }) sent (length told₀) (seen state₀ told₀ count) (8 * d) (seen state told count')
+Inv-loop n loads roles ports permissions peers sent state₀ told₀ count count₀ d₀ state told count' d =
+    Reached (bare n loads roles ports permissions peers) sent (length told₀) (seen state₀ told₀ count) (8 * d) (seen state told count')
 
 abbrev μ-loop : tie.MeasureT-loop
-μ-loop sent state₀ told₀ count core peers loads count₀ d₀ d-end state told count' d = core .devices - d
+μ-loop n loads roles ports permissions peers sent state₀ told₀ count count₀ d₀ state told count' d =
+    n - d
 
 loop-holds : tie.Need-loop-holds Inv-loop2 μ-loop2 Inv-loop μ-loop
 loop-holds c =
-    let s = c .before .before .before .before in
-    record { within = omega arith; few = few _ (s .pre .0); count = omega arith; state = search needs; area = search needs; follows = follows-none _ }
+    let s = c .before .before .before in
+    record { within = omega arith; few = s .pre .0 .few; count = omega arith; state = search needs; area = search needs; follows = follows-none _ }
 
 element-copy-out-role : tie.Need-element-copy-out-role Inv-loop2 μ-loop2 Inv-loop μ-loop
 element-copy-out-role c = search needs
 
 load-of-requires : tie.Need-load-of-requires Inv-loop2 μ-loop2 Inv-loop μ-loop
 load-of-requires c κs = search needs
-
-mul-row : tie.Need-mul-row Inv-loop2 μ-loop2 Inv-loop μ-loop
-mul-row c = search needs
-
-array-copy-out-row : tie.Need-array-copy-out-row Inv-loop2 μ-loop2 Inv-loop μ-loop
-array-copy-out-row c = search needs
 
 mul-first : tie.Need-mul-first Inv-loop2 μ-loop2 Inv-loop μ-loop
 mul-first c = search needs
@@ -104,18 +100,25 @@ wide-requires : tie.Need-wide-requires Inv-loop2 μ-loop2 Inv-loop μ-loop
 wide-requires c κs = search needs
 
 add-past : tie.Need-add-past Inv-loop2 μ-loop2 Inv-loop μ-loop
-add-past c = omega (arith, held-few _ (c .before .before .before .before .before .before .before .before .before .before .before .pre .0) (c .before .before .before .before .before .before .loop .d) (omega arith) .1)
+add-past c = omega (arith, c .before .before .before .before .before .before .before .before .before .pre .0 .most (c .before .before .before .before .before .loop .d) (omega arith), c .before .before .before .before .before .before .before .before .before .pre .0 .few, c .wide .ensures)
 
 loop2-holds : tie.Need-loop2-holds Inv-loop2 μ-loop2 Inv-loop μ-loop
 loop2-holds c =
-    let most = held-few _ (c .before .before .before .before .before .before .before .before .before .before .before .pre .0) (c .before .before .before .before .before .before .loop .d) (omega arith) .1 in
-    (λ size x v. v, omega arith, omega arith, omega arith)
+    let s = c .before .before .before .before .before .before .before .before .before in
+    let most = s .pre .0 .most (c .before .before .before .before .before .loop .d) (omega arith) in
+    (λ size x v. v, omega arith, omega arith, omega (arith, most, c .wide .ensures))
 
 mul-heard : tie.Need-mul-heard Inv-loop2 μ-loop2 Inv-loop μ-loop
 mul-heard c = search needs
 
-array-read-heard : tie.Need-array-read-heard Inv-loop2 μ-loop2 Inv-loop μ-loop
-array-read-heard c = search needs
+mul-heard-2 : tie.Need-mul-heard-2 Inv-loop2 μ-loop2 Inv-loop μ-loop
+mul-heard-2 c = search needs
+
+index-1-heard : tie.Need-index-1-heard Inv-loop2 μ-loop2 Inv-loop μ-loop
+index-1-heard c = search needs
+
+index-2-heard : tie.Need-index-2-heard Inv-loop2 μ-loop2 Inv-loop μ-loop
+index-2-heard c = search needs
 
 heard-requires : tie.Need-heard-requires Inv-loop2 μ-loop2 Inv-loop μ-loop
 heard-requires c κs = search needs
@@ -125,9 +128,9 @@ cast-arrive-one c = search needs
 
 arrive-one-requires : tie.Need-arrive-one-requires Inv-loop2 μ-loop2 Inv-loop μ-loop
 arrive-one-requires c κs =
-    let l = c .before .before .before .before .before .before .before in
-    let v = l .loop2 .inv .0 _ _ (l .before .before .before .before .before .before .before .loop .inv) in
-    (v .state, omega arith, omega (arith, v .count))
+    let l = c .before .before .before .before .before .before in
+    let v = l .loop2 .inv .0 _ _ (l .before .before .before .before .before .before .loop .inv) in
+    (v .state, omega (arith, v .few), omega (arith, v .count, v .few))
 
 add-q : tie.Need-add-q Inv-loop2 μ-loop2 Inv-loop μ-loop
 add-q c = search needs
@@ -137,19 +140,20 @@ loop2-less c = search needs
 
 loop2-again : tie.Need-loop2-again Inv-loop2 μ-loop2 Inv-loop μ-loop
 loop2-again c =
-    let l = c .before .before .before in
-    let o = l .before .before .before .before .before .before .before in
-    let most = held-few _ (o .before .before .before .before .before .pre .0) (o .loop .d) (omega arith) .1 in
+    let l = c .before .before .before .before in
+    let o = l .before .before .before .before .before .before in
+    let most = o .before .before .before .before .pre .0 .most (o .loop .d) (omega arith) in
+    let ports = l .before .wide .ensures in
     let device : l .loop2 .q / 8 ≡ o .loop .d = omega arith in
     let byte = c .before .heard .ensures in
-    let load = c .before .before .before .before .before .before .before .load-of .ensures in (
+    let load = l .before .before .before .load-of .ensures in (
       λ size x v. let u = l .loop2 .inv .0 size x v in
           ⊎-elim
           (λ w. again u (omega arith)
-          (lands (w .10) (w .11) (w .12) (leads (λ told. here-byte _ _ _ _ _ device byte _ load (w .0 .taken) _) (w .5 .ensures .0)))
-          (omega (arith, w .12, w .5 .ensures .1))
-          (ap length (w .10) ∙ w .5 .kept .1 .1 .1 .1 .1 .0)
-          (ap length (w .11) ∙ w .5 .kept .1 .1 .1 .1 .1 .1 .0))
+          (lands (w .8) (w .9) (w .10) (leads (λ told. here-byte _ _ _ _ _ device byte _ load (w .0 .taken) _) (w .3 .ensures .0)))
+          (omega (arith, w .10, w .3 .ensures .1))
+          (ap length (w .8) ∙ w .3 .kept .1 .1 .1 .1 .1 .0)
+          (ap length (w .9) ∙ w .3 .kept .1 .1 .1 .1 .1 .1 .0))
           (λ w. again u (omega arith) (lands (w .1) (w .2) (w .3) (silent (λ told. here-nothing _ _ _ _ _ device byte (w .0 .left) _))) (omega (arith, w .3)) (ap length (w .1)) (ap length (w .2)))
           (c .if1 .came),
       omega arith,
@@ -166,9 +170,9 @@ loop-less c = search needs
 loop-again : tie.Need-loop-again Inv-loop2 μ-loop2 Inv-loop μ-loop
 loop-again c =
     let l = c .before in
-    let o = l .before .before .before .before .before .before .before in
-    let s = o .before .before .before .before .before in
-    let most = held-few _ (s .pre .0) (o .loop .d) (omega arith) .1 in
+    let o = l .before .before .before .before .before .before in
+    let s = o .before .before .before .before in
+    let most = s .pre .0 .most (o .loop .d) (omega arith) in
     let ports = l .before .wide .ensures in
     skip (l .loop2 .inv .0 _ _ (o .loop .inv)) (omega arith) (omega arith)
     (λ j a b. arrives-unused _ (s .pre .0) _ (s .pre .1) (o .loop .d) j (omega arith) (omega arith) (omega arith))
@@ -194,15 +198,15 @@ arrive-all-spec =
     loop-holds
     element-copy-out-role
     load-of-requires
-    mul-row
-    array-copy-out-row
     mul-first
     element-copy-out-wide
     wide-requires
     add-past
     loop2-holds
     mul-heard
-    array-read-heard
+    mul-heard-2
+    index-1-heard
+    index-2-heard
     heard-requires
     cast-arrive-one
     arrive-one-requires

@@ -3,8 +3,6 @@ use native.Mathlib.Omega.{arith}
 use Rattle.bench.specs.State.{State}
 use Rattle.bench.specs.Round.{ticked, posted, sentBytes}
 use Rattle.bench.specs.Idle.{Rests}
-use Rattle.bench.proofs.Idles.{sound-rests, sound-unused}
-use Rattle.bench.proofs.Plans.{few}
 use Rattle.bench.proofs.Played.{played-by}
 use borrow.Author.Needs.{needs}
 use Rattle.bench.proofs.rounds.play.Statement.{statement}
@@ -22,22 +20,20 @@ put-words-requires c κs = search needs
 
 tick-all-requires : tie.Need-tick-all-requires
 tick-all-requires c κs =
-    let k = c .before .before .before .before .before .before in
+    let k = c .before .before .before .before in
     let s = k .before .before .before .before .before .before .before in
-    let n = few _ (s .pre .0) in
-    (search needs, n, λ d h. subst (λ (t : State). Rests t d) (sym (begun k)) (sound-rests (s .pre .1) d h (omega arith)))
+    (search needs, s .pre .0 .few, λ d h. subst (λ (t : State). Rests t d) (sym (begun k)) (s .pre .1 .resting d h))
 
 post-all-requires : tie.Need-post-all-requires
 post-all-requires c κs =
-    let s = c .before .before .before .before .before .before .before .before .before .before .before .before .before .before .before .before .before .before .before .before .before .before in
-    let n = few _ (s .pre .0) in
-    (n, λ d h. sound-unused (s .pre .0) (s .pre .1) d (omega arith), s .pre .1 .size, search needs, search needs)
+    let s = c .before .before .before .before .before .before .before .before .before .before .before .before .before .before .before .before .before .before in
+    (s .pre .0 .few, s .pre .1 .unused, s .pre .1 .size, search needs, search needs)
 
 arrive-all-requires : tie.Need-arrive-all-requires
 arrive-all-requires c κs =
-    let t = c .before .before .before .before .before .before .before .before .before .before .before .before .before .before .before .before in
-    let s = t .before .before .before .before .before .before .before .before .before .before .before .before .before .before in
-    (s .pre .0, search needs, search needs, omega (arith, few _ (s .pre .0), t .tick-all .ensures .1))
+    let t = c .before .before .before .before .before .before .before .before .before .before .before .before .before .before in
+    let s = t .before .before .before .before .before .before .before .before .before .before .before .before in
+    (s .pre .0, search needs, search needs, omega (arith, s .pre .0 .few, t .tick-all .ensures .1))
 
 same-length : tie.Need-same-length
 same-length c = search needs
@@ -51,9 +47,9 @@ same-length-3 c = search needs
 returns : tie.Need-returns
 unfolding ticked posted sentBytes
 returns c =
-    let t = c .before .before .before .before .before .before .before .before .before .before .before .before .before .before .before .before .before .before .before .before .before in
+    let t = c .before .before .before .before .before .before .before .before .before .before .before .before .before .before .before .before .before .before .before in
     let p = c .before .before .before .before .before .before .before .before .before .before .before .before .post-all .ensures in
-    played-by (begun (t .before .before .before .before .before .before .before)) (t .tick-all .ensures .0) (p .0) (p .1) (c .before .before .before .before .arrive-all .ensures)
+    played-by (begun (t .before .before .before .before .before)) (t .tick-all .ensures .0) (p .0) (p .1) (c .before .before .before .before .arrive-all .ensures)
 
 pub play-spec : {M : Type 1} → statement M
 play-spec =

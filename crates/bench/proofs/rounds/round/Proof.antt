@@ -1,6 +1,7 @@
 use native.Mathlib.Omega.{arith}
 use Rattle.plan.specs.Reading.{Held}
 use Rattle.bench.specs.Sound.{Sound}
+use Rattle.bench.proofs.Idles.{held-laid, sound-idles}
 use Rattle.bench.proofs.Playings.{decided, refuted, not-held, not-sound, next-long, sent-long, told-long, plays, count-fits, played-plan}
 use Rattle.bench.proofs.Settled.{held-parts, sound-parts}
 use borrow.Author.Needs.{needs}
@@ -58,12 +59,13 @@ peers-of-requires c κs = search needs
 
 play-requires : tie.Need-play-requires
 play-requires c κs =
-    let e = c .before .before .before .peers-of .ensures in
-    let b = c .before .before .before .before .before .before .before .before .before .before in
-    (held-parts _ e (held (b .before .before .before .before)), sound-parts e (sound (b .before .before)), b .before .if3 .left, b .if4 .left)
+    let e = c .before .before .before .before .before .before .before .before .before .before .before .peers-of .ensures in
+    let b = c .before .before .before .before .before .before .before .before .before .before .before .before .before .before .before .before .before .before in
+    let h = held-parts _ e (held (b .before .before .before .before)) in
+    (held-laid _ h, sound-idles _ h (sound-parts e (sound (b .before .before))), b .before .if3 .left, b .if4 .left)
 
-cast-t21 : tie.Need-cast-t21
-cast-t21 c = omega (arith, count-fits (held (c .before .before .before .before .before .before .before .before .before .before .before .before .before .before .before .before .before .before .before .before .before)) (played-plan (c .before .before .before .before .before .before .before .before .before .before .peers-of .ensures) (c .before .before .before .before .before .before .play .ensures)))
+cast-t30 : tie.Need-cast-t30
+cast-t30 c = omega (arith, count-fits (held (c .before .before .before .before .before .before .before .before .before .before .before .before .before .before .before .before .before .before .before .before .before .before .before .before .before .before .before .before .before)) (played-plan (c .before .before .before .before .before .before .before .before .before .before .before .before .before .before .before .before .before .before .peers-of .ensures) (c .before .before .before .before .before .before .play .ensures)))
 
 same-length : tie.Need-same-length
 same-length c = search needs
@@ -76,9 +78,9 @@ same-length-3 c = search needs
 
 returns-6 : tie.Need-returns-6
 returns-6 c =
-    let b = c .before .before .before .before .before .before .before .before .before .before .before .before .before .before .before .before in
+    let b = c .before .before .before .before .before .before .before .before .before .before .before .before .before .before .before .before .before .before .before .before .before .before .before .before in
     plays _ _ _ (held (b .before .before .before .before .before)) (sound (b .before .before .before)) (b .before .before .if3 .left) (b .before .if4 .left) (b .if5 .left)
-    (c .before .before .before .before .before .before .before .before .before .before .before .before .before .before .fill .ensures) (played-plan (c .before .before .before .before .before .before .before .before .before .before .peers-of .ensures) (c .before .before .before .before .before .before .play .ensures))
+    (c .before .before .before .before .before .before .before .before .before .before .before .before .before .before .before .before .before .before .before .before .before .before .fill .ensures) (played-plan (c .before .before .before .before .before .before .before .before .before .before .before .before .before .before .before .before .before .before .peers-of .ensures) (c .before .before .before .before .before .before .play .ensures))
 
 pub round-spec : {M : Type 1} → statement M
 round-spec =
@@ -99,7 +101,7 @@ round-spec =
     fill-requires
     peers-of-requires
     play-requires
-    cast-t21
+    cast-t30
     same-length
     same-length-2
     same-length-3
