@@ -14,6 +14,13 @@ pub(crate) fn wide(x: u8) -> usize
     x as usize
 }
 
+// The same for the sum, which fits 32 bits: several at a time are then added.
+fn narrow(x: u8) -> u32
+    ensures { λ r. ⌜ (r ≡ x) × (r < 256) ⌝ }
+{
+    x as u32
+}
+
 // The number of two bytes from i on, the low one first.
 pub(crate) fn two(block: &[u8], i: usize) -> usize
     requires { ⌜ i + 1 < length (now block) ⌝ }
@@ -37,11 +44,11 @@ pub(crate) fn check(block: &[u8]) -> usize
     requires { ⌜ 510 ≤ length (now block) ⌝ }
     ensures { λ r. ⌜ (r ≡ Block·check (now (block .entry))) × (r < 65521) ⌝ }
 {
-    let mut sum: usize = 0;
+    let mut sum: u32 = 0;
     for i in 0..510 {
-        sum += (i + 1) * wide(block[i]);
+        sum += (i as u32 + 1) * narrow(block[i]);
     }
-    sum % 65521
+    (sum % 65521) as usize
 }
 
 fn checked(block: &[u8]) -> bool

@@ -35,20 +35,23 @@ loop-holds : tie.Need-loop-holds Inv-loop μ-loop
 unfolding weighted
 loop-holds c = record { within = omega arith; small = omega arith; sum = refl }
 
+cast-sum : tie.Need-cast-sum Inv-loop μ-loop
+cast-sum c = search needs
+
 add-sum : tie.Need-add-sum Inv-loop μ-loop
 add-sum c = search needs
 
-shared-slice-read-wide : tie.Need-shared-slice-read-wide Inv-loop μ-loop
-shared-slice-read-wide c = search needs
+shared-slice-read-narrow : tie.Need-shared-slice-read-narrow Inv-loop μ-loop
+shared-slice-read-narrow c = search needs
 
-wide-requires : tie.Need-wide-requires Inv-loop μ-loop
-wide-requires c κs = search needs
+narrow-requires : tie.Need-narrow-requires Inv-loop μ-loop
+narrow-requires c κs = search needs
 
 mul-sum : tie.Need-mul-sum Inv-loop μ-loop
-mul-sum c = omega (arith, term-le (c .before .before .before .loop .i) (c .wide .result) (omega arith) (c .wide .ensures .1))
+mul-sum c = omega (arith, term-le (c .before .before .before .loop .i) (c .narrow .result) (omega arith) (c .narrow .ensures .1))
 
 add-sum-2 : tie.Need-add-sum-2 Inv-loop μ-loop
-add-sum-2 c = omega (arith, term-le (c .before .before .before .loop .i) (c .wide .result) (omega arith) (c .wide .ensures .1))
+add-sum-2 c = omega (arith, term-le (c .before .before .before .loop .i) (c .narrow .result) (omega arith) (c .narrow .ensures .1))
 
 add-i : tie.Need-add-i Inv-loop μ-loop
 add-i c = search needs
@@ -57,7 +60,10 @@ loop-less : tie.Need-loop-less Inv-loop μ-loop
 loop-less c = search needs
 
 loop-again : tie.Need-loop-again Inv-loop μ-loop
-loop-again c = more (c .before .before .before .loop .inv) (omega arith) (c .wide .ensures .0) (c .wide .ensures .1)
+loop-again c = more (c .before .before .before .loop .inv) (omega arith) (c .narrow .ensures .0) (c .narrow .ensures .1)
+
+cast-result : tie.Need-cast-result Inv-loop μ-loop
+cast-result c = search needs
 
 returns : tie.Need-returns Inv-loop μ-loop
 unfolding check
@@ -70,12 +76,14 @@ check-spec =
     Inv-loop
     μ-loop
     loop-holds
+    cast-sum
     add-sum
-    shared-slice-read-wide
-    wide-requires
+    shared-slice-read-narrow
+    narrow-requires
     mul-sum
     add-sum-2
     add-i
     loop-less
     loop-again
+    cast-result
     returns)
