@@ -120,10 +120,8 @@ fn post_one(q: usize, old: &[u32], next: &mut [u32]) -> u32
     next[at] = bits::leave(next[at], k);
     next[at + 1] = bits::leave(next[at + 1], k);
     next[at + 2] = (k + 1) % 32;
-    if bits::get(old[at], k) == 1 {
-        return 128 + k;
-    }
-    160 + k
+    // An interrupt's byte is 32 below: of two kinds as likely a branch would guess wrong half the time.
+    160 + k - 32 * bits::get(old[at], k)
 }
 
 // The number of a device's ports, widened. That it fits is known of a parameter, and not of an element

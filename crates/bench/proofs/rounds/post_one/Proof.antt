@@ -1,8 +1,11 @@
-use Prim.Native.Nat.{ℕ}
+use Prim.Native.Nat.{ℕ, _+_, _-_, _*_, _<_}
 use Rattle.bits.specs.declared.Found.{Found}
 use mathlib.Core.Path.{_≡_, sym, _∙_}
+use native.Mathlib.Decide.{ℕ-discrete}
 use native.Mathlib.Omega.{arith}
 use lib.ListN.{length-set}
+use Rattle.bits.specs.Set.{bit}
+use Rattle.bits.proofs.Sets.{bit-two}
 use Rattle.bits.specs.declared.Found.the-variants.{At, Nowhere}
 use Rattle.bench.specs.State.{State, word, put}
 use Rattle.bench.specs.Round.{chosen, sends, unqueued}
@@ -18,6 +21,18 @@ module _ (old : State) (q : ℕ) (r : Found) (e : r ≡ chosen old q) where
 
   none-left : (s : State) → r ≡ Nowhere → s ≡ unqueued old q s
   none-left s h = sym (post-same old q s (sym e ∙ h))
+
+small : (x k : ℕ) {b : ℕ} → b ≡ bit x k → b < 2
+small x k e = omega (arith, e, bit-two x k)
+
+-- an interrupt's byte is 32 below an acknowledge's
+byte-sent : (old : State) (q : ℕ) {k b : ℕ} → chosen old q ≡ At k → b ≡ bit (word old (1056 + 4 * q)) k → 160 + k - 32 * b ≡ sends old q
+byte-sent old q {k} e f =
+    let two = bit-two (word old (1056 + 4 * q)) k in
+    elim (ℕ-discrete (bit (word old (1056 + 4 * q)) k) 1) [
+      | yes h ↦ omega (arith, f, h) ∙ sym (post-interrupt old q e h)
+      | no n ↦ omega (arith, f, n, two) ∙ sym (post-acknowledge old q e n)
+    ]
 
 mul-at : tie.Need-mul-at
 mul-at c = search needs
@@ -88,6 +103,9 @@ mul-next-3 c = search needs
 slice-write-next-3 : tie.Need-slice-write-next-3
 slice-write-next-3 c = simp length-set (omega arith)
 
+add-result : tie.Need-add-result
+add-result c = omega (arith, chosen-place _ _ (found (c .before .before .before .before .before)))
+
 mul-get : tie.Need-mul-get
 mul-get c = search needs
 
@@ -97,8 +115,11 @@ shared-slice-read-get c = search needs
 get-requires : tie.Need-get-requires
 get-requires c κs = search needs
 
-add-result : tie.Need-add-result
-add-result c = omega (arith, chosen-place _ _ (found (c .before .before .before .before .before .before .before .before)))
+mul-result : tie.Need-mul-result
+mul-result c = omega (arith, small _ _ (c .get .ensures))
+
+sub-result : tie.Need-sub-result
+sub-result c = omega (arith, small _ _ (c .get .ensures))
 
 same-length : tie.Need-same-length
 same-length c = simp length-set
@@ -106,25 +127,10 @@ same-length c = simp length-set
 returns-2 : tie.Need-returns-2
 unfolding word put
 returns-2 c =
-    let a = c .before .before .before .before .before .before .before .before .before .before .before .before .before .args in
-    let k = found (c .before .before .before .before .before .before .before .before) in (
-      sym (post-interrupt (a .old .now) (a .q) k (sym (c .before .get .ensures) ∙ c .if1 .taken)),
-      sym (post-leaves (a .old .now) (a .q) k (a .next .now) (c .before .before .before .before .before .leave .result) (c .before .before .before .leave2 .result) (c .before .before .before .before .before .leave .ensures) (c .before .before .before .leave2 .ensures)),
-    )
-
-add-result-2 : tie.Need-add-result-2
-add-result-2 c = omega (arith, chosen-place _ _ (found (c .before .before .before .before .before .before .before .before)))
-
-same-length-2 : tie.Need-same-length-2
-same-length-2 c = simp length-set
-
-returns-3 : tie.Need-returns-3
-unfolding word put
-returns-3 c =
-    let a = c .before .before .before .before .before .before .before .before .before .before .before .before .before .args in
-    let k = found (c .before .before .before .before .before .before .before .before) in (
-      sym (post-acknowledge (a .old .now) (a .q) k (λ e. c .if1 .left (c .before .get .ensures ∙ e))),
-      sym (post-leaves (a .old .now) (a .q) k (a .next .now) (c .before .before .before .before .before .leave .result) (c .before .before .before .leave2 .result) (c .before .before .before .before .before .leave .ensures) (c .before .before .before .leave2 .ensures)),
+    let a = c .before .before .before .before .before .before .before .before .before .before .before .before .args in
+    let k = found (c .before .before .before .before .before .before .before) in (
+      byte-sent (a .old .now) (a .q) k (c .get .ensures),
+      sym (post-leaves (a .old .now) (a .q) k (a .next .now) (c .before .before .before .before .leave .result) (c .before .before .leave2 .result) (c .before .before .before .before .leave .ensures) (c .before .before .leave2 .ensures)),
     )
 
 pub post-one-spec : {M : Type 1} → statement M
@@ -153,12 +159,11 @@ post-one-spec =
     add-next-3
     mul-next-3
     slice-write-next-3
+    add-result
     mul-get
     shared-slice-read-get
     get-requires
-    add-result
+    mul-result
+    sub-result
     same-length
-    returns-2
-    add-result-2
-    same-length-2
-    returns-3)
+    returns-2)
