@@ -4,7 +4,6 @@
 set -eu
 cd "$(dirname "$0")/.."
 cmp examples/full.plan crates/damaged/stdin
-cmp examples/mesh.plan crates/racing/stdin
 cmp examples/three.plan crates/settle/stdin
 cmp examples/expected/three.txt crates/settle/stdout
 for plan in crates/scripts/data/*.plan; do cmp "$plan" "examples/$(basename "$plan")"; done

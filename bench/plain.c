@@ -1,0 +1,376 @@
+/* The bench once more, in plain C and for speed: what bench/run measures ours by. It makes the same checks, but takes the
+   lengths of areas, the device and the identifier for right. */
+#include "plain.h"
+
+typedef unsigned short u16;
+
+void *memcpy(void *, const void *, usize);
+void *memset(void *, int, usize);
+
+enum { INTERRUPT, ACKNOWLEDGE };
+enum { NONE = 256, PORTS = 1056, ALLOWANCE = 4096 };
+
+struct plan {
+    u32 devices, loads[2];
+    u8 role[32], ports[32];
+    u32 source[32], handler[32];
+    u8 permissions[256];
+    u16 peers[256];
+};
+
+static u32 two(const u8 *b) {
+    return b[0] | b[1] << 8;
+}
+
+static u32 four(const u8 *b) {
+    return two(b) | two(b + 2) << 16;
+}
+
+/* ---- the plan file */
+
+static u32 any_block(const u8 *b, int from, int good, int marked) {
+    u32 sum = 0;
+    for (u32 i = 0; i < 510; i++)
+        sum += (i + 1) * b[i];
+    if (sum % 65521 != two(b + 510))
+        return 21;
+    if (!marked)
+        return 22;
+    if (!good)
+        return 23;
+    for (int i = from; i < 510; i++)
+        if (b[i])
+            return 24;
+    return 0;
+}
+
+static int fits(const u8 *b, u32 n) {
+    u8 role = b[2], ports = b[3];
+    u32 source = four(b + 4), handler = four(b + 8);
+    if (role == 0 ? ports != 1 || (source & handler) : role != 1 || ports < 1 || ports > 8 || source || handler)
+        return 0;
+    for (int p = 0; p < 8; p++) {
+        const u8 *e = b + 12 + 4 * p;
+        int none = e[0] == 255 && e[1] == 255 && !e[2] && !e[3];
+        int some = e[0] < n && e[1] < 8 && e[2] <= 15 && !e[3];
+        if (!(none || (p < ports && some)))
+            return 0;
+    }
+    return 1;
+}
+
+static void load_device(const u8 *b, u32 d, struct plan *plan) {
+    plan->role[d] = b[2];
+    plan->ports[d] = b[3];
+    plan->source[d] = four(b + 4);
+    plan->handler[d] = four(b + 8);
+    for (u32 p = 0; p < 8; p++) {
+        const u8 *e = b + 12 + 4 * p;
+        plan->permissions[8 * d + p] = e[2];
+        plan->peers[8 * d + p] = e[0] == 255 ? NONE : 8 * e[0] + e[1];
+    }
+}
+
+static u32 read_plan(const u8 *file, usize length, struct plan *plan, u32 *block) {
+    *block = 0;
+    if (length < 512 || length > 16896 || length % 512)
+        return 20;
+    u32 n = file[1], router = two(file + 2), node = two(file + 4);
+    u32 bad = any_block(file, 6, n >= 1 && n <= 32 && router >= 1 && router <= node, file[0] == 1);
+    if (bad)
+        return bad;
+    if (length != 512 * (1 + n))
+        return 25;
+    *plan = (struct plan){.devices = n, .loads = {node, router}};
+    for (u32 d = 0; d < n; d++) {
+        const u8 *b = file + 512 * (1 + d);
+        *block = 1 + d;
+        if ((bad = any_block(b, 44, fits(b, n), b[0] == 2 && b[1] == d)))
+            return bad;
+        load_device(b, d, plan);
+    }
+    for (u32 q = 0; q < 8 * n; q++) {
+        u32 peer = plan->peers[q];
+        *block = 1 + q / 8;
+        if (peer != NONE && (peer % 8 >= plan->ports[peer / 8] || plan->peers[peer] != q || peer == q))
+            return 26;
+    }
+    *block = 0;
+    return 0;
+}
+
+/* ---- the state */
+
+static int timers_sound(const u32 *s, u32 n) {
+    for (u32 d = 0; d < n; d++)
+        for (u32 k = 0; k < 32; k++) {
+            u32 t = s[33 * d + 1 + k];
+            if (s[33 * d] >> k & 1 ? t < 1 || t > 65535 : t)
+                return 0;
+        }
+    return 1;
+}
+
+static int port_sound(const struct plan *plan, const u32 *s, u32 q) {
+    const u32 *w = s + PORTS + 4 * q;
+    if (q % 8 >= plan->ports[q / 8])
+        return !(w[0] | w[1] | w[2] | w[3]);
+    u32 peer = plan->peers[q], may = plan->permissions[q];
+    if (w[2] > 31 || w[3] > 1 || w[3] != (peer == NONE ? 0 : s[PORTS + 4 * peer + 3]) || (w[0] & w[1]))
+        return 0;
+    return !((w[0] && !(w[3] && (may & 1))) || (w[1] && !(w[3] && (may & 4))));
+}
+
+static int sound(const struct plan *plan, const u32 *s) {
+    if (!timers_sound(s, plan->devices))
+        return 0;
+    for (u32 i = 33 * plan->devices; i < PORTS; i++)
+        if (s[i])
+            return 0;
+    for (u32 q = 0; q < 256; q++)
+        if (!port_sound(plan, s, q))
+            return 0;
+    return 1;
+}
+
+static void start(const struct plan *plan, u32 *s) {
+    memset(s, 0, BENCH_STATE * sizeof *s);
+    for (u32 q = 0; q < 8 * plan->devices; q++)
+        s[PORTS + 4 * q + 3] = plan->peers[q] != NONE;
+}
+
+/* ---- calls and rounds */
+
+static void queue(const struct plan *plan, u32 *s, u32 q, u32 kind, u32 k) {
+    u32 *w = s + PORTS + 4 * q;
+    if (w[3] && (plan->permissions[q] >> 2 * kind & 1)) {
+        w[kind] |= 1u << k;
+        w[1 - kind] &= ~(1u << k);
+    }
+}
+
+/* The request of a source whose bit is clear. A node has one port. */
+static u32 request(const struct plan *plan, u32 *s, u32 d, u32 k) {
+    if (!s[PORTS + 4 * 8 * d + 3])
+        return 7;
+    if (!(plan->permissions[8 * d] & 1))
+        return 8;
+    s[33 * d] |= 1u << k;
+    s[33 * d + 1 + k] = plan->loads[plan->role[d]];
+    queue(plan, s, 8 * d, INTERRUPT, k);
+    return 0;
+}
+
+static u32 tick(const struct plan *plan, u32 *next, u32 *told) {
+    u32 count = 0;
+    for (u32 d = 0; d < plan->devices; d++) {
+        u32 *w = next + 33 * d;
+        for (u32 rest = w[0]; rest; rest &= rest - 1) {
+            u32 k = __builtin_ctz(rest);
+            if (--w[1 + k])
+                continue;
+            w[0] &= ~(1u << k);
+            if (told && !plan->role[d])
+                told[count++] = 3 << 16 | d << 8 | k;
+        }
+    }
+    return count;
+}
+
+static void post(const struct plan *plan, const u32 *old, u32 *next, u32 *sent) {
+    for (u32 q = 0; q < 256; q++)
+        sent[q] = NONE;
+    for (u32 d = 0; d < plan->devices; d++)
+        for (u32 q = 8 * d; q < 8 * d + plan->ports[d]; q++) {
+            const u32 *w = old + PORTS + 4 * q;
+            u32 *v = next + PORTS + 4 * q, all = w[0] | w[1];
+            if (!all)
+                continue;
+            u32 above = all >> w[2] << w[2];
+            u32 k = __builtin_ctz(above ? above : all);
+            sent[q] = (w[0] >> k & 1 ? 128 : 160) + k;
+            v[0] &= ~(1u << k);
+            v[1] &= ~(1u << k);
+            v[2] = (k + 1) % 32;
+        }
+}
+
+static u32 arrive(const struct plan *plan, const u32 *sent, u32 *next, u32 *told, u32 count) {
+    for (u32 d = 0; d < plan->devices; d++)
+        for (u32 q = 8 * d; q < 8 * d + plan->ports[d]; q++) {
+            u32 peer = plan->peers[q];
+            if (peer == NONE || sent[peer] == NONE)
+                continue;
+            u32 kind = sent[peer] >= 160, k = sent[peer] % 32, *w = next + 33 * d;
+            if (!next[PORTS + 4 * q + 3] || !(plan->permissions[q] >> (2 * kind + 1) & 1) || (w[0] >> k & 1) != kind)
+                continue;
+            w[0] ^= 1u << k;
+            w[1 + k] = kind == ACKNOWLEDGE ? 0 : plan->loads[plan->role[d]];
+            if (plan->role[d]) {
+                for (u32 other = 8 * d; other < 8 * d + plan->ports[d]; other++)
+                    if (other != q)
+                        queue(plan, next, other, kind, k);
+            } else if (told)
+                told[count++] = (1 + kind) << 16 | d << 8 | k;
+        }
+    return count;
+}
+
+/* A round; told is null where nobody reads it. */
+static inline u32 play(const struct plan *plan, const u32 *old, u32 *next, u32 *sent, u32 *told) {
+    memcpy(next, old, BENCH_STATE * sizeof *next);
+    u32 count = tick(plan, next, told);
+    post(plan, old, next, sent);
+    return arrive(plan, sent, next, told, count);
+}
+
+static int waits(const struct plan *plan, const u32 *s) {
+    for (u32 q = 0; q < 8 * plan->devices; q++)
+        if (s[PORTS + 4 * q] | s[PORTS + 4 * q + 1])
+            return 1;
+    return 0;
+}
+
+/* Rounds until no port waits. The two areas take turns, and *home tells which has the state. */
+static u32 settle(const struct plan *plan, u32 *areas[2], u32 allowance, u32 *rounds, int *home) {
+    u32 sent[BENCH_SENT];
+    *home = 0;
+    for (*rounds = 0; waits(plan, areas[*home]); ++*rounds) {
+        if (*rounds == allowance)
+            return 12;
+        play(plan, areas[*home], areas[!*home], sent, 0);
+        *home = !*home;
+    }
+    return 0;
+}
+
+/* ---- reach */
+
+static u32 visit(const struct plan *plan, const u32 *s, u32 d, u32 set) {
+    for (u32 q = 8 * d; q < 8 * d + plan->ports[d]; q++) {
+        u32 peer = plan->peers[q];
+        if (!s[PORTS + 4 * q + 3] || !(plan->permissions[q] & 1) || !(plan->permissions[peer] & 2))
+            continue;
+        u32 ahead = peer / 8;
+        if (set >> ahead & 1)
+            continue;
+        set |= 1u << ahead;
+        if (plan->role[ahead])
+            set = visit(plan, s, ahead, set);
+    }
+    return set;
+}
+
+/* ---- the report */
+
+static u8 *put_number(u8 *at, u32 n, u8 behind) {
+    u8 digits[10], *d = digits;
+    do
+        *d++ = '0' + n % 10;
+    while (n /= 10);
+    while (d > digits)
+        *at++ = *--d;
+    *at++ = behind;
+    return at;
+}
+
+static u8 *put_line(const struct plan *plan, u32 *areas[2], u32 d, u32 k, u8 *at) {
+    u32 rounds, held = 0;
+    int home;
+    at = put_number(put_number(at, d, ' '), k, ' ');
+    start(plan, areas[0]);
+    u32 refused = request(plan, areas[0], d, k);
+    if (refused) {
+        *at++ = 'r';
+        return put_number(put_number(at, refused, ' '), 0, '\n');
+    }
+    if (settle(plan, areas, ALLOWANCE, &rounds, &home)) {
+        *at++ = '-';
+        *at++ = ' ';
+    } else
+        at = put_number(at, rounds, ' ');
+    for (u32 e = 0; e < plan->devices; e++)
+        held += areas[home][33 * e] >> k & 1;
+    return put_number(at, held, '\n');
+}
+
+static u8 *put_text(const u8 *file, usize length, u32 *areas[2], u8 *at) {
+    struct plan plan;
+    u32 block, bad = read_plan(file, length, &plan, &block);
+    if (bad) {
+        memcpy(at, "bad ", 4);
+        return put_number(put_number(at + 4, bad, ' '), block, '\n');
+    }
+    memcpy(at, "network ", 8);
+    at = put_number(at + 8, plan.devices, '\n');
+    for (u32 d = 0; d < plan.devices; d++)
+        for (u32 k = 0; k < 32; k++)
+            if (plan.source[d] >> k & 1)
+                at = put_line(&plan, areas, d, k, at);
+    return at;
+}
+
+/* ---- the calls */
+
+/* What every call asks: a plan that is accepted, and a sound state. */
+static u32 refusal(const u8 *file, usize length, const u32 *state, struct plan *plan) {
+    u32 block;
+    return read_plan(file, length, plan, &block) ? 1 : sound(plan, state) ? 0 : 2;
+}
+
+u32 plain_plan_read(const u8 *file, usize length, u32 *block) {
+    struct plan plan;
+    return read_plan(file, length, &plan, block);
+}
+
+u32 plain_round(const u8 *file, usize length, const u32 *old, usize old_length, u32 *next, usize next_length, u32 *sent,
+                usize sent_length, u32 *told, usize told_length, u32 *count) {
+    struct plan plan;
+    u32 number = refusal(file, length, old, &plan);
+    (void)old_length, (void)next_length, (void)sent_length;
+    *count = 0;
+    if (number)
+        return number;
+    memset(told, 0, told_length * sizeof *told);
+    *count = play(&plan, old, next, sent, told);
+    return 0;
+}
+
+u32 plain_settle(const u8 *file, usize length, u32 *state, usize state_length, u32 *second, usize second_length, u32 allowance,
+                 u32 *rounds) {
+    struct plan plan;
+    u32 number = refusal(file, length, state, &plan), *areas[2] = {state, second};
+    int home;
+    *rounds = 0;
+    if (number)
+        return number;
+    number = settle(&plan, areas, allowance, rounds, &home);
+    if (home)
+        memcpy(state, second, state_length * sizeof *state);
+    memset(second, 0, second_length * sizeof *second);
+    return number;
+}
+
+u32 plain_reach(const u8 *file, usize length, const u32 *state, usize state_length, usize device, u32 k, u32 *devices,
+                u32 *set) {
+    struct plan plan;
+    u32 number = refusal(file, length, state, &plan);
+    (void)state_length;
+    *devices = *set = 0;
+    if (number)
+        return number;
+    if (!(plan.source[device] >> k & 1))
+        return 6;
+    *set = visit(&plan, state, device, 1u << device);
+    *devices = __builtin_popcount(*set);
+    return 0;
+}
+
+u32 plain_report(const u8 *file, usize length, u32 *state, usize state_length, u32 *second, usize second_length, u8 *text,
+                 usize text_length, u32 *text_used) {
+    (void)text_length;
+    *text_used = put_text(file, length, (u32 *[]){state, second}, text) - text;
+    memset(state, 0, state_length * sizeof *state);
+    memset(second, 0, second_length * sizeof *second);
+    return 0;
+}

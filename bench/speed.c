@@ -1,0 +1,212 @@
+/* What a call costs, as C makes it: in ours, in plain C, and in the judge's C (conformance/), all in one process. A line of
+   the table has the call, the devices, how many identifiers wait at each port, the microseconds of each, and what ours
+   takes for each of theirs. All three have to come to the same. */
+#include "plain.h"
+
+struct timespec {
+    long s, ns;
+};
+int open(const char *, int);
+int close(int);
+long read(int, void *, usize);
+int printf(const char *, ...);
+int clock_gettime(int, struct timespec *);
+int memcmp(const void *, const void *, usize);
+void *memcpy(void *, const void *, usize);
+void *memset(void *, int, usize);
+void exit(int);
+
+/* The calls that are measured, of one bench. */
+struct bench {
+    __typeof__(plain_plan_read) *plan_read;
+    __typeof__(plain_round) *round;
+    __typeof__(plain_settle) *settle;
+    __typeof__(plain_reach) *reach;
+    __typeof__(plain_report) *report;
+};
+__typeof__(plain_plan_read) judge_plan_read;
+__typeof__(plain_round) judge_round;
+__typeof__(plain_settle) judge_settle;
+__typeof__(plain_reach) judge_reach;
+__typeof__(plain_report) judge_report;
+
+enum { OURS, PLAIN, JUDGE, ALL };
+static const struct bench benches[ALL] = {
+    {bench_plan_read, bench_round, bench_settle, bench_reach, bench_report},
+    {plain_plan_read, plain_round, plain_settle, plain_reach, plain_report},
+    {judge_plan_read, judge_round, judge_settle, judge_reach, judge_report},
+};
+
+/* What a call is given: a plan, and the state before it. */
+static u8 file[16896 + 1];
+static usize length;
+static u32 before[BENCH_STATE];
+
+/* What it gives. */
+static struct given {
+    u32 number, value, set;
+    u32 state[BENCH_STATE], second[BENCH_STATE], sent[BENCH_SENT], told[BENCH_TOLD];
+    u8 text[BENCH_TEXT];
+} given[ALL];
+
+/* ---- the calls */
+
+typedef void call(const struct bench *, struct given *);
+
+static void plan_read(const struct bench *b, struct given *g) {
+    g->number = b->plan_read(file, length, &g->value);
+}
+
+static void round(const struct bench *b, struct given *g) {
+    g->number = b->round(file, length, before, BENCH_STATE, g->state, BENCH_STATE, g->sent, BENCH_SENT, g->told, BENCH_TOLD,
+                         &g->value);
+}
+
+static void settle(const struct bench *b, struct given *g) {
+    memcpy(g->state, before, sizeof before);
+    g->number = b->settle(file, length, g->state, BENCH_STATE, g->second, BENCH_STATE, 4096, &g->value);
+}
+
+static void reach(const struct bench *b, struct given *g) {
+    g->number = b->reach(file, length, before, BENCH_STATE, 0, 5, &g->value, &g->set);
+}
+
+static void report(const struct bench *b, struct given *g) {
+    g->number = b->report(file, length, g->state, BENCH_STATE, g->second, BENCH_STATE, g->text, BENCH_TEXT, &g->value);
+}
+
+/* ---- the measure */
+
+static double now(void) {
+    struct timespec t;
+    clock_gettime(1, &t);
+    return t.s * 1e9 + t.ns;
+}
+
+static double timed(call *work, int which, int turns) {
+    double begun = now();
+    for (int i = 0; i < turns; i++)
+        work(&benches[which], &given[which]);
+    return (now() - begun) / turns;
+}
+
+/* The best of several, in turn, so that all meet the same machine. */
+static void race(const char *what, const char *waiting, call *work) {
+    double best[ALL], t;
+    memset(given, 0, sizeof given);
+    for (int which = 0; which < ALL; which++)
+        best[which] = timed(work, which, 1);
+    int turns = 1 + 1e6 / best[PLAIN];
+    for (int run = 0; run < 15; run++)
+        for (int which = 0; which < ALL; which++)
+            best[which] = (t = timed(work, which, turns)) < best[which] ? t : best[which];
+    for (int which = 1; which < ALL; which++)
+        if (memcmp(&given[OURS], &given[which], sizeof given[OURS])) {
+            printf("%s comes to something else in C\n", what);
+            exit(1);
+        }
+    printf("| %s | %u | %s | %.1f | %.1f | %.1f | %.2f | %.2f |\n", what, file[1], waiting, best[OURS] / 1000, best[PLAIN] / 1000,
+           best[JUDGE] / 1000, best[OURS] / best[PLAIN], best[OURS] / best[JUDGE]);
+}
+
+/* ---- networks of any size */
+
+static void seal(u8 *block) {
+    u32 sum = 0;
+    for (u32 i = 0; i < 510; i++)
+        sum += (i + 1) * block[i];
+    block[510] = sum % 65521 & 255;
+    block[511] = sum % 65521 >> 8;
+}
+
+static u8 *entry(u32 d, u32 p) {
+    return file + 512 * (1 + d) + 12 + 4 * p;
+}
+
+static void join(u32 d, u32 p, u32 e, u32 q) {
+    memcpy(entry(d, p), (u8[]){e, q, 15, 0}, 4);
+    memcpy(entry(e, q), (u8[]){d, p, 15, 0}, 4);
+}
+
+/* A node, the source of all identifiers, and n - 1 routers, each joined to the four next ones and the four before it. */
+static void mesh(u32 n) {
+    length = 512 * (1 + n);
+    memset(file, 0, length);
+    memcpy(file, (u8[]){1, n, 0x60, 0xea, 0x60, 0xea}, 6);
+    for (u32 d = 0; d < n; d++) {
+        u8 *block = file + 512 * (1 + d);
+        memcpy(block, (u8[]){2, d, d > 0, d ? 8 : 1}, 4);
+        memset(block + 4, d ? 0 : 255, 4);
+        for (u32 p = 0; p < 8; p++)
+            memcpy(entry(d, p), (u8[]){255, 255, 0, 0}, 4);
+    }
+    for (u32 i = 0; i < n - 1; i++)
+        for (u32 j = 0; j < 4; j++)
+            if (i + j)
+                join(1 + i, 2 * j, 1 + (i + j + 1) % (n - 1), 2 * j + 1);
+    join(0, 0, 1, 0);
+    for (u32 b = 0; b < 1 + n; b++)
+        seal(file + 512 * b);
+}
+
+static u32 random(u32 x) {
+    return x * 2654435761u * 1664525u + 1013904223u;
+}
+
+/* The four words of port q in the state before a call. */
+static u32 *port(u32 q) {
+    return before + 1056 + 4 * q;
+}
+
+/* A state in which, of the identifiers in a set, every device holds some and every connected port waits with all, as
+   interrupts or acknowledges. */
+static void busy(u32 set) {
+    bench_start(file, length, before, BENCH_STATE);
+    for (u32 d = 0; d < file[1]; d++) {
+        before[33 * d] = random(d) & set;
+        for (u32 k = 0; k < 32; k++)
+            before[33 * d + 1 + k] = before[33 * d] >> k & 1 ? 60000 : 0;
+    }
+    for (u32 q = 0; q < 8u * file[1]; q++) {
+        u32 *w = port(q), some = random(1000 + q);
+        if (w[3])
+            memcpy(w, (u32[]){set & some, set & ~some, some >> 27}, 12);
+    }
+}
+
+/* How the cost grows with devices, and with the identifiers that every port has waiting. */
+static void growth(u32 n) {
+    static const u32 sets[] = {0, 1, 0xff, 0xffffffff};
+    static const char *const names[] = {"0", "1", "8", "32"};
+    mesh(n);
+    race("read a plan", "", plan_read);
+    busy(0);
+    race("reach", "", reach);
+    for (u32 i = 0; i < 4; i++) {
+        busy(sets[i]);
+        race("a round", names[i], round);
+    }
+    for (u32 i = 1; i < 4; i += 2) {
+        busy(sets[i]);
+        race("settle", names[i], settle);
+    }
+}
+
+static void report_of(const char *name) {
+    int from = open(name, 0);
+    long got;
+    length = 0;
+    while ((got = read(from, file + length, sizeof file - length)) > 0)
+        length += got;
+    close(from);
+    race(name, "", report);
+}
+
+int main(int count, char **plans) {
+    printf("| call | devices | waiting | ours, us | C, us | judge, us | to C | to the judge |\n|---|---|---|---|---|---|---|---|\n");
+    for (u32 n = 2; n <= 32; n *= 4)
+        growth(n);
+    for (int i = 1; i < count; i++)
+        report_of(plans[i]);
+    return 0;
+}
