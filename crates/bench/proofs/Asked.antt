@@ -1,16 +1,18 @@
 -- What a call knows once its tests are passed, and what it answers where one of the first is not.
-use mathlib.Core.Path.{_≡_, refl}
+use mathlib.Core.Path.{_≡_, refl, subst}
+use mathlib.Core.List.{List}
 use mathlib.Core.Logic.{inl, inr}
 use Prim.Native.Nat.{ℕ, _+_, _*_, _<_}
 use native.Mathlib.Omega.{arith}
 use lib.ListN.{length, getD, drop}
-use Rattle.answers.specs.Ordered.{Ordered}
+use Rattle.answers.specs.Ordered.{Condition, Ordered}
 use Rattle.answers.proofs.Outcomes.{Holds, holds, Past, passed, stopped}
 use Rattle.plan.specs.declared.Plan.{Plan}
 use Rattle.plan.proofs.Round.{held-devices, held-few}
 use Rattle.bench.specs.State.{State}
 use Rattle.bench.specs.Network.{role, peer}
-use Rattle.bench.specs.Calls.{callAsks, linkAsks, resetAsks}
+use Rattle.bench.specs.Calls.{owns, callAsks, linkAsks, resetAsks}
+use Rattle.bench.specs.Steps.{ownAsks, sendAsks}
 
 module _ (plan : Plan) (d : ℕ) (s : State) where
   -- what every call asks
@@ -27,6 +29,23 @@ module _ (plan : Plan) (d : ℕ) (s : State) where
 
     pub call-passed : Holds (resetAsks plan d s) → Past (callAsks plan kind d k s) 3
     call-passed h n o = passed (resetAsks plan d s) (drop 3 (callAsks plan kind d k s)) n h o
+
+    -- by the mask that its kind goes by, and then by the state of its device
+    module _ (h : Holds (resetAsks plan d s)) {mask n : ℕ} (e : mask ≡ owns plan kind d) (o : Ordered (ownAsks mask k) n) where
+      abbrev own : List Condition
+      own = ownAsks (owns plan kind d) k
+
+      abbrev send : List Condition
+      send = sendAsks (plan .core .permissions) kind d k s
+
+      by-mask : Ordered own n
+      by-mask = subst (λ m. Ordered (ownAsks m k) n) e o
+
+      pub call-foreign : (n ≡ 0 → ⊥) → Ordered (callAsks plan kind d k s) n
+      call-foreign z = call-passed h n (stopped own send by-mask z)
+
+      pub call-answered : n ≡ 0 → {m : ℕ} → Ordered send m → Ordered (callAsks plan kind d k s) m
+      call-answered z {m} a = call-passed h m (passed own send m (holds own refl by-mask z) a)
 
     pub call-ready : {n : ℕ} → Ordered (callAsks plan kind d k s) n → n ≡ 0 → (length s ≡ 2080) × (d < 32) × (k < 32) × (role plan d < 2)
     call-ready o z = known (holds (callAsks plan kind d k s) refl o z)

@@ -17,6 +17,7 @@ pub mod Steps
 pub mod Tellings
 pub mod Timers
 pub mod Tolds
+pub mod Tried
 pub mod Unique
 pub mod Waits
 pub mod Walks

@@ -1,6 +1,7 @@
 -- The start state is sound.
 use mathlib.Core.Path.{_≡_, refl, sym, ap, _∙_}
 use mathlib.Core.Bool.{Bool, true, false, cond, not, _&&_}
+use mathlib.Core.List.{List}
 use mathlib.Core.Logic.{dite}
 use Prim.Native.Nat.{ℕ, _+_, _-_, _*_, _/_, _%_, _^_, _<_}
 use native.Mathlib.Decide.{decLt, ℕ-discrete}
@@ -8,18 +9,25 @@ use native.Mathlib.Omega.{arith}
 use lib.Dec.{eqb, leb}
 use lib.ListN.{length}
 use borrow.Author.Tests.{eq-eqb, ne-eqb, le-leb, lt-leb}
+use Rattle.areas.specs.Table.{table}
 use Rattle.areas.proofs.Tables.{length-table, getD-table}
 use Rattle.bits.specs.Set.{bit}
 use Rattle.bits.proofs.Sets.{bit-zero}
 use Rattle.plan.specs.Fields.{nobody}
 use Rattle.plan.specs.Reading.{Held}
 use Rattle.plan.specs.declared.Plan.{Plan}
-use Rattle.bench.specs.State.{word, portAt, timerAt, registerAt, running}
+use Rattle.bench.specs.State.{State, word, portAt, timerAt, registerAt, running}
 use Rattle.bench.specs.Network.{peer}
 use Rattle.bench.specs.Sound.{Sound}
 use Rattle.bench.specs.Calls.{started}
+use Rattle.bench.specs.Steps.{firstWord}
 use Rattle.bench.proofs.Words.{word-past}
 use Rattle.bench.proofs.Plans.{few, absent-loose, far-end}
+
+-- what is written is the start state
+pub is-started : (plan : Plan) {peers : List (List ℕ)} {after : State} → peers ≡ plan .peers → after ≡ table 2080 (firstWord peers) → after ≡ started plan
+unfolding started firstWord
+is-started plan p e = e ∙ ap (λ (ps : List (List ℕ)). table 2080 (firstWord ps)) p
 
 module _ (plan : Plan) where
   -- what stands at place i

@@ -1,10 +1,12 @@
 -- Each public function's promise allows one answer and one exit of the areas.
-use mathlib.Core.Path.{_≡_, sym, ap, _∙_}
+use mathlib.Core.Path.{_≡_, refl, sym, ap, _∙_}
 use mathlib.Core.Bool.{Bool}
 use mathlib.Core.List.{List}
-use Prim.Native.Nat.{ℕ, _+_, _*_, _<_}
+use Prim.Native.Nat.{ℕ, _+_, _*_, _/_, _%_, _<_}
 use native.Mathlib.Decide.{ℕ-discrete}
 use native.Mathlib.Omega.{arith}
+use lib.ListN.{getD}
+use lib.Seq.{ext-getD}
 use Rattle.answers.specs.Decides.{Decides}
 use Rattle.answers.specs.Ordered.{Condition, Outcome}
 use Rattle.answers.proofs.Unique.{decides-once, ordered-once, outcome-once}
@@ -14,6 +16,7 @@ use Rattle.bench.specs.Sound.{Sound}
 use Rattle.bench.specs.Calls.{started, startAsks, called, callAsks, unlinked, linked, linkAsks, reset, resetAsks}
 use Rattle.bench.specs.Playing.{Areas, roundAsks, Plays}
 use Rattle.bench.specs.Settling.{Least, Pair, settleAsks, after, Settles}
+use Rattle.bench.specs.Trials.{requested, Answered, heldAfter, Tries, refused, settled, waiting, Finds, Lent, trialsAsks, TriesAll}
 
 -- one number, and one state after the call
 abbrev pub Once : List Condition → State → State → Type 0
@@ -79,3 +82,55 @@ settle-unique plan before allowance m n v w a b p q = let r = by-number (ℕ-dis
         let x = p .kept z t in
         let y = q .kept (λ u. z (e ∙ u)) (λ u. t (e ∙ u)) in
         (x .0 ∙ sym (y .0), x .1 ∙ sym (y .1))
+
+-- ---- the trials
+
+module _ (plan : Plan) (d k : ℕ) where
+  same-number : {m n : ℕ} → Answered plan d k m → Answered plan d k n → m ≡ n
+  same-number {m} {n} o p = ordered-once (callAsks plan 0 d k (started plan)) m n o p
+
+  pub tries-once : {m n v w a b : ℕ} → Tries plan d k m v a → Tries plan d k n w b → (m ≡ n) × (v ≡ w) × (a ≡ b)
+  tries-once (refused o z) (refused p y) = (same-number o p, refl, refl)
+  tries-once (refused o z) (settled p l y) = absurd (z (same-number o p))
+  tries-once (refused o z) (waiting p y) = absurd (z (same-number o p))
+  tries-once (settled o l z) (refused p y) = absurd (y (same-number p o))
+  tries-once (settled o l z) (settled p m y) = let e = least-once plan (requested plan d k) _ _ z y in (refl, e, ap (heldAfter plan d k) e)
+  tries-once (settled {n} o l z) (waiting p y) = absurd (y n l (z .quiet))
+  tries-once (waiting o z) (refused p y) = absurd (y (same-number p o))
+  tries-once (waiting o z) (settled {n} p m y) = absurd (z n m (y .quiet))
+  tries-once (waiting o z) (waiting p y) = (refl, refl, refl)
+
+pub finds-once : (plan : Plan) (a b : List ℕ) → Finds plan a → Finds plan b → a ≡ b
+finds-once plan a b p q = ext-getD 0 a b (p .size ∙ sym (q .size)) (λ j l. word j (omega (arith, l, p .size)))
+  where
+    -- the words of place i
+    place : (i : ℕ) → i < 1024 → (getD a (3 * i) 0 ≡ getD b (3 * i) 0) × (getD a (3 * i + 1) 0 ≡ getD b (3 * i + 1) 0) × (getD a (3 * i + 2) 0 ≡ getD b (3 * i + 2) 0)
+    place i h = tries-once plan (i / 32) (i % 32) (p .each i h) (q .each i h)
+
+    word : (j : ℕ) → j < 3072 → getD a j 0 ≡ getD b j 0
+    word j l =
+        let x = place (j / 3) (omega arith) in
+        let first : j % 3 ≡ 0 → 3 * (j / 3) ≡ j = λ e. omega arith in
+        let second : j % 3 ≡ 1 → 3 * (j / 3) + 1 ≡ j = λ e. omega arith in
+        elim (ℕ-discrete (j % 3) 0) [
+          | yes e ↦ rw (first e) at (x .0)
+          | no n ↦
+              elim (ℕ-discrete (j % 3) 1) [
+                | yes e ↦ rw (second e) at (x .1)
+                | no m ↦ let third : 3 * (j / 3) + 2 ≡ j = omega arith in rw third at (x .2)
+              ]
+        ]
+
+pub trials-unique : (plan : Plan) (before : Lent) (m n : ℕ) (a b : Lent) → TriesAll plan before m a → TriesAll plan before n b → (m ≡ n) × (a ≡ b)
+trials-unique plan before m n a b p q =
+    let e = ordered-once (trialsAsks plan before) m n (p .answers) (q .answers) in
+    elim (ℕ-discrete m 0) [
+      | yes z ↦
+          let x = p .made z in
+          let y = q .made (sym e ∙ z) in
+          let f = finds-once plan (a .found) (b .found) (x .0) (y .0) in
+          let s = x .1 ∙ sym (y .1) in
+          let t = x .2 ∙ sym (y .2) in
+          (e, λ i. record { state = s i; second = t i; found = f i })
+      | no z ↦ (e, p .kept z ∙ sym (q .kept (λ u. z (e ∙ u))))
+    ]

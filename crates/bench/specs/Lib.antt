@@ -6,6 +6,7 @@ pub mod Calls
 pub mod Round
 pub mod Playing
 pub mod Settling
+pub mod Trials
 pub mod Steps
 pub mod Telling
 pub mod Idle

@@ -1,16 +1,20 @@
 -- No rules: what private functions compute on the way. Nothing here has to be believed; `Sounds` proves what it comes to.
-use mathlib.Core.Bool.{Bool, cond, not, _&&_, _||_}
-use mathlib.Core.List.{List, []}
-use Prim.Native.Nat.{ℕ, _-_, _*_, _/_, _%_, min}
+use mathlib.Core.Path.{_≡_}
+use mathlib.Core.Bool.{Bool, true, cond, not, _&&_, _||_}
+use mathlib.Core.List.{List, [], _∷_}
+use Prim.Native.Nat.{ℕ, _+_, _-_, _*_, _/_, _%_, _<_, min}
 use lib.Bits.{bitAnd}
 use lib.Dec.{eqb, ltb, leb}
 use lib.ListN.{length, getD}
+use Rattle.answers.specs.Ordered.{Condition, ask}
 use Rattle.areas.specs.Table.{every}
 use Rattle.bits.specs.Set.{bit}
 use Rattle.device.specs.Permissions.{maySend}
 use Rattle.plan.specs.Fields.{nobody}
 use Rattle.plan.specs.declared.Plan.{Plan}
 use Rattle.bench.specs.State.{State, word, portAt, register, timer, waiting, next, running}
+use Rattle.bench.specs.Queue.{sendsAt}
+use Rattle.bench.specs.Trials.{Lent}
 
 -- what stands in the peers at a port
 abbrev pub peerIn : List (List ℕ) → ℕ → ℕ
@@ -74,3 +78,22 @@ sounds plan s =
 -- word i: 1 for the flag of a connected port
 unfoldable pub firstWord : List (List ℕ) → ℕ → ℕ
 firstWord peers i = cond (leb 1056 i && eqb (i % 4) 3 && not (eqb (peerIn peers ((i - 1056) / 4)) nobody)) 1 0
+
+-- ---- what a request or an acknowledge asks besides the plan, the state and the device
+
+-- by the mask that its kind goes by
+abbrev pub ownAsks : ℕ → ℕ → List Condition
+ownAsks mask k = ask 5 (k < 32) ∷ ask 6 (bit mask k ≡ 1) ∷ []
+
+-- by the state of its device
+abbrev pub sendAsks : List ℕ → ℕ → ℕ → ℕ → State → List Condition
+sendAsks permissions kind d k s =
+    ask 7 ((p : ℕ) × (p < 8) × (running s (8 * d + p) ≡ 1))
+    ∷ ask 8 ((p : ℕ) × (p < 8) × (sendsAt (getD permissions (8 * d + p) 0) kind (8 * d + p) s ≡ true))
+    ∷ ask 9 (bit (register s d) k ≡ kind)
+    ∷ []
+
+-- ---- the trials
+
+abbrev pub lent : List ℕ → List ℕ → List ℕ → Lent
+lent state second found = record { state = state; second = second; found = found }

@@ -2,21 +2,24 @@
 // the number of its first condition that does not hold, and changes nothing.
 ghost use mathlib.Core.Path.{_≡_};
 ghost use mathlib.Core.Bool.{true, cond};
+ghost use mathlib.Core.List.{List};
 ghost use Prim.Native.Nat.{ℕ, _+_, _*_, _<_};
 ghost use lib.Dec.{eqb};
 ghost use lib.ListN.{length, getD};
 ghost use Rattle.answers.specs.Decides.{Decides};
 ghost use Rattle.answers.specs.Ordered.{Ordered, Outcome};
 ghost use Rattle.bench.specs.Calls.{mark as Calls·mark, called, callAsks, halted, cleared, unlinked, linked, linkAsks, emptied, reset as Calls·reset, resetAsks};
-ghost use Rattle.bench.specs.Network.{role, peer};
+ghost use Rattle.bench.specs.Network.{peer};
 ghost use Rattle.bench.specs.Queue.{sendsAt};
 ghost use Rattle.bench.specs.State.{running};
+ghost use Rattle.bench.specs.Steps.{ownAsks, sendAsks};
 use crate::DEVICE;
 use crate::PORT;
 use crate::PORTS;
 use crate::RUNNING;
 use crate::port;
 use crate::state;
+use plan::Core;
 use plan::Plan;
 
 // The host of a node requests an identifier.
@@ -87,8 +90,7 @@ fn refusal(plan: Plan, state: &[u32], device: usize) -> u32
     0
 }
 
-// A request (kind 0) or an acknowledge (kind 1): the bit and the timer change, and the code is
-// queued at every port.
+// A request (kind 0) or an acknowledge (kind 1).
 fn call(plan: Plan, kind: u8, state: &mut [u32], device: usize, k: u32) -> u32
     requires { ⌜ kind < 2 ⌝ }
     ensures { λ r. ⌜ Outcome (callAsks plan kind device k (now (state .entry))) (now (state .entry)) (called plan kind device k (now (state .entry))) r (now (state .exit)) ⌝ }
@@ -97,18 +99,25 @@ fn call(plan: Plan, kind: u8, state: &mut [u32], device: usize, k: u32) -> u32
     if number != 0 {
         return number;
     }
-    mark(plan, kind, state, device, k);
     let core = plan.core;
-    port::queue_all(state, &core.permissions, device, 256, kind, k);
+    take(core, kind, state, device, k);
     0
 }
 
-// The bit is set and the timer loaded, or the bit is cleared and the timer stopped.
-fn mark(plan: Plan, kind: u8, state: &mut [u32], d: usize, k: u32)
-    requires { ⌜ (length (now state) ≡ 2080) × (d < 32) × (k < 32) × (role plan d < 2) ⌝ }
-    ensures { λ _. ⌜ now (state .exit) ≡ Calls·mark plan kind d k (now (state .entry)) ⌝ }
+// The call, with no checks: the bit and the timer change, and the code is queued at every port.
+pub(crate) fn take(core: Core, kind: u8, state: &mut [u32], d: usize, k: u32)
+    requires { ⌜ (length (now state) ≡ 2080) × (d < 32) × (k < 32) × (getD (core .role) d 0 < 2) × (kind < 2) ⌝ }
+    ensures { λ _. ⌜ ((peers : List (List ℕ)) → now (state .exit) ≡ called (record { core = core; peers = peers }) kind d k (now (state .entry))) ⌝ }
 {
-    let core = plan.core;
+    mark(core, kind, state, d, k);
+    port::queue_all(state, &core.permissions, d, 256, kind, k);
+}
+
+// The bit is set and the timer loaded, or the bit is cleared and the timer stopped.
+fn mark(core: Core, kind: u8, state: &mut [u32], d: usize, k: u32)
+    requires { ⌜ (length (now state) ≡ 2080) × (d < 32) × (k < 32) × (getD (core .role) d 0 < 2) ⌝ }
+    ensures { λ _. ⌜ ((peers : List (List ℕ)) → now (state .exit) ≡ Calls·mark (record { core = core; peers = peers }) kind d k (now (state .entry))) ⌝ }
+{
     let load = timer_load(kind, core.loads[core.role[d] as usize]);
     let at = DEVICE * d;
     state[at] = device::marked(kind, state[at], k as u8);
@@ -123,20 +132,45 @@ fn call_refusal(plan: Plan, kind: u8, state: &[u32], device: usize, k: u32) -> u
     if number != 0 {
         return number;
     }
+    let core = plan.core;
+    let own = own_refusal(owned(kind, core.source[device], core.handler[device]), k);
+    if own != 0 {
+        return own;
+    }
+    send_refusal(state, &core.permissions, device, kind, k)
+}
+
+// What it is refused with for its identifier, or 0, by the mask that its kind goes by.
+pub(crate) fn own_refusal(mask: u32, k: u32) -> u32
+    ensures { λ r. ⌜ Ordered (ownAsks mask k) r ⌝ }
+{
     if 31 < k {
         return 5;
     }
-    let core = plan.core;
-    if bits::get(owned(kind, core.source[device], core.handler[device]), k) != 1 {
+    if bits::get(mask, k) != 1 {
         return 6;
     }
-    if !any_runs(state, device) {
+    0
+}
+
+// What it is refused with for the state of its device, or 0.
+pub(crate) fn send_refusal(
+    state: &[u32],
+    permissions: &[u8; 256],
+    d: usize,
+    kind: u8,
+    k: u32,
+) -> u32
+    requires { ⌜ d < 32 ⌝ }
+    ensures { λ r. ⌜ Ordered (sendAsks (now (permissions .entry)) kind d k (now (state .entry))) r ⌝ }
+{
+    if !any_runs(state, d) {
         return 7;
     }
-    if !any_sends(state, &core.permissions, device, kind) {
+    if !any_sends(state, permissions, d, kind) {
         return 8;
     }
-    if bits::get(state::word(state, DEVICE * device), k) != kind as u32 {
+    if bits::get(state::word(state, DEVICE * d), k) != kind as u32 {
         return 9;
     }
     0

@@ -5,6 +5,7 @@ mod port;
 mod rounds;
 mod settling;
 mod state;
+mod trial;
 
 pub use calls::acknowledge;
 pub use calls::link_start;
@@ -15,6 +16,7 @@ pub use rounds::round;
 pub use settling::settle;
 pub use state::is_sound;
 pub use state::start;
+pub use trial::trials;
 
 // What a call answers: 0 for done or a refusal's number, and the value beside it.
 pub struct Answer {

@@ -109,7 +109,7 @@ fn finish(home: bool, state: &mut [u32], second: &mut [u32], number: u32, value:
 }
 
 // The settling, with no checks.
-fn run(
+pub(crate) fn run(
     core: Core,
     peers: [[u16; 8]; 32],
     state: &mut [u32],

@@ -235,7 +235,7 @@ pub fn start(plan: Plan, state: &mut [u32]) -> u32
 }
 
 // Writes the start state of a plan with these peers.
-fn write_first(peers: &[[u16; 8]; 32], state: &mut [u32])
+pub(crate) fn write_first(peers: &[[u16; 8]; 32], state: &mut [u32])
     requires { ⌜ length (now state) ≡ 2080 ⌝ }
     ensures { λ r. ⌜ now (state .exit) ≡ table 2080 (firstWord (now (peers .entry))) ⌝ }
 {

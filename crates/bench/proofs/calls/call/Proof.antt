@@ -1,10 +1,7 @@
--- `bench::calls::call` meets its contract: a refusal changes nothing, and else the bit is marked and the code queued. Assumes nothing.
-use mathlib.Core.Path.{ap, _∙_}
-use borrow.Author.Needs.{needs}
+-- `bench::calls::call` meets its contract: a refusal changes nothing, and else the call is taken. Assumes nothing.
 use Rattle.answers.proofs.Outcomes.{outcome-refused, outcome-done}
-use Rattle.bench.specs.Queue.{queueAllAt}
-use Rattle.bench.specs.Calls.{called}
 use Rattle.bench.proofs.Asked.{call-ready}
+use borrow.Author.Needs.{needs}
 use Rattle.bench.proofs.calls.call.Statement.{statement}
 use Rattle.bench.proofs.calls.call.Tie as tie
 
@@ -17,32 +14,20 @@ same-length c = search needs
 returns : tie.Need-returns
 returns c = outcome-refused (c .before .call-refusal .ensures) (c .if1 .taken)
 
-mark-requires : tie.Need-mark-requires
-mark-requires c κs = call-ready _ _ _ _ _ (c .before .before .call-refusal .ensures) (c .before .if1 .left)
-
-queue-all-requires : tie.Need-queue-all-requires
-queue-all-requires c κs =
-    let e = c .before .before .before .before .before .before .before .before in
-    let r = call-ready _ _ _ _ _ (e .before .call-refusal .ensures) (e .if1 .left) in search needs
+take-requires : tie.Need-take-requires
+take-requires c κs =
+    let r = call-ready _ _ _ _ _ (c .before .before .before .call-refusal .ensures) (c .before .before .if1 .left) in
+    (r .0, r .1, r .2, r .3, c .before .before .before .before .before .before .pre)
 
 same-length-2 : tie.Need-same-length-2
 same-length-2 c = search needs
 
 returns-2 : tie.Need-returns-2
-unfolding called
 returns-2 c =
-    let e = c .before .before .before .before .before .before .before .before .before .before .before in
-    outcome-done (e .before .call-refusal .ensures) (e .if1 .left)
-    (c .before .before .queue-all .ensures ∙ ap (queueAllAt _ _ _ _ _) (c .before .before .before .before .before .before .before .before .before .mark .ensures))
+    outcome-done (c .before .before .before .before .before .before .call-refusal .ensures) (c .before .before .before .before .before .if1 .left)
+    (c .before .before .take .ensures (c .before .before .before .before .before .before .before .before .before .args .plan .peers))
 
 pub call-spec : {M : Type 1} → statement M
 call-spec =
     tie.close
-    (tie.spec
-    call-refusal-requires
-    same-length
-    returns
-    mark-requires
-    queue-all-requires
-    same-length-2
-    returns-2)
+    (tie.spec call-refusal-requires same-length returns take-requires same-length-2 returns-2)

@@ -61,7 +61,7 @@ same-length c = search needs
 
 returns : tie.Need-returns
 unfolding mark put word loadOf
-returns c = rw (c .marked .ensures, c .before .before .timer-load .ensures)
+returns c peers = rw (c .marked .ensures, c .before .before .timer-load .ensures)
 
 pub mark-spec : {M : Type 1} → statement M
 mark-spec =

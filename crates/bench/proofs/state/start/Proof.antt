@@ -1,23 +1,12 @@
 -- `bench::state::start` meets its contract: each refusal by its branch. Assumes nothing.
-use mathlib.Core.Path.{_≡_, refl, ap, _∙_}
-use mathlib.Core.List.{List}
+use mathlib.Core.Path.{refl}
 use mathlib.Core.Logic.{inl, inr}
-use Prim.Native.Nat.{ℕ}
 use native.Mathlib.Omega.{arith}
 use borrow.Author.Needs.{needs}
 use Rattle.answers.proofs.Outcomes.{granted, denied, outcome-refused, outcome-done}
-use Rattle.areas.specs.Table.{table}
-use Rattle.plan.specs.declared.Plan.{Plan}
-use Rattle.bench.specs.State.{State}
-use Rattle.bench.specs.Calls.{started}
-use Rattle.bench.specs.Steps.{firstWord}
+use Rattle.bench.proofs.Started.{is-started}
 use Rattle.bench.proofs.state.start.Statement.{statement}
 use Rattle.bench.proofs.state.start.Tie as tie
-
--- what was written is the start state
-is-started : (plan : Plan) (peers : List (List ℕ)) (after : State) → peers ≡ plan .peers → after ≡ table 2080 (firstWord peers) → after ≡ started plan
-unfolding started firstWord
-is-started plan peers after p e = e ∙ ap (λ (ps : List (List ℕ)). table 2080 (firstWord ps)) p
 
 is-held-requires : tie.Need-is-held-requires
 is-held-requires c κs = search needs
@@ -44,7 +33,7 @@ returns-3 c =
     let e = c .before .before .before .before .before .before in
     let held = granted (e .before .before .is-held .ensures) (e .before .if1 .left) in
     outcome-done (inr (held, inr (e .if2 .left, refl))) refl
-    (is-started _ _ _ (c .before .before .before .before .before .peers-of .ensures) (c .before .before .write-first .ensures))
+    (is-started _ (c .before .before .before .before .before .peers-of .ensures) (c .before .before .write-first .ensures))
 
 pub start-spec : {M : Type 1} → statement M
 start-spec =

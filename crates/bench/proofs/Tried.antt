@@ -1,0 +1,192 @@
+-- What one trial comes to, and the trials of all places.
+use mathlib.Core.Path.{_≡_, refl, sym, ap, subst, _∙_}
+use mathlib.Core.List.{List}
+use mathlib.Core.Logic.{_⊎_, dite, inl, inr}
+use Prim.Native.Nat.{ℕ, zero, suc, _+_, _*_, _/_, _%_, _≤_, _<_}
+use native.Mathlib.Decide.{decLe}
+use native.Mathlib.Numerals.{add-one}
+use native.Mathlib.Omega.{arith}
+use lib.ListN.{length, getD, set, length-set}
+use lib.Seq.{getD-set-same, getD-set-other}
+use borrow.Author.Count.{below-none, below-more}
+use Rattle.answers.specs.Ordered.{Ordered}
+use Rattle.answers.proofs.Outcomes.{Holds, holds}
+use Rattle.areas.specs.Table.{table}
+use Rattle.bits.specs.Set.{bit}
+use Rattle.bits.proofs.Sets.{bit-two}
+use Rattle.plan.specs.Reading.{Held}
+use Rattle.plan.specs.declared.Plan.{Plan}
+use Rattle.bench.specs.State.{State, register}
+use Rattle.bench.specs.Network.{devices, source}
+use Rattle.bench.specs.Sound.{Sound}
+use Rattle.bench.specs.Calls.{started, called, resetAsks}
+use Rattle.bench.specs.Settling.{rounds, Quiet, Least, Pair, settleAsks, after, Settles}
+use Rattle.bench.specs.Trials.{holders, allowance, requested, Answered, heldAfter, Tries, refused, settled, waiting, FoundAt, Finds, Lent, Fits, TriesAll}
+use Rattle.bench.specs.Telling.{pair}
+use Rattle.bench.specs.Steps.{ownAsks, sendAsks, lent}
+use Rattle.bench.proofs.Asked.{call-foreign, call-answered}
+use Rattle.bench.proofs.Started.{started-sound}
+use Rattle.bench.proofs.Called.{call-sound}
+
+-- ---- the count of the devices
+
+pub holders-few : (n k : ℕ) (s : State) → holders n k s ≤ n
+unfolding holders
+holders-few zero k s = omega arith
+holders-few (suc n) k s = omega (arith, holders-few n k s, bit-two (register s n) k)
+
+-- one device more
+pub holders-more : (n k : ℕ) (s : State) {held one : ℕ} → held ≡ holders n k s → one ≡ bit (register s n) k → held + one ≡ holders (n + 1) k s
+unfolding holders
+holders-more n k s e f = rw (e, f, add-one n)
+
+-- ---- one device and one identifier
+
+-- the same three numbers
+same : {plan : Plan} {d k a b c x y z : ℕ} → Tries plan d k a b c → a ≡ x → b ≡ y → c ≡ z → Tries plan d k x y z
+same {plan} {d} {k} {a} {b} {y = y} {z = z} t p q r =
+    subst (λ n. Tries plan d k n y z) p (subst (λ n. Tries plan d k a n z) q (subst (λ n. Tries plan d k a b n) r t))
+
+module _ (plan : Plan) (held : Held plan) (d k : ℕ) where
+  -- the plan lacks the device
+  pub is-absent : (d < devices plan → ⊥) → Tries plan d k 4 0 0
+  is-absent n = refused (inr (held, inr (started-sound plan held, inl (n, refl)))) (λ z. omega arith)
+
+  module _ (there : d < devices plan) where
+    begins : Holds (resetAsks plan d (started plan))
+    begins = (held, (started-sound plan held, (there, tt)))
+
+    module _ {first : ℕ} (o : Ordered (ownAsks (source plan d) k) first) where
+      -- it is no source
+      pub is-foreign : (first ≡ 0 → ⊥) → Tries plan d k first 0 0
+      is-foreign z = refused (call-foreign plan d (started plan) 0 k begins refl o z) z
+
+      module _ (z : first ≡ 0) where
+        pub is-small : k < 32
+        is-small = holds (ownAsks (source plan d) k) refl o z .0
+
+        module _ {s : State} {number : ℕ} (begun : s ≡ started plan) (a : Ordered (sendAsks (plan .core .permissions) 0 d k s) number) where
+          answered : Answered plan d k number
+          answered =
+              call-answered plan d (started plan) 0 k begins refl o z
+              (subst (λ (x : State). Ordered (sendAsks (plan .core .permissions) 0 d k x) number) begun a)
+
+          pub is-refused : (number ≡ 0 → ⊥) → Tries plan d k number 0 0
+          is-refused n = refused answered n
+
+          module _ (y : number ≡ 0) {t : State} (e : t ≡ called plan 0 d k s) where
+            taken : Answered plan d k 0
+            taken = subst (Answered plan d k) y answered
+
+            asked : t ≡ requested plan d k
+            asked = e ∙ ap (called plan 0 d k) begun
+
+            sound : Sound plan (requested plan d k)
+            sound = call-sound plan held (started plan) (started-sound plan held) 0 d k (omega arith) there is-small
+
+            pub is-sound : Sound plan t
+            is-sound = subst (Sound plan) (sym asked) sound
+
+            -- it settles, or waits on
+            module _ {second : List ℕ} {n v count : ℕ} {u w : State} (long : length second ≡ 2080) (r : Settles plan (pair t second) allowance n v (pair u w)) (h : count ≡ holders (devices plan) k u) where
+              asks : Ordered (settleAsks plan (pair (requested plan d k) second) allowance) n
+              asks = subst (λ (x : State). Ordered (settleAsks plan (pair x second) allowance) n) asked (r .answers)
+
+              rest : Ordered (settleAsks plan (pair (requested plan d k) second) allowance) n
+                  → ((n ≡ 12) × ((m : ℕ) → m ≤ allowance → Quiet (rounds plan m (requested plan d k)) → ⊥))
+                  ⊎ ((n ≡ 0) × ((m : ℕ) × (m ≤ allowance) × Quiet (rounds plan m (requested plan d k))))
+              rest (inl p) = absurd (p .0 held)
+              rest (inr (_, inl p)) = absurd (p .0 sound)
+              rest (inr (_, inr (_, inl p))) = absurd (p .0 long)
+              rest (inr (_, inr (_, inr (_, inl p)))) = absurd (p .0 (omega arith))
+              rest (inr (_, inr (_, inr (_, inr (_, inl p))))) = inl (p .1, λ m l q. p .0 (m, l, q))
+              rest (inr (_, inr (_, inr (_, inr (_, inr (p, z)))))) = inr (z, p)
+
+              -- the devices that are counted are those after as many rounds
+              counted : (m : ℕ) → pair u w ≡ after plan t m → heldAfter plan d k m ≡ count
+              counted m g = sym (h ∙ ap (holders (devices plan) k) (ap (λ (x : Pair). x .state) g ∙ ap (rounds plan m) asked))
+
+              -- no later than some round at which nothing waits
+              in-time : (m : ℕ) → Quiet (rounds plan m (requested plan d k)) → Least plan (requested plan d k) v → v ≤ m
+              in-time m q l = dite (decLe v m) (λ h. h) (λ h. absurd (l .least m (omega arith) q))
+
+              pub is-tried : Tries plan d k n v count
+              is-tried =
+                  elim (rest asks) [
+                    | inl p ↦
+                        let x = r .still (p .0) in same (waiting taken (p .1)) (sym (p .0)) (sym (x .0)) (counted allowance (x .1))
+                    | inr p ↦
+                        let x = r .made (p .0) in
+                        let l = subst (λ (s : State). Least plan s v) asked (x .0) in
+                        let before = in-time (p .1 .0) (p .1 .2) l in
+                        same (settled taken (omega (arith, before, p .1 .1)) l) (sym (p .0)) refl (counted v (x .1))
+                  ]
+
+-- ---- the places, one after the other
+
+-- what is found of those before i
+pub record Found (plan : Plan) (i : ℕ) (found : List ℕ) : Type 0 where
+  pub size : length found ≡ 3072
+  pub each : (j : ℕ) → j < i → FoundAt plan found j
+
+module _ {plan : Plan} {found : List ℕ} where
+  pub found-none : length found ≡ 3072 → Found plan 0 found
+  found-none e = record { size = e; each = below-none _ }
+
+  module _ {i : ℕ} (f : Found plan i found) where
+    pub found-all : 1024 ≤ i → Finds plan found
+    found-all h = record { size = f .size; each = λ j l. f .each j (omega arith) }
+
+    -- the words of place i are stored
+    module _ (h : i < 1024) {a b c : ℕ} (t : Tries plan (i / 32) (i % 32) a b c) where
+      abbrev one : List ℕ
+      one = set found (3 * i) a
+
+      abbrev two : List ℕ
+      two = set one (3 * i + 1) b
+
+      abbrev stored : List ℕ
+      stored = set two (3 * i + 2) c
+
+      before : (m : ℕ) → m < 3 * i → getD found m 0 ≡ getD stored m 0
+      before m l =
+          sym (getD-set-other two (3 * i + 2) m c 0 (λ e. omega arith) ∙ getD-set-other one (3 * i + 1) m b 0 (λ e. omega arith) ∙ getD-set-other found (3 * i) m a 0 (λ e. omega arith))
+
+      size-one : length one ≡ 3072
+      size-one = length-set found (3 * i) a ∙ f .size
+
+      size-two : length two ≡ 3072
+      size-two = length-set one (3 * i + 1) b ∙ size-one
+
+      here : FoundAt plan stored i
+      here =
+          same t
+          (sym (getD-set-other two (3 * i + 2) (3 * i) c 0 (λ e. omega arith) ∙ getD-set-other one (3 * i + 1) (3 * i) b 0 (λ e. omega arith) ∙ getD-set-same found (3 * i) a 0 (omega (arith, f .size))))
+          (sym (getD-set-other two (3 * i + 2) (3 * i + 1) c 0 (λ e. omega arith) ∙ getD-set-same one (3 * i + 1) b 0 (omega (arith, size-one))))
+          (sym (getD-set-same two (3 * i + 2) c 0 (omega (arith, size-two))))
+
+      pub found-more : Found plan (i + 1) stored
+      found-more =
+          record {
+            size = length-set two (3 * i + 2) c ∙ size-two;
+            each = below-more _ i (λ j l. same (f .each j l) (before (3 * j) (omega arith)) (before (3 * j + 1) (omega arith)) (before (3 * j + 2) (omega arith))) here;
+          }
+
+-- ---- the promise, at each return
+
+module _ (plan : Plan) (state second found : List ℕ) where
+  pub not-held : (Held plan → ⊥) → TriesAll plan (lent state second found) 1 (lent state second found)
+  not-held h = record { answers = inl (h, refl); made = λ z. absurd (omega (arith, z)); kept = λ _. refl }
+
+  module _ (held : Held plan) where
+    pub misfits : (Fits (length state) (length second) (length found) → ⊥) → TriesAll plan (lent state second found) 3 (lent state second found)
+    misfits m = record { answers = inr (held, inl (m, refl)); made = λ z. absurd (omega (arith, z)); kept = λ _. refl }
+
+    pub finds : {peers : List (List ℕ)} {s u f : List ℕ} → peers ≡ plan .peers → Fits (length state) (length second) (length found)
+        → Finds (record { core = plan .core; peers = peers }) f → s ≡ table 2080 (λ i. 0) → u ≡ table 2080 (λ i. 0) → TriesAll plan (lent state second found) 0 (lent s u f)
+    finds {f = f} e fits x p q =
+        record {
+          answers = inr (held, inr (fits, refl));
+          made = λ _. (subst (λ (l : List (List ℕ)). Finds (record { core = plan .core; peers = l }) f) e x, p, q);
+          kept = λ z. absurd (z refl);
+        }

@@ -1,0 +1,137 @@
+// The trials: for each device and identifier the network starts afresh, the device requests, and it
+// settles. The plan is checked once for all of them, and no state is, since each is made here.
+ghost use mathlib.Core.Path.{_≡_};
+ghost use Prim.Native.Nat.{_≤_, _<_};
+ghost use lib.ListN.{length};
+ghost use Rattle.answers.specs.Decides.{Decides};
+ghost use Rattle.plan.specs.Reading.{Held};
+ghost use Rattle.bench.specs.Steps.{lent};
+ghost use Rattle.bench.specs.Trials.{holders as Trials·holders, Tries, Finds, Fits as Trials·Fits, TriesAll};
+use crate::DEVICE;
+use crate::calls;
+use crate::settling;
+use crate::state;
+use plan::Core;
+use plan::Plan;
+
+// What is found of one place.
+struct Tried {
+    number: u32,
+    rounds: u32,
+    held: u32,
+}
+
+// The most rounds that are played.
+const ALLOWANCE: u32 = 4096;
+
+// How many of the first n devices hold identifier k.
+fn holders(n: usize, state: &[u32], k: u32) -> u32
+    requires { ⌜ (n ≤ 32) × (length (now state) ≡ 2080) ⌝ }
+    ensures { λ r. ⌜ r ≡ Trials·holders n k (now (state .entry)) ⌝ }
+{
+    let mut held: u32 = 0;
+    for d in 0..n {
+        held += bits::get(state[DEVICE * d], k);
+    }
+    held
+}
+
+// Where the request is refused, no round is played and no device counted.
+fn refused(number: u32) -> Tried
+    ensures { λ r. ⌜ r ≡ record { number = number; rounds = 0; held = 0 } ⌝ }
+{
+    Tried {
+        number: number,
+        rounds: 0,
+        held: 0,
+    }
+}
+
+// One device and one identifier. Most places are refused by what the plan says, before a state is
+// written.
+fn attempt(
+    core: Core,
+    peers: [[u16; 8]; 32],
+    state: &mut [u32],
+    second: &mut [u32],
+    d: usize,
+    k: u32,
+) -> Tried
+    requires { ⌜ Held (record { core = core; peers = peers }) × (length (now state) ≡ 2080) × (length (now second) ≡ 2080) × (d < 32) ⌝ }
+    ensures { λ r. ⌜ Tries (record { core = core; peers = peers }) d k (r .number) (r .rounds) (r .held) ⌝ }
+{
+    if core.devices <= d {
+        return refused(4);
+    }
+    let own = calls::own_refusal(core.source[d], k);
+    if own != 0 {
+        return refused(own);
+    }
+    state::write_first(&peers, state);
+    let number = calls::send_refusal(state, &core.permissions, d, 0, k);
+    if number != 0 {
+        return refused(number);
+    }
+    calls::take(core, 0, state, d, k);
+    let answer = settling::run(core, peers, state, second, ALLOWANCE);
+    let held = holders(core.devices, state, k);
+    Tried {
+        number: answer.number,
+        rounds: answer.value,
+        held: held,
+    }
+}
+
+// All places, with no checks.
+fn try_all(
+    core: Core,
+    peers: [[u16; 8]; 32],
+    state: &mut [u32],
+    second: &mut [u32],
+    found: &mut [u32],
+)
+    requires { ⌜ Held (record { core = core; peers = peers }) × (length (now state) ≡ 2080) × (length (now second) ≡ 2080) × (length (now found) ≡ 3072) ⌝ }
+    ensures { λ _. ⌜ Finds (record { core = core; peers = peers }) (now (found .exit)) ⌝ }
+{
+    for i in 0..1024 {
+        let tried = attempt(core, peers, state, second, i / 32, (i % 32) as u32);
+        found[3 * i] = tried.number;
+        found[3 * i + 1] = tried.rounds;
+        found[3 * i + 2] = tried.held;
+    }
+}
+
+// Are the areas as long as they have to be?
+fn fits(state: usize, second: usize, found: usize) -> bool
+    ensures { λ r. ⌜ Decides (Trials·Fits state second found) r ⌝ }
+{
+    if state != 2080 {
+        return false;
+    }
+    if second != 2080 {
+        return false;
+    }
+    found == 3072
+}
+
+// ---- the public door
+
+// What is found of each of the 1,024 places, 32 x device + identifier: the network starts afresh,
+// the device requests, and it settles. Three words a place: what the request is answered with, or
+// 12 where something waits still after 4,096 rounds; the rounds; and how many devices then hold the
+// identifier. The other two areas are for the states, and end as zeros. Refused by 1, then by 3.
+pub fn trials(plan: Plan, state: &mut [u32], second: &mut [u32], found: &mut [u32]) -> u32
+    ensures { λ r. ⌜ TriesAll plan (lent (now (state .entry)) (now (second .entry)) (now (found .entry))) r (lent (now (state .exit)) (now (second .exit)) (now (found .exit))) ⌝ }
+{
+    if !plan::is_held(plan) {
+        return 1;
+    }
+    if !fits(state.len(), second.len(), found.len()) {
+        return 3;
+    }
+    let core = plan.core;
+    try_all(core, plan::peers_of(plan), state, second, found);
+    areas::fill(state, 0);
+    areas::fill(second, 0);
+    0
+}
