@@ -7,10 +7,10 @@ use native.Mathlib.Decide.{decLe}
 use native.Mathlib.Nat.{add-zero}
 use native.Mathlib.Omega.{arith}
 use lib.ListN.{length, take, length-append, take-append-drop}
+use borrow.Author.Tests.{eq-eqb, ne-eqb}
 use Rattle.areas.specs.Put.{Puts}
 use Rattle.areas.proofs.Puts.{put-whole, place-after, puts-none, joined, same-size, next-place}
 use Rattle.text.specs.Text.{ascii, decimal}
-use Rattle.report.specs.declared.trial.Rounds.{Rounds}
 use Rattle.report.specs.Report.{field, line, heading, bad}
 use Rattle.report.specs.Steps.{front}
 
@@ -64,6 +64,21 @@ module _ {whole a b c : List ℕ} (parts : Three whole a b c) where
       pub three : {t₃ : List ℕ} {p₃ : ℕ} → Puts t₂ p₂ c t₃ p₃ → Puts t at whole t₃ p₃
       three r = rw (parts .is) (both two c two-room r)
 
+-- ---- what stands for the rounds
+
+module _ (number n : ℕ) where
+  pub field-settled : number ≡ 0 → field number n ≡ decimal n
+  unfolding field
+  field-settled e = rw (eq-eqb number 0 e)
+
+  pub field-waiting : number ≡ 12 → field number n ≡ ascii "-"
+  unfolding field
+  field-waiting e = rw (ne-eqb number 0 (omega arith), eq-eqb number 12 e)
+
+  pub field-refused : (number ≡ 0 → ⊥) → (number ≡ 12 → ⊥) → field number n ≡ ascii "r" ++ decimal number
+  unfolding field
+  field-refused z w = rw (ne-eqb number 0 z, ne-eqb number 12 w)
+
 -- ---- the texts, in their parts
 
 pub heading-parts : (n : ℕ) → Three (heading n) (ascii "network ") (decimal n) (ascii "\n")
@@ -74,10 +89,10 @@ pub bad-parts : (number block : ℕ) → Three (bad number block) (ascii "bad ")
 unfolding bad
 bad-parts number block = record { is = simp append-assoc }
 
-pub front-parts : (d k : ℕ) (rounds : Rounds) → Three (front d k rounds) (part d (ascii " ")) (part k (ascii " ")) (field rounds)
+pub front-parts : (d k number n : ℕ) → Three (front d k number n) (part d (ascii " ")) (part k (ascii " ")) (field number n)
 unfolding front
-front-parts d k rounds = record { is = simp append-assoc }
+front-parts d k number n = record { is = simp append-assoc }
 
-pub line-parts : (d k : ℕ) (rounds : Rounds) (held : ℕ) → Three (line d k rounds held) (front d k rounds) (ascii " ") (part held (ascii "\n"))
+pub line-parts : (d k number n held : ℕ) → Three (line d k number n held) (front d k number n) (ascii " ") (part held (ascii "\n"))
 unfolding line front
-line-parts d k rounds held = record { is = append-assoc (front d k rounds ++ ascii " ") (decimal held) (ascii "\n") }
+line-parts d k number n held = record { is = append-assoc (front d k number n ++ ascii " ") (decimal held) (ascii "\n") }

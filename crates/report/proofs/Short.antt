@@ -19,12 +19,11 @@ use Rattle.bench.specs.State.{State}
 use Rattle.bench.specs.Network.{devices, source}
 use Rattle.bench.specs.Calls.{started, callAsks}
 use Rattle.bench.specs.Settling.{rounds}
-use Rattle.report.specs.declared.trial.Rounds.{Rounds}
-use Rattle.report.specs.Trial.{allowance, requested, Tries, refused, settled, waiting}
+use Rattle.bench.specs.Trials.{allowance, requested, Tries, refused, settled, waiting}
+use Rattle.bench.proofs.Tried.{holders-few}
 use Rattle.report.specs.Report.{field, line, none, pass, more}
 use Rattle.report.specs.Steps.{PutsPlace, PutsLines}
-use Rattle.report.proofs.Trials.{holders-few}
-use Rattle.report.proofs.Parts.{puts-nothing}
+use Rattle.report.proofs.Parts.{puts-nothing, field-refused}
 
 -- no call is refused by a number above 9
 number-few : (plan : Plan) (kind d k : ℕ) (s : State) {n : ℕ} → Ordered (callAsks plan kind d k s) n → n ≤ 9
@@ -39,16 +38,18 @@ number-few plan kind d k s (inr (_, inr (_, inr (_, inr (_, inr (_, inr (_, inr 
 number-few plan kind d k s (inr (_, inr (_, inr (_, inr (_, inr (_, inr (_, inr (_, inr p)))))))) = omega (arith, p .1)
 
 module _ (plan : Plan) (held : Held plan) (d k : ℕ) where
-  field-short : {rounds : Rounds} {count : ℕ} → Tries plan d k rounds count → (length (field rounds) ≤ 4) × (count ≤ 32)
+  field-short : {number n count : ℕ} → Tries plan d k number n count → (length (field number n) ≤ 4) × (count ≤ 32)
   unfolding field ascii
-  field-short (refused {number} o z) = (omega (arith, decimal-short 0 number (omega (arith, number-few plan 0 d k (started plan) o))), omega arith)
+  field-short (refused {number} o z) =
+      let few = number-few plan 0 d k (started plan) o in
+      (rw (field-refused number 0 z (λ e. omega arith)) (omega (arith, decimal-short 0 number (omega arith))), omega arith)
   field-short (settled {n} o l _) = (decimal-short 3 n (omega (arith, l)), omega (arith, holders-few (devices plan) k (rounds plan n (requested plan d k)), held-devices plan held .1))
   field-short (waiting o _) = (omega arith, omega (arith, holders-few (devices plan) k (rounds plan allowance (requested plan d k)), held-devices plan held .1))
 
   -- no line is longer than `31 31 4096 32` and its end
-  pub line-short : {rounds : Rounds} {count : ℕ} → d < 32 → k < 32 → Tries plan d k rounds count → length (line d k rounds count) ≤ 14
+  pub line-short : {number n count : ℕ} → d < 32 → k < 32 → Tries plan d k number n count → length (line d k number n count) ≤ 14
   unfolding line ascii
-  line-short {rounds} {count} h l t =
+  line-short {count = count} h l t =
       let f = field-short t in
       simp length-append
       (omega (arith, f .0, decimal-short 1 d (omega (arith, h)), decimal-short 1 k (omega (arith, l)), decimal-short 1 count (omega (arith, f .1))))
@@ -67,11 +68,11 @@ module _ (plan : Plan) (i : ℕ) where
       }
 
   -- it has one
-  pub place-put : Held plan → i < 1024 → {rounds : Rounds} {count : ℕ} {before : List ℕ} {at : ℕ} {after : List ℕ} {place : ℕ} → bit (source plan (i / 32)) (i % 32) ≡ 1
-      → Tries plan (i / 32) (i % 32) rounds count → Puts before at (line (i / 32) (i % 32) rounds count) after place → PutsPlace plan i before at after place
-  place-put held h {rounds} {count} e t p =
+  pub place-put : Held plan → i < 1024 → {number n count : ℕ} {before : List ℕ} {at : ℕ} {after : List ℕ} {place : ℕ} → bit (source plan (i / 32)) (i % 32) ≡ 1
+      → Tries plan (i / 32) (i % 32) number n count → Puts before at (line (i / 32) (i % 32) number n count) after place → PutsPlace plan i before at after place
+  place-put held h {number} {n} {count} e t p =
       record {
-        added = line (i / 32) (i % 32) rounds count;
+        added = line (i / 32) (i % 32) number n count;
         right = λ lines l. rw (add-one i) (more l e t);
         short = line-short plan held (i / 32) (i % 32) (omega arith) (omega arith) t;
         put = p;

@@ -17,6 +17,7 @@ use Rattle.plan.proofs.Round.{read-held, held-devices}
 use Rattle.text.specs.Text.{ascii}
 use Rattle.text.proofs.Decimal.{decimal-short}
 use Rattle.bench.specs.Network.{devices}
+use Rattle.bench.specs.Trials.{Finds, Lent, Fits as Trials·Fits, TriesAll}
 use Rattle.report.specs.Report.{Lines, heading, bad, Prints, refused, network, Areas, longest, Fits, Reports}
 use Rattle.report.specs.Steps.{PutsLines, PutsText, lent}
 
@@ -75,6 +76,15 @@ module _ (file : List ℕ) {read : Read} (e : read ≡ reads file) where
         short = omega (arith, bad-short (read .number) (read .block) h l);
         put = a;
       }
+
+-- ---- what was found, in areas that fit
+
+pub was-found : {plan : Plan} {before after : Lent} {number : ℕ} → TriesAll plan before number after
+    → Held plan → Trials·Fits (length (before .state)) (length (before .second)) (length (before .found)) → Finds plan (after .found)
+was-found r held fits = elim (r .answers) [
+  | inl p ↦ absurd (p .0 held)
+  | inr p ↦ elim (p .1) [ inl q ↦ absurd (q .0 fits) | inr q ↦ r .made (q .1) .0 ]
+]
 
 -- ---- what the call answers
 

@@ -10,29 +10,8 @@ use Rattle.areas.specs.Table.{table}
 use Rattle.plan.specs.Reading.{planOf}
 use Rattle.plan.specs.declared.Plan.{Plan}
 use Rattle.bench.specs.Network.{devices}
-use Rattle.bench.specs.Calls.{started, callAsks}
-use Rattle.bench.proofs.Unique.{least-once}
-use Rattle.report.specs.declared.trial.Rounds.{Rounds}
-use Rattle.report.specs.declared.trial.Rounds.the-variants.{Settled, Refused}
-use Rattle.report.specs.Trial.{requested, Answered, heldAfter, Tries, refused, settled, waiting}
-use Rattle.report.specs.Report.{line, Lines, none, pass, more, heading, Prints, refused as file-refused, network, Areas, reportAsks, Reports}
-
--- ---- one source and one identifier
-
-module _ (plan : Plan) (d k : ℕ) where
-  same-number : {m n : ℕ} → Answered plan d k m → Answered plan d k n → m ≡ n
-  same-number {m} {n} o p = ordered-once (callAsks plan 0 d k (started plan)) m n o p
-
-  pub tries-once : {r s : Rounds} {a b : ℕ} → Tries plan d k r a → Tries plan d k s b → (r ≡ s) × (a ≡ b)
-  tries-once (refused o z) (refused p y) = (ap Refused (same-number o p), refl)
-  tries-once (refused o z) (settled p l y) = absurd (z (same-number o p))
-  tries-once (refused o z) (waiting p y) = absurd (z (same-number o p))
-  tries-once (settled o l z) (refused p y) = absurd (y (same-number p o))
-  tries-once (settled o l z) (settled p m y) = let e = least-once plan (requested plan d k) _ _ z y in (ap Settled e, ap (heldAfter plan d k) e)
-  tries-once (settled {n} o l z) (waiting p y) = absurd (y n l (z .quiet))
-  tries-once (waiting o z) (refused p y) = absurd (y (same-number p o))
-  tries-once (waiting o z) (settled {n} p m y) = absurd (z n m (y .quiet))
-  tries-once (waiting o z) (waiting p y) = (refl, refl)
+use Rattle.bench.proofs.Unique.{tries-once}
+use Rattle.report.specs.Report.{line, Lines, none, pass, more, heading, Prints, refused, network, Areas, reportAsks, Reports}
 
 -- ---- the text
 
@@ -43,12 +22,12 @@ lines-once plan (pass l n) (more m e t) = absurd (n e)
 lines-once plan (more l e t) (pass m n) = absurd (n e)
 lines-once plan (more {i} l e t) (more m f u) =
     let same = tries-once plan (i / 32) (i % 32) t u in
-    λ j. lines-once plan l m j ++ line (i / 32) (i % 32) (same .0 j) (same .1 j)
+    λ j. lines-once plan l m j ++ line (i / 32) (i % 32) (same .0 j) (same .1 j) (same .2 j)
 
 pub prints-once : (file : List ℕ) {a b : List ℕ} → Prints file a → Prints file b → a ≡ b
-prints-once file (file-refused n) (file-refused o) = refl
-prints-once file (file-refused n) (network e l) = absurd (n e)
-prints-once file (network e l) (file-refused n) = absurd (n e)
+prints-once file (refused n) (refused o) = refl
+prints-once file (refused n) (network e l) = absurd (n e)
+prints-once file (network e l) (refused n) = absurd (n e)
 prints-once file (network e l) (network f m) = ap (λ t. heading (devices (planOf file)) ++ t) (lines-once (planOf file) l m)
 
 -- ---- the call

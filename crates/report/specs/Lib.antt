@@ -1,3 +1,2 @@
-pub mod Trial
 pub mod Report
 pub mod Steps

@@ -1,7 +1,9 @@
 -- RULES, "What settle prints": the whole text.
 use mathlib.Core.Path.{_≡_}
+use mathlib.Core.Bool.{cond}
 use mathlib.Core.List.{List, [], _∷_, _++_}
 use Prim.Native.Nat.{ℕ, suc, _*_, _/_, _%_, _≤_}
+use lib.Dec.{eqb}
 use lib.ListN.{length}
 use Rattle.answers.specs.Ordered.{Condition, ask, Ordered}
 use Rattle.areas.specs.Put.{over}
@@ -12,26 +14,22 @@ use Rattle.plan.specs.Refusals.{verdict}
 use Rattle.plan.specs.Reading.{planOf}
 use Rattle.plan.specs.declared.Plan.{Plan}
 use Rattle.bench.specs.Network.{devices, source}
-use Rattle.report.specs.declared.trial.Rounds.{Rounds}
-use Rattle.report.specs.declared.trial.Rounds.the-variants.{Settled, Waiting, Refused}
-use Rattle.report.specs.Trial.{Tries}
+use Rattle.bench.specs.Trials.{Tries}
 
--- what stands for the rounds
-unfoldable pub field : Rounds → List ℕ
-field (Settled n) = decimal n
-field Waiting = ascii "-"
-field (Refused number) = ascii "r" ++ decimal number
+-- what stands for n rounds, where the request is answered with a number; 12 says that something waits still
+unfoldable pub field : ℕ → ℕ → List ℕ
+field number n = cond (eqb number 0) (decimal n) (cond (eqb number 12) (ascii "-") (ascii "r" ++ decimal number))
 
 -- device, identifier, rounds, devices then holding the bit
-unfoldable pub line : ℕ → ℕ → Rounds → ℕ → List ℕ
-line d k rounds held = decimal d ++ ascii " " ++ decimal k ++ ascii " " ++ field rounds ++ ascii " " ++ decimal held ++ ascii "\n"
+unfoldable pub line : ℕ → ℕ → ℕ → ℕ → ℕ → List ℕ
+line d k number n held = decimal d ++ ascii " " ++ decimal k ++ ascii " " ++ field number n ++ ascii " " ++ decimal held ++ ascii "\n"
 
 -- the lines of the first places, by device then identifier; place 32 x d + k has one if device d is a source of k
 pub data Lines (plan : Plan) : ℕ → List ℕ → Type 0 where
   none : Lines plan 0 []
   pass : {i : ℕ} {text : List ℕ} → Lines plan i text → (bit (source plan (i / 32)) (i % 32) ≡ 1 → ⊥) → Lines plan (suc i) text
-  more : {i held : ℕ} {text : List ℕ} {rounds : Rounds} → Lines plan i text → bit (source plan (i / 32)) (i % 32) ≡ 1
-      → Tries plan (i / 32) (i % 32) rounds held → Lines plan (suc i) (text ++ line (i / 32) (i % 32) rounds held)
+  more : {i number n held : ℕ} {text : List ℕ} → Lines plan i text → bit (source plan (i / 32)) (i % 32) ≡ 1
+      → Tries plan (i / 32) (i % 32) number n held → Lines plan (suc i) (text ++ line (i / 32) (i % 32) number n held)
 
 unfoldable pub heading : ℕ → List ℕ
 heading n = ascii "network " ++ decimal n ++ ascii "\n"

@@ -5,15 +5,14 @@ use lib.ListN.{length}
 use Rattle.areas.specs.Put.{Puts}
 use Rattle.text.specs.Text.{ascii, decimal}
 use Rattle.plan.specs.declared.Plan.{Plan}
-use Rattle.report.specs.declared.trial.Rounds.{Rounds}
 use Rattle.report.specs.Report.{field, Lines, Prints, Areas, longest}
 
 abbrev pub lent : List ℕ → List ℕ → List ℕ → Areas
 lent state second text = record { state = state; second = second; text = text }
 
 -- the first three fields of a line
-unfoldable pub front : ℕ → ℕ → Rounds → List ℕ
-front d k rounds = decimal d ++ ascii " " ++ decimal k ++ ascii " " ++ field rounds
+unfoldable pub front : ℕ → ℕ → ℕ → ℕ → List ℕ
+front d k number n = decimal d ++ ascii " " ++ decimal k ++ ascii " " ++ field number n
 
 -- what place i adds to the lines of the places before it was put, and is at most 14 bytes long
 pub record PutsPlace (plan : Plan) (i : ℕ) (before : List ℕ) (at : ℕ) (after : List ℕ) (place : ℕ) : Type 0 where

@@ -8,7 +8,6 @@ ghost use Rattle.report.specs.Report.{Fits, Reports};
 ghost use Rattle.report.specs.Steps.{PutsText, lent};
 
 mod lines;
-mod trial;
 
 use bench::Answer;
 
@@ -59,6 +58,8 @@ fn put_text(file: &[u8], state: &mut [u32], second: &mut [u32], text: &mut [u8])
     }
     let plan = read.plan;
     let core = plan.core;
+    let mut found = [0u32; 3072];
+    bench::trials(plan, state, second, &mut found);
     let at = lines::put_heading(text, 0, core.devices as u32);
-    lines::put_lines(plan, state, second, text, at)
+    lines::put_lines(plan, &found, text, at)
 }

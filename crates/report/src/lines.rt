@@ -7,10 +7,9 @@ ghost use Rattle.areas.specs.Put.{Puts};
 ghost use Rattle.text.specs.Text.{decimal};
 ghost use Rattle.plan.specs.Reading.{Held};
 ghost use Rattle.bench.specs.Network.{devices};
+ghost use Rattle.bench.specs.Trials.{Finds};
 ghost use Rattle.report.specs.Report.{field, line, heading, bad};
 ghost use Rattle.report.specs.Steps.{front, PutsPlace, PutsLines};
-use crate::trial;
-use crate::trial::Rounds;
 use plan::Plan;
 
 // A number, and a word behind it.
@@ -42,51 +41,45 @@ pub(crate) fn put_bad(text: &mut [u8], at: usize, number: u32, block: u32) -> us
     put_then(text, second, block, b"\n")
 }
 
-fn put_field(text: &mut [u8], at: usize, rounds: Rounds) -> usize
-    requires { ⌜ at + length (field rounds) ≤ length (now text) ⌝ }
-    ensures { λ r. ⌜ Puts (now (text .entry)) at (field rounds) (now (text .exit)) r ⌝ }
+// What stands for the rounds, of which there are n, by what the request was answered with.
+fn put_field(text: &mut [u8], at: usize, number: u32, n: u32) -> usize
+    requires { ⌜ at + length (field number n) ≤ length (now text) ⌝ }
+    ensures { λ r. ⌜ Puts (now (text .entry)) at (field number n) (now (text .exit)) r ⌝ }
 {
-    match rounds {
-        Rounds::Settled(n) => text::put_number(text, at, n),
-        Rounds::Waiting => areas::put(text, at, b"-"),
-        Rounds::Refused(number) => {
-            let after = areas::put(text, at, b"r");
-            text::put_number(text, after, number)
-        }
+    if number == 0 {
+        return text::put_number(text, at, n);
     }
+    if number == 12 {
+        return areas::put(text, at, b"-");
+    }
+    let after = areas::put(text, at, b"r");
+    text::put_number(text, after, number)
 }
 
 // The first three fields of a line.
-fn put_front(text: &mut [u8], at: usize, d: u32, k: u32, rounds: Rounds) -> usize
-    requires { ⌜ at + length (front d k rounds) ≤ length (now text) ⌝ }
-    ensures { λ r. ⌜ Puts (now (text .entry)) at (front d k rounds) (now (text .exit)) r ⌝ }
+fn put_front(text: &mut [u8], at: usize, d: u32, k: u32, number: u32, n: u32) -> usize
+    requires { ⌜ at + length (front d k number n) ≤ length (now text) ⌝ }
+    ensures { λ r. ⌜ Puts (now (text .entry)) at (front d k number n) (now (text .exit)) r ⌝ }
 {
     let second = put_then(text, at, d, b" ");
     let third = put_then(text, second, k, b" ");
-    put_field(text, third, rounds)
+    put_field(text, third, number, n)
 }
 
 // The line of a source and an identifier.
-fn put_line(text: &mut [u8], at: usize, d: u32, k: u32, rounds: Rounds, held: u32) -> usize
-    requires { ⌜ at + length (line d k rounds held) ≤ length (now text) ⌝ }
-    ensures { λ r. ⌜ Puts (now (text .entry)) at (line d k rounds held) (now (text .exit)) r ⌝ }
+fn put_line(text: &mut [u8], at: usize, d: u32, k: u32, number: u32, n: u32, held: u32) -> usize
+    requires { ⌜ at + length (line d k number n held) ≤ length (now text) ⌝ }
+    ensures { λ r. ⌜ Puts (now (text .entry)) at (line d k number n held) (now (text .exit)) r ⌝ }
 {
-    let space = put_front(text, at, d, k, rounds);
+    let space = put_front(text, at, d, k, number, n);
     let last = areas::put(text, space, b" ");
     put_then(text, last, held, b"\n")
 }
 
-// The line of place i, which is device i / 32 and identifier i % 32; none where the device is no
-// source of it.
-fn put_place(
-    plan: Plan,
-    state: &mut [u32],
-    second: &mut [u32],
-    i: usize,
-    text: &mut [u8],
-    at: usize,
-) -> usize
-    requires { ⌜ Held plan × (length (now state) ≡ 2080) × (length (now second) ≡ 2080) × (i < 1024) × (at + 14 ≤ length (now text)) ⌝ }
+// The line of place i, which is device i / 32 and identifier i % 32, by what is found of it; none
+// where the device is no source of it.
+fn put_place(plan: Plan, found: &[u32], i: usize, text: &mut [u8], at: usize) -> usize
+    requires { ⌜ Held plan × Finds plan (now found) × (i < 1024) × (at + 14 ≤ length (now text)) ⌝ }
     ensures { λ r. ⌜ PutsPlace plan i (now (text .entry)) at (now (text .exit)) r ⌝ }
 {
     let core = plan.core;
@@ -95,26 +88,21 @@ fn put_place(
     if bits::get(core.source[d], k) != 1 {
         return at;
     }
-    let tried = trial::attempt(plan, state, second, d, k);
-    let rounds = tried.rounds;
-    put_line(text, at, d as u32, k, rounds, tried.held)
+    let number = found[3 * i];
+    let n = found[3 * i + 1];
+    let held = found[3 * i + 2];
+    put_line(text, at, d as u32, k, number, n, held)
 }
 
 // All lines, by device then identifier.
-pub(crate) fn put_lines(
-    plan: Plan,
-    state: &mut [u32],
-    second: &mut [u32],
-    text: &mut [u8],
-    at: usize,
-) -> usize
-    requires { ⌜ Held plan × (length (now state) ≡ 2080) × (length (now second) ≡ 2080) × (at + 14336 ≤ length (now text)) ⌝ }
+pub(crate) fn put_lines(plan: Plan, found: &[u32], text: &mut [u8], at: usize) -> usize
+    requires { ⌜ Held plan × Finds plan (now found) × (at + 14336 ≤ length (now text)) ⌝ }
     ensures { λ r. ⌜ PutsLines plan (32 * devices plan) (now (text .entry)) at (now (text .exit)) r ⌝ }
 {
     let core = plan.core;
     let mut end = at;
     for i in 0..32 * core.devices {
-        end = put_place(plan, state, second, i, text, end);
+        end = put_place(plan, found, i, text, end);
     }
     end
 }

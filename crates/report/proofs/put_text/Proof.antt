@@ -2,14 +2,14 @@ use native.Mathlib.Omega.{arith}
 use Rattle.areas.proofs.Puts.{same-size, next-place}
 use Rattle.plan.specs.Reading.{Held}
 use Rattle.plan.proofs.Round.{held-devices}
-use Rattle.report.proofs.Texts.{heading-short, bad-short, plan-held, network-text, refused-text}
+use Rattle.report.proofs.Texts.{heading-short, bad-short, plan-held, was-found, network-text, refused-text}
 use borrow.Author.Needs.{needs}
 use Rattle.report.proofs.put_text.Statement.{statement}
 use Rattle.report.proofs.put_text.Tie as tie
 
 -- the plan that was read is held
-held-then : (c : tie.After-struct-known2) → Held (c .before .before .before .before .before .before .read .result .plan)
-held-then c = plan-held _ (c .before .before .before .before .before .before .read .ensures) (c .before .before .before .before .if1 .left) (λ i. omega (arith, c .before .before .before .before .before .before .before .before .before .before .shared-slice-known .given i))
+held-then : (c : tie.Else1) → Held (c .before .before .read .result .plan)
+held-then c = plan-held _ (c .before .before .read .ensures) (c .if1 .left) (λ i. omega (arith, c .before .before .before .before .before .before .shared-slice-known .given i))
 
 read-requires : tie.Need-read-requires
 read-requires c κs = search needs
@@ -27,19 +27,28 @@ returns c =
     let r = c .before .before .before .before .before .before .read in
     refused-text _ (r .ensures) (c .before .before .before .before .if1 .taken) (omega arith) (omega arith) (c .before .before .put-bad .ensures)
 
+slice-aggregate-trials : tie.Need-slice-aggregate-trials
+slice-aggregate-trials c = search needs
+
+trials-requires : tie.Need-trials-requires
+trials-requires c κs = search needs
+
 cast-put-heading : tie.Need-cast-put-heading
-cast-put-heading c = omega (arith, held-devices _ (held-then c) .1)
+cast-put-heading c = omega (arith, held-devices _ (held-then (c .before .before .before .before .before .before .before .before .before .before .before .before .before)) .1)
 
 put-heading-requires : tie.Need-put-heading-requires
-put-heading-requires c κs = omega (arith, heading-short _ (held-devices _ (held-then c) .1), c .before .before .before .before .before .before .before .before .before .before .before .pre .2)
+put-heading-requires c κs = omega (arith, heading-short _ (held-devices _ (held-then (c .before .before .before .before .before .before .before .before .before .before .before .before .before)) .1), c .before .before .before .before .before .before .before .before .before .before .before .before .before .before .before .before .before .before .before .before .pre .2)
+
+slice-aggregate-put-lines : tie.Need-slice-aggregate-put-lines
+slice-aggregate-put-lines c = search needs
 
 put-lines-requires : tie.Need-put-lines-requires
 put-lines-requires c κs =
-    let a = c .before .before .before .before .before .before .before .before .before .before .before .before .before .before .before .before .before in
-    let h = c .before .before .before .before .before .put-heading .ensures in
-    let few = held-devices _ (held-then (c .before .before .before .before .before .before)) .1 in
-    let short = heading-short _ few in
-    (held-then (c .before .before .before .before .before .before), a .pre .0, a .pre .1, omega (arith, short, same-size h, next-place h (omega (arith, short, a .pre .2)), a .pre .2))
+    let a = c .before .before .before .before .before .before .before .before .before .before .before .before .before .before .before .before .before .before .before .before .before .before .before .before .before in
+    let held = held-then (c .before .before .before .before .before .before .before .before .before .before .before .before .before .before .before .before .before .before) in
+    let h = c .before .before .before .before .put-heading .ensures in
+    let short = heading-short _ (held-devices _ held .1) in
+    (held, was-found (c .before .before .before .before .before .before .before .before .before .before .before .before .trials .ensures) held (a .pre .0, a .pre .1, search needs), omega (arith, short, same-size h, next-place h (omega (arith, short, a .pre .2)), a .pre .2))
 
 same-length-2 : tie.Need-same-length-2
 same-length-2 c = search needs
@@ -52,8 +61,8 @@ same-length-4 c = search needs
 
 returns-2 : tie.Need-returns-2
 returns-2 c =
-    let a = c .before .before .before .before .before .before .before .before .before .before .before .before .before .before .before .before .before .before .before .before .before .before .before .before in
-    network-text _ (c .before .before .before .before .before .before .before .before .before .before .before .before .before .before .before .before .before .before .before .read .ensures) (c .before .before .before .before .before .before .before .before .before .before .before .before .before .before .before .before .before .if1 .left) (held-then (c .before .before .before .before .before .before .before .before .before .before .before .before .before)) (a .pre .2) (c .before .before .before .before .before .before .before .before .before .before .before .before .put-heading .ensures) (c .before .before .before .before .before .before .put-lines .ensures)
+    let b = c .before .before .before .before .before .before .before .before .before .before .before .before .before .before .before .before .before .before .before .before .before in
+    network-text _ (b .before .before .read .ensures) (b .if1 .left) (held-then b) (c .before .before .before .before .before .before .before .before .before .before .before .before .before .before .before .before .before .before .before .before .before .before .before .before .before .before .before .before .pre .2) (c .before .before .before .before .before .before .before .put-heading .ensures) (c .before .before .put-lines .ensures)
 
 pub put-text-spec : {M : Type 1} → statement M
 put-text-spec =
@@ -63,8 +72,11 @@ put-text-spec =
     put-bad-requires
     same-length
     returns
+    slice-aggregate-trials
+    trials-requires
     cast-put-heading
     put-heading-requires
+    slice-aggregate-put-lines
     put-lines-requires
     same-length-2
     same-length-3

@@ -11,7 +11,7 @@ put-then-requires : tie.Need-put-then-requires
 unfolding ascii
 put-then-requires c κs =
     let a = c .before .before .before in
-    first-room (front-parts (a .args .d) (a .args .k) (a .args .rounds)) (a .args .text .now) (a .args .at) (a .pre)
+    first-room (front-parts (a .args .d) (a .args .k) (a .args .number) (a .args .n)) (a .args .text .now) (a .args .at) (a .pre)
 
 slice-aggregate-put-then-2 : tie.Need-slice-aggregate-put-then-2
 slice-aggregate-put-then-2 c = search needs
@@ -20,13 +20,13 @@ put-then-requires-2 : tie.Need-put-then-requires-2
 unfolding ascii
 put-then-requires-2 c κs =
     let a = c .before .before .before .before .before .before .before .before in
-    second-room (front-parts (a .args .d) (a .args .k) (a .args .rounds)) (c .before .before .before .before .put-then .ensures) (a .pre)
+    second-room (front-parts (a .args .d) (a .args .k) (a .args .number) (a .args .n)) (c .before .before .before .before .put-then .ensures) (a .pre)
 
 put-field-requires : tie.Need-put-field-requires
 unfolding ascii
 put-field-requires c κs =
     let a = c .before .before .before .before .before .before .before .before .before .before .before .before in
-    third-room (front-parts (a .args .d) (a .args .k) (a .args .rounds)) (c .before .before .before .before .before .before .before .before .put-then .ensures) (a .pre) (c .before .before .before .put-then2 .ensures)
+    third-room (front-parts (a .args .d) (a .args .k) (a .args .number) (a .args .n)) (c .before .before .before .before .before .before .before .before .put-then .ensures) (a .pre) (c .before .before .before .put-then2 .ensures)
 
 same-length : tie.Need-same-length
 same-length c = search needs
@@ -35,7 +35,7 @@ returns : tie.Need-returns
 unfolding ascii
 returns c =
     let a = c .before .before .before .before .before .before .before .before .before .before .before .before .before .before .before in
-    three (front-parts (a .args .d) (a .args .k) (a .args .rounds)) (c .before .before .before .before .before .before .before .before .before .before .before .put-then .ensures) (a .pre) (c .before .before .before .before .before .before .put-then2 .ensures) (c .before .before .put-field .ensures)
+    three (front-parts (a .args .d) (a .args .k) (a .args .number) (a .args .n)) (c .before .before .before .before .before .before .before .before .before .before .before .put-then .ensures) (a .pre) (c .before .before .before .before .before .before .put-then2 .ensures) (c .before .before .put-field .ensures)
 
 pub put-front-spec : {M : Type 1} → statement M
 put-front-spec =

@@ -8,7 +8,7 @@ put-front-requires : tie.Need-put-front-requires
 unfolding ascii
 put-front-requires c κs =
     let a = c .before .before in
-    first-room (line-parts (a .args .d) (a .args .k) (a .args .rounds) (a .args .held)) (a .args .text .now) (a .args .at) (a .pre)
+    first-room (line-parts (a .args .d) (a .args .k) (a .args .number) (a .args .n) (a .args .held)) (a .args .text .now) (a .args .at) (a .pre)
 
 slice-aggregate-put : tie.Need-slice-aggregate-put
 slice-aggregate-put c = search needs
@@ -23,7 +23,7 @@ put-then-requires : tie.Need-put-then-requires
 unfolding ascii
 put-then-requires c κs =
     let a = c .before .before .before .before .before .before .before .before .before .before .before .before in
-    third-room (line-parts (a .args .d) (a .args .k) (a .args .rounds) (a .args .held)) (c .before .before .before .before .before .before .before .before .before .put-front .ensures) (a .pre) (c .before .before .before .before .put .ensures)
+    third-room (line-parts (a .args .d) (a .args .k) (a .args .number) (a .args .n) (a .args .held)) (c .before .before .before .before .before .before .before .before .before .put-front .ensures) (a .pre) (c .before .before .before .before .put .ensures)
 
 same-length : tie.Need-same-length
 same-length c = search needs
@@ -32,7 +32,7 @@ returns : tie.Need-returns
 unfolding ascii
 returns c =
     let a = c .before .before .before .before .before .before .before .before .before .before .before .before .before .before .before in
-    three (line-parts (a .args .d) (a .args .k) (a .args .rounds) (a .args .held)) (c .before .before .before .before .before .before .before .before .before .before .before .before .put-front .ensures) (a .pre) (c .before .before .before .before .before .before .before .put .ensures) (c .before .before .put-then .ensures)
+    three (line-parts (a .args .d) (a .args .k) (a .args .number) (a .args .n) (a .args .held)) (c .before .before .before .before .before .before .before .before .before .before .before .before .put-front .ensures) (a .pre) (c .before .before .before .before .before .before .before .put .ensures) (c .before .before .put-then .ensures)
 
 pub put-line-spec : {M : Type 1} → statement M
 put-line-spec =

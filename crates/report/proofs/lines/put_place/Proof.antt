@@ -21,30 +21,54 @@ get-requires c κs = search needs
 returns : tie.Need-returns
 returns c = place-passed _ _ _ _ (λ e. c .if1 .taken (c .before .get .ensures ∙ e))
 
-attempt-requires : tie.Need-attempt-requires
-attempt-requires c κs = search needs
+mul-number : tie.Need-mul-number
+mul-number c = search needs
+
+mul-number-2 : tie.Need-mul-number-2
+mul-number-2 c = search needs
+
+shared-slice-read-number : tie.Need-shared-slice-read-number
+shared-slice-read-number c = search needs
+
+mul-n : tie.Need-mul-n
+mul-n c = search needs
+
+add-n : tie.Need-add-n
+add-n c = search needs
+
+mul-n-2 : tie.Need-mul-n-2
+mul-n-2 c = search needs
+
+shared-slice-read-n : tie.Need-shared-slice-read-n
+shared-slice-read-n c = search needs
+
+mul-held : tie.Need-mul-held
+mul-held c = search needs
+
+add-held : tie.Need-add-held
+add-held c = search needs
+
+mul-held-2 : tie.Need-mul-held-2
+mul-held-2 c = search needs
+
+shared-slice-read-held : tie.Need-shared-slice-read-held
+shared-slice-read-held c = search needs
 
 cast-put-line : tie.Need-cast-put-line
 cast-put-line c = search needs
 
 put-line-requires : tie.Need-put-line-requires
 put-line-requires c κs =
-    let a = c .before .before .before .before .before .before .before .before .before .before .before .before .before .before .before in
-    omega (arith, a .pre .4, line-short (a .args .plan) (a .pre .0) (a .args .i / 32) (a .args .i % 32) (omega (arith, a .pre .3)) (omega arith) (c .before .before .before .before .before .attempt .ensures))
+    let a = c .before .before .before .before .before .before .before .before .before .before in
+    omega (arith, a .pre .3, line-short (a .args .plan) (a .pre .0) (a .args .i / 32) (a .args .i % 32) (omega (arith, a .pre .2)) (omega arith) (a .pre .1 .each (a .args .i) (a .pre .2)))
 
 same-length : tie.Need-same-length
 same-length c = search needs
 
-same-length-2 : tie.Need-same-length-2
-same-length-2 c = search needs
-
-same-length-3 : tie.Need-same-length-3
-same-length-3 c = search needs
-
 returns-2 : tie.Need-returns-2
 returns-2 c =
-    let a = c .before .before .before .before .before .before .before .before .before .before .before .before .before .before .before .before .before .before in
-    place-put (a .args .plan) (a .args .i) (a .pre .0) (a .pre .3) (sym (c .before .before .before .before .before .before .before .before .before .before .before .before .get .ensures) ∙ c .before .before .before .before .before .before .before .before .before .before .before .if1 .left) (c .before .before .before .before .before .before .before .before .attempt .ensures) (c .before .before .put-line .ensures)
+    let a = c .before .before .before .before .before .before .before .before .before .before .before .before .before in
+    place-put (a .args .plan) (a .args .i) (a .pre .0) (a .pre .2) (sym (c .before .before .before .before .before .before .before .before .get .ensures) ∙ c .before .before .before .before .before .before .before .if1 .left) (a .pre .1 .each (a .args .i) (a .pre .2)) (c .before .before .put-line .ensures)
 
 pub put-place-spec : {M : Type 1} → statement M
 put-place-spec =
@@ -55,10 +79,18 @@ put-place-spec =
     element-copy-out-get
     get-requires
     returns
-    attempt-requires
+    mul-number
+    mul-number-2
+    shared-slice-read-number
+    mul-n
+    add-n
+    mul-n-2
+    shared-slice-read-n
+    mul-held
+    add-held
+    mul-held-2
+    shared-slice-read-held
     cast-put-line
     put-line-requires
     same-length
-    same-length-2
-    same-length-3
     returns-2)
