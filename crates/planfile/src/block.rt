@@ -58,19 +58,18 @@ fn checked(block: &[u8]) -> bool
     two(block, 510) == check(block)
 }
 
-// Are the bytes from one on, up to 509, zero?
+// Are the bytes from one on, up to 509, zero? Their sum is, and several at a time are added, where a
+// search for one that is not would look at each.
 fn zeros_from(from: usize, block: &[u8]) -> bool
     requires { ⌜ from ≤ 510 ⌝ }
     requires { ⌜ length (now block) ≡ 512 ⌝ }
     ensures { λ r. ⌜ r ≡ zerosFrom from (now (block .entry)) ⌝ }
 {
-    let n = 510 - from;
-    for i in 0..n {
-        if block[from + i] != 0 {
-            return false;
-        }
+    let mut sum: u32 = 0;
+    for i in from..510 {
+        sum += narrow(block[i]);
     }
-    true
+    sum == 0
 }
 
 fn header_fits(block: &[u8]) -> bool

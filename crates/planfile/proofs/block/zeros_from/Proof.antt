@@ -1,37 +1,68 @@
-use mathlib.Core.Path.{sym}
-use Prim.Native.Nat.{_-_, _+_}
+-- `planfile::block::zeros_from` meets its contract. The invariant: the bytes before byte i, from one on, are zero exactly where their sum is. Assumes nothing.
+use mathlib.Core.Path.{_≡_, _∙_}
+use mathlib.Core.Bool.{_&&_}
+use mathlib.Core.List.{List}
+use Prim.Native.Nat.{ℕ, _+_, _-_, _*_, _≤_, _<_}
+use native.Mathlib.Decide.{ℕ-discrete}
+use native.Mathlib.Numerals.{add-one}
 use native.Mathlib.Omega.{arith}
 use lib.ListN.{getD}
 use lib.Dec.{eqb}
 use borrow.Author.Tests.{eq-eqb, ne-eqb}
 use borrow.Author.Needs.{needs}
-use Rattle.areas.proofs.Tests.{every-not}
+use Rattle.areas.specs.Table.{every}
 use Rattle.plan.specs.Fields.{zerosFrom}
-use Rattle.areas.proofs.Turns.{Passed, passed-none, passed-more, passed-all}
 use Rattle.planfile.proofs.block.zeros_from.Statement.{statement}
 use Rattle.planfile.proofs.block.zeros_from.Tie as tie
 
+-- a sum is zero where both parts are
+both-zero : (a b : ℕ) → eqb (a + b) 0 ≡ (eqb a 0 && eqb b 0)
+both-zero a b =
+    elim (ℕ-discrete a 0) [
+      | yes z ↦ let e : a + b ≡ b = omega arith in rw (e, eq-eqb a 0 z)
+      | no n ↦ rw (ne-eqb a 0 n) (ne-eqb (a + b) 0 (λ e. n (omega arith)))
+    ]
+
+record Summed (s : List ℕ) (from i sum : ℕ) : Type 0 where
+  begun : from ≤ i
+  within : i ≤ 510
+  small : sum ≤ 255 * i
+  says : eqb sum 0 ≡ every (i - from) (λ j. eqb (getD s (from + j) 0) 0)
+
+more : {s : List ℕ} {from i sum b : ℕ} → Summed s from i sum → i < 510 → b ≡ getD s i 0 → b < 256 → Summed s from (i + 1) (sum + b)
+unfolding every
+more {s} {from} {i} {sum} {b} v h e l =
+    let g = v .begun in
+    let next : i + 1 - from ≡ i - from + 1 = omega arith in
+    let here : from + (i - from) ≡ i = omega arith in
+    record {
+      begun = omega arith;
+      within = omega arith;
+      small = omega (arith, v .small);
+      says = both-zero sum b ∙ rw (next, add-one, v .says, here, e);
+    }
+
 abbrev Inv-loop : tie.InvT-loop
-Inv-loop from block n i₀ i = Passed (510 - from) (λ k. eqb (getD block (from + k) 0) 0) i
+Inv-loop from block sum₀ i₀ sum i = Summed block from i sum
 
 abbrev μ-loop : tie.MeasureT-loop
-μ-loop from block n i₀ i = n - i
-
-sub-n : tie.Need-sub-n Inv-loop μ-loop
-sub-n c = search needs
+μ-loop from block sum₀ i₀ sum i = 510 - i
 
 loop-holds : tie.Need-loop-holds Inv-loop μ-loop
-loop-holds c = passed-none _ _
+unfolding every
+loop-holds c =
+    let from = c .before .args .from in
+    let none : from - from ≡ 0 = omega arith in
+    record { begun = omega arith; within = omega arith; small = omega arith; says = rw none }
 
-add-if1 : tie.Need-add-if1 Inv-loop μ-loop
-add-if1 c = search needs
+shared-slice-read-narrow : tie.Need-shared-slice-read-narrow Inv-loop μ-loop
+shared-slice-read-narrow c = search needs
 
-shared-slice-read-if1 : tie.Need-shared-slice-read-if1 Inv-loop μ-loop
-shared-slice-read-if1 c = search needs
+narrow-requires : tie.Need-narrow-requires Inv-loop μ-loop
+narrow-requires c κs = search needs
 
-returns : tie.Need-returns Inv-loop μ-loop
-unfolding zerosFrom
-returns c = sym (every-not _ _ (c .before .before .before .loop .i) (c .before .before .loop-test .taken) (ne-eqb _ _ (c .if1 .taken)))
+add-sum : tie.Need-add-sum Inv-loop μ-loop
+add-sum c = search needs
 
 add-i : tie.Need-add-i Inv-loop μ-loop
 add-i c = search needs
@@ -40,11 +71,14 @@ loop-less : tie.Need-loop-less Inv-loop μ-loop
 loop-less c = search needs
 
 loop-again : tie.Need-loop-again Inv-loop μ-loop
-loop-again c = passed-more (c .before .before .before .loop .inv) (omega arith) (eq-eqb _ _ (c .if1 .left))
+loop-again c = more (c .before .before .before .loop .inv) (omega arith) (c .narrow .ensures .0) (c .narrow .ensures .1)
 
-returns-2 : tie.Need-returns-2 Inv-loop μ-loop
+returns : tie.Need-returns Inv-loop μ-loop
 unfolding zerosFrom
-returns-2 c = sym (passed-all (c .before .loop .inv) (c .loop-test .left))
+returns c =
+    let v = c .before .loop .inv in
+    let e : c .before .loop .i ≡ 510 = omega (arith, v .within) in
+    rw e at (v .says)
 
 pub zeros-from-spec : {M : Type 1} → statement M
 zeros-from-spec =
@@ -52,12 +86,11 @@ zeros-from-spec =
     (tie.spec
     Inv-loop
     μ-loop
-    sub-n
     loop-holds
-    add-if1
-    shared-slice-read-if1
-    returns
+    shared-slice-read-narrow
+    narrow-requires
+    add-sum
     add-i
     loop-less
     loop-again
-    returns-2)
+    returns)
