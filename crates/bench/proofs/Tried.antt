@@ -23,7 +23,7 @@ use Rattle.bench.specs.Calls.{started, called, resetAsks}
 use Rattle.bench.specs.Settling.{rounds, Quiet, Least, Pair, settleAsks, after, Settles}
 use Rattle.bench.specs.Trials.{holders, allowance, requested, Answered, heldAfter, Tries, refused, settled, waiting, FoundAt, Finds, Lent, Fits, TriesAll}
 use Rattle.bench.specs.Telling.{pair}
-use Rattle.bench.specs.Steps.{ownAsks, sendAsks, lent}
+use Rattle.bench.specs.Steps.{ownAsks, placeAsks, sendAsks, lent}
 use Rattle.bench.proofs.Asked.{call-foreign, call-answered}
 use Rattle.bench.proofs.Started.{started-sound}
 use Rattle.bench.proofs.Called.{call-sound}
@@ -47,80 +47,83 @@ same : {plan : Plan} {d k a b c x y z : ℕ} → Tries plan d k a b c → a ≡ 
 same {plan} {d} {k} {a} {b} {y = y} {z = z} t p q r =
     subst (λ n. Tries plan d k n y z) p (subst (λ n. Tries plan d k a n z) q (subst (λ n. Tries plan d k a b n) r t))
 
+-- what the plan says of a place
+pub place-own : (n d mask k : ℕ) → Ordered (placeAsks n d mask k) 0 → (d < n) × Ordered (ownAsks mask k) 0
+place-own n d mask k (inl p) = absurd (omega (arith, p .1))
+place-own n d mask k (inr p) = p
+
 module _ (plan : Plan) (held : Held plan) (d k : ℕ) where
-  -- the plan lacks the device
-  pub is-absent : (d < devices plan → ⊥) → Tries plan d k 4 0 0
-  is-absent n = refused (inr (held, inr (started-sound plan held, inl (n, refl)))) (λ z. omega arith)
+  begins : d < devices plan → Holds (resetAsks plan d (started plan))
+  begins there = (held, (started-sound plan held, (there, tt)))
 
-  module _ (there : d < devices plan) where
-    begins : Holds (resetAsks plan d (started plan))
-    begins = (held, (started-sound plan held, (there, tt)))
+  -- the plan lacks the device, or it is no source
+  pub is-foreign : (number : ℕ) → Ordered (placeAsks (devices plan) d (source plan d) k) number → (number ≡ 0 → ⊥) → Tries plan d k number 0 0
+  is-foreign number (inl p) z = refused (inr (held, inr (started-sound plan held, inl p))) z
+  is-foreign number (inr (there, o)) z = refused (call-foreign plan d (started plan) 0 k (begins there) refl o z) z
 
-    module _ {first : ℕ} (o : Ordered (ownAsks (source plan d) k) first) where
-      -- it is no source
-      pub is-foreign : (first ≡ 0 → ⊥) → Tries plan d k first 0 0
-      is-foreign z = refused (call-foreign plan d (started plan) 0 k begins refl o z) z
+  module _ (own : Ordered (placeAsks (devices plan) d (source plan d) k) 0) where
+    mine : (d < devices plan) × Ordered (ownAsks (source plan d) k) 0
+    mine = place-own (devices plan) d (source plan d) k own
 
-      module _ (z : first ≡ 0) where
-        pub is-small : k < 32
-        is-small = holds (ownAsks (source plan d) k) refl o z .0
+    pub is-small : k < 32
+    is-small = holds (ownAsks (source plan d) k) refl (mine .1) refl .0
 
-        module _ {s : State} {number : ℕ} (begun : s ≡ started plan) (a : Ordered (sendAsks (plan .core .permissions) 0 d k s) number) where
-          answered : Answered plan d k number
-          answered =
-              call-answered plan d (started plan) 0 k begins refl o z
-              (subst (λ (x : State). Ordered (sendAsks (plan .core .permissions) 0 d k x) number) begun a)
+    module _ {s : State} {number : ℕ} (begun : s ≡ started plan) (a : Ordered (sendAsks (plan .core .permissions) 0 d k s) number) where
+      answered : Answered plan d k number
+      answered =
+          call-answered plan d (started plan) 0 k (begins (mine .0)) refl (mine .1) refl
+          (subst (λ (x : State). Ordered (sendAsks (plan .core .permissions) 0 d k x) number) begun a)
 
-          pub is-refused : (number ≡ 0 → ⊥) → Tries plan d k number 0 0
-          is-refused n = refused answered n
+      pub is-refused : (number ≡ 0 → ⊥) → Tries plan d k number 0 0
+      is-refused n = refused answered n
 
-          module _ (y : number ≡ 0) {t : State} (e : t ≡ called plan 0 d k s) where
-            taken : Answered plan d k 0
-            taken = subst (Answered plan d k) y answered
+      module _ (y : number ≡ 0) {t : State} (e : t ≡ called plan 0 d k s) where
+        taken : Answered plan d k 0
+        taken = subst (Answered plan d k) y answered
 
-            asked : t ≡ requested plan d k
-            asked = e ∙ ap (called plan 0 d k) begun
+        asked : t ≡ requested plan d k
+        asked = e ∙ ap (called plan 0 d k) begun
 
-            sound : Sound plan (requested plan d k)
-            sound = call-sound plan held (started plan) (started-sound plan held) 0 d k (omega arith) there is-small
+        sound : Sound plan (requested plan d k)
+        sound = call-sound plan held (started plan) (started-sound plan held) 0 d k (omega arith) (mine .0) is-small
 
-            pub is-sound : Sound plan t
-            is-sound = subst (Sound plan) (sym asked) sound
+        pub is-sound : Sound plan t
+        is-sound = subst (Sound plan) (sym asked) sound
 
-            -- it settles, or waits on
-            module _ {second : List ℕ} {n v count : ℕ} {u w : State} (long : length second ≡ 2080) (r : Settles plan (pair t second) allowance n v (pair u w)) (h : count ≡ holders (devices plan) k u) where
-              asks : Ordered (settleAsks plan (pair (requested plan d k) second) allowance) n
-              asks = subst (λ (x : State). Ordered (settleAsks plan (pair x second) allowance) n) asked (r .answers)
+        -- it settles, or waits on
+        module _ {second : List ℕ} {n v count : ℕ} {u w : State} (long : length second ≡ 2080) (r : Settles plan (pair t second) allowance n v (pair u w)) (h : count ≡ holders (devices plan) k u) where
+          asks : Ordered (settleAsks plan (pair (requested plan d k) second) allowance) n
+          asks = subst (λ (x : State). Ordered (settleAsks plan (pair x second) allowance) n) asked (r .answers)
 
-              rest : Ordered (settleAsks plan (pair (requested plan d k) second) allowance) n
-                  → ((n ≡ 12) × ((m : ℕ) → m ≤ allowance → Quiet (rounds plan m (requested plan d k)) → ⊥))
-                  ⊎ ((n ≡ 0) × ((m : ℕ) × (m ≤ allowance) × Quiet (rounds plan m (requested plan d k))))
-              rest (inl p) = absurd (p .0 held)
-              rest (inr (_, inl p)) = absurd (p .0 sound)
-              rest (inr (_, inr (_, inl p))) = absurd (p .0 long)
-              rest (inr (_, inr (_, inr (_, inl p)))) = absurd (p .0 (omega arith))
-              rest (inr (_, inr (_, inr (_, inr (_, inl p))))) = inl (p .1, λ m l q. p .0 (m, l, q))
-              rest (inr (_, inr (_, inr (_, inr (_, inr (p, z)))))) = inr (z, p)
+          rest : Ordered (settleAsks plan (pair (requested plan d k) second) allowance) n
+              → ((n ≡ 12) × ((m : ℕ) → m ≤ allowance → Quiet (rounds plan m (requested plan d k)) → ⊥))
+              ⊎ ((n ≡ 0) × ((m : ℕ) × (m ≤ allowance) × Quiet (rounds plan m (requested plan d k))))
+          rest (inl p) = absurd (p .0 held)
+          rest (inr (_, inl p)) = absurd (p .0 sound)
+          rest (inr (_, inr (_, inl p))) = absurd (p .0 long)
+          rest (inr (_, inr (_, inr (_, inl p)))) = absurd (p .0 (omega arith))
+          rest (inr (_, inr (_, inr (_, inr (_, inl p))))) = inl (p .1, λ m l q. p .0 (m, l, q))
+          rest (inr (_, inr (_, inr (_, inr (_, inr (p, z)))))) = inr (z, p)
 
-              -- the devices that are counted are those after as many rounds
-              counted : (m : ℕ) → pair u w ≡ after plan t m → heldAfter plan d k m ≡ count
-              counted m g = sym (h ∙ ap (holders (devices plan) k) (ap (λ (x : Pair). x .state) g ∙ ap (rounds plan m) asked))
+          -- the devices that are counted are those after as many rounds
+          counted : (m : ℕ) → pair u w ≡ after plan t m → heldAfter plan d k m ≡ count
+          counted m g = sym (h ∙ ap (holders (devices plan) k) (ap (λ (x : Pair). x .state) g ∙ ap (rounds plan m) asked))
 
-              -- no later than some round at which nothing waits
-              in-time : (m : ℕ) → Quiet (rounds plan m (requested plan d k)) → Least plan (requested plan d k) v → v ≤ m
-              in-time m q l = dite (decLe v m) (λ h. h) (λ h. absurd (l .least m (omega arith) q))
+          -- no later than some round at which nothing waits
+          in-time : (m : ℕ) → Quiet (rounds plan m (requested plan d k)) → Least plan (requested plan d k) v → v ≤ m
+          in-time m q l = dite (decLe v m) (λ h. h) (λ h. absurd (l .least m (omega arith) q))
 
-              pub is-tried : Tries plan d k n v count
-              is-tried =
-                  elim (rest asks) [
-                    | inl p ↦
-                        let x = r .still (p .0) in same (waiting taken (p .1)) (sym (p .0)) (sym (x .0)) (counted allowance (x .1))
-                    | inr p ↦
-                        let x = r .made (p .0) in
-                        let l = subst (λ (s : State). Least plan s v) asked (x .0) in
-                        let before = in-time (p .1 .0) (p .1 .2) l in
-                        same (settled taken (omega (arith, before, p .1 .1)) l) (sym (p .0)) refl (counted v (x .1))
-                  ]
+          pub is-tried : Tries plan d k n v count
+          is-tried =
+              elim (rest asks) [
+                | inl p ↦
+                    let x = r .still (p .0) in same (waiting taken (p .1)) (sym (p .0)) (sym (x .0)) (counted allowance (x .1))
+                | inr p ↦
+                    let x = r .made (p .0) in
+                    let l = subst (λ (s : State). Least plan s v) asked (x .0) in
+                    let before = in-time (p .1 .0) (p .1 .2) l in
+                    same (settled taken (omega (arith, before, p .1 .1)) l) (sym (p .0)) refl (counted v (x .1))
+              ]
 
 -- ---- the places, one after the other
 

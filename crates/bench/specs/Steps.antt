@@ -85,6 +85,10 @@ firstWord peers i = cond (leb 1056 i && eqb (i % 4) 3 && not (eqb (peerIn peers 
 abbrev pub ownAsks : ℕ → ℕ → List Condition
 ownAsks mask k = ask 5 (k < 32) ∷ ask 6 (bit mask k ≡ 1) ∷ []
 
+-- and before them by the device, which has to be one of n
+abbrev pub placeAsks : ℕ → ℕ → ℕ → ℕ → List Condition
+placeAsks n d mask k = ask 4 (d < n) ∷ ownAsks mask k
+
 -- by the state of its device
 abbrev pub sendAsks : List ℕ → ℕ → ℕ → ℕ → State → List Condition
 sendAsks permissions kind d k s =

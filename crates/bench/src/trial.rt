@@ -2,10 +2,11 @@
 // settles. The plan is checked once for all of them, and no state is, since each is made here.
 ghost use mathlib.Core.Path.{_≡_};
 ghost use Prim.Native.Nat.{_≤_, _<_};
-ghost use lib.ListN.{length};
+ghost use lib.ListN.{length, getD};
 ghost use Rattle.answers.specs.Decides.{Decides};
+ghost use Rattle.answers.specs.Ordered.{Ordered};
 ghost use Rattle.plan.specs.Reading.{Held};
-ghost use Rattle.bench.specs.Steps.{lent};
+ghost use Rattle.bench.specs.Steps.{placeAsks, lent};
 ghost use Rattle.bench.specs.Trials.{holders as Trials·holders, Tries, Finds, Fits as Trials·Fits, TriesAll};
 use crate::DEVICE;
 use crate::calls;
@@ -47,8 +48,18 @@ fn refused(number: u32) -> Tried
     }
 }
 
-// One device and one identifier. Most places are refused by what the plan says, before a state is
-// written.
+// What the plan alone refuses a request with, or 0: of n devices the one of this number, by its
+// sources.
+fn foreign(n: usize, d: usize, source: u32, k: u32) -> u32
+    ensures { λ r. ⌜ Ordered (placeAsks n d source k) r ⌝ }
+{
+    if n <= d {
+        return 4;
+    }
+    calls::own_refusal(source, k)
+}
+
+// A source and one of its identifiers.
 fn attempt(
     core: Core,
     peers: [[u16; 8]; 32],
@@ -57,16 +68,9 @@ fn attempt(
     d: usize,
     k: u32,
 ) -> Tried
-    requires { ⌜ Held (record { core = core; peers = peers }) × (length (now state) ≡ 2080) × (length (now second) ≡ 2080) × (d < 32) ⌝ }
+    requires { ⌜ Held (record { core = core; peers = peers }) × (length (now state) ≡ 2080) × (length (now second) ≡ 2080) × (d < 32) × Ordered (placeAsks (core .devices) d (getD (core .source) d 0) k) 0 ⌝ }
     ensures { λ r. ⌜ Tries (record { core = core; peers = peers }) d k (r .number) (r .rounds) (r .held) ⌝ }
 {
-    if core.devices <= d {
-        return refused(4);
-    }
-    let own = calls::own_refusal(core.source[d], k);
-    if own != 0 {
-        return refused(own);
-    }
     state::write_first(&peers, state);
     let number = calls::send_refusal(state, &core.permissions, d, 0, k);
     if number != 0 {
@@ -82,7 +86,8 @@ fn attempt(
     }
 }
 
-// All places, with no checks.
+// All places, with no checks. Most are refused by what the plan says, before anything is copied or
+// written.
 fn try_all(
     core: Core,
     peers: [[u16; 8]; 32],
@@ -94,7 +99,12 @@ fn try_all(
     ensures { λ _. ⌜ Finds (record { core = core; peers = peers }) (now (found .exit)) ⌝ }
 {
     for i in 0..1024 {
-        let tried = attempt(core, peers, state, second, i / 32, (i % 32) as u32);
+        let d = i / 32;
+        let k = (i % 32) as u32;
+        let mut tried = refused(foreign(core.devices, d, core.source[d], k));
+        if tried.number == 0 {
+            tried = attempt(core, peers, state, second, d, k);
+        }
         found[3 * i] = tried.number;
         found[3 * i + 1] = tried.rounds;
         found[3 * i + 2] = tried.held;

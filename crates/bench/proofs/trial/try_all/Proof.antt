@@ -1,10 +1,15 @@
-use mathlib.Core.Path.{_≡_, _∙_}
+use mathlib.Core.Path.{_≡_, sym, ap, subst, _∙_}
+use mathlib.Core.Logic.{⊎-elim}
 use mathlib.Core.List.{List}
-use Prim.Native.Nat.{ℕ, _-_, _≤_}
+use Prim.Native.Nat.{ℕ, _+_, _-_, _*_, _/_, _%_, _≤_, _<_}
 use native.Mathlib.Omega.{arith}
-use lib.ListN.{length, length-set}
+use lib.ListN.{length, getD, set, length-set}
+use Rattle.answers.specs.Ordered.{Condition, Ordered}
 use Rattle.plan.specs.declared.Plan.{Plan}
-use Rattle.bench.proofs.Tried.{Found, found-none, found-more, found-all}
+use Rattle.bench.specs.Steps.{placeAsks}
+use Rattle.bench.specs.Trials.{Tries}
+use Rattle.bench.specs.declared.trial.Tried.{Tried}
+use Rattle.bench.proofs.Tried.{is-foreign, Found, found-none, found-more, found-all}
 use borrow.Author.Needs.{needs}
 use Rattle.bench.proofs.trial.try_all.Statement.{statement}
 use Rattle.bench.proofs.trial.try_all.Tie as tie
@@ -16,24 +21,53 @@ record Going (plan : Plan) (i : ℕ) (state second found : List ℕ) : Type 0 wh
   long : length state ≡ 2080
   long-second : length second ≡ 2080
 
+-- one place more
+goes-on : {plan : Plan} {i : ℕ} {state second found after after-second : List ℕ} {t : Tried} → Going plan i state second found → i < 1024
+    → Tries plan (i / 32) (i % 32) (t .number) (t .rounds) (t .held) → length after ≡ length state → length after-second ≡ length second
+    → Going plan (i + 1) after after-second (set (set (set found (3 * i) (t .number)) (3 * i + 1) (t .rounds)) (3 * i + 2) (t .held))
+goes-on v l t p q =
+    record { within = omega arith; so-far = found-more (v .so-far) l t; long = p ∙ v .long; long-second = q ∙ v .long-second }
+
+as-tried : {plan : Plan} {d k : ℕ} {t u : Tried} → t ≡ u → Tries plan d k (u .number) (u .rounds) (u .held) → Tries plan d k (t .number) (t .rounds) (t .held)
+as-tried {plan} {d} {k} e x = subst (λ (t : Tried). Tries plan d k (t .number) (t .rounds) (t .held)) (sym e) x
+
+-- the plan alone refuses nothing
+answered-none : (asks : List Condition) {r : Tried} {number : ℕ} → r ≡ record { number = number; rounds = 0; held = 0 } → r .number ≡ 0 → Ordered asks number → Ordered asks 0
+answered-none asks e z o = subst (Ordered asks) (sym (ap (λ (t : Tried). t .number) e) ∙ z) o
+
 abbrev Inv-loop : tie.InvT-loop
-Inv-loop core peers state₀ second₀ found₀ i₀ state second found i = Going (record { core = core; peers = peers }) i state second found
+Inv-loop peers state₀ second₀ found₀ core i₀ state second found i = Going (record { core = core; peers = peers }) i state second found
 
 abbrev μ-loop : tie.MeasureT-loop
-μ-loop core peers state₀ second₀ found₀ i₀ state second found i = 1024 - i
+μ-loop peers state₀ second₀ found₀ core i₀ state second found i = 1024 - i
 
 loop-holds : tie.Need-loop-holds Inv-loop μ-loop
 loop-holds c =
     let p = c .before .before .before .pre in
     record { within = omega arith; so-far = found-none (p .3); long = p .1; long-second = p .2 }
 
-cast-attempt : tie.Need-cast-attempt Inv-loop μ-loop
-cast-attempt c = search needs
+cast-k : tie.Need-cast-k Inv-loop μ-loop
+cast-k c = search needs
+
+mul-foreign : tie.Need-mul-foreign Inv-loop μ-loop
+mul-foreign c = search needs
+
+element-copy-out-foreign : tie.Need-element-copy-out-foreign Inv-loop μ-loop
+element-copy-out-foreign c = search needs
+
+foreign-requires : tie.Need-foreign-requires Inv-loop μ-loop
+foreign-requires c κs = search needs
+
+refused-requires : tie.Need-refused-requires Inv-loop μ-loop
+refused-requires c κs = search needs
 
 attempt-requires : tie.Need-attempt-requires Inv-loop μ-loop
 attempt-requires c κs =
-    let v = c .before .before .before .loop .inv in
-    (c .before .before .before .before .before .before .before .pre .0, v .long, v .long-second, omega arith)
+    let l = c .before .before .before .before .before .before .before .before .loop in
+    let s = c .before .before .before .before .before .before .before .before .before .before .before .before in
+    let core = s .args .t1 in
+    let asks = placeAsks (core .devices) (l .i / 32) (getD (core .source) (l .i / 32) 0) (l .i % 32) in
+    (s .pre .0, l .inv .long, l .inv .long-second, omega arith, answered-none asks (c .before .before .before .before .refused .ensures) (c .before .before .if1 .taken) (c .before .before .before .before .before .foreign .ensures))
 
 mul-found : tie.Need-mul-found Inv-loop μ-loop
 mul-found c = search needs
@@ -54,7 +88,7 @@ mul-found-4 : tie.Need-mul-found-4 Inv-loop μ-loop
 mul-found-4 c = search needs
 
 slice-write-found-2 : tie.Need-slice-write-found-2 Inv-loop μ-loop
-slice-write-found-2 c = simp length-set (omega (arith, c .before .before .before .before .before .before .before .before .loop .inv .so-far .size))
+slice-write-found-2 c = simp length-set (omega (arith, c .before .before .before .before .before .before .loop .inv .so-far .size))
 
 mul-found-5 : tie.Need-mul-found-5 Inv-loop μ-loop
 mul-found-5 c = search needs
@@ -66,7 +100,7 @@ mul-found-6 : tie.Need-mul-found-6 Inv-loop μ-loop
 mul-found-6 c = search needs
 
 slice-write-found-3 : tie.Need-slice-write-found-3 Inv-loop μ-loop
-slice-write-found-3 c = simp length-set (omega (arith, c .before .before .before .before .before .before .before .before .loop .inv .so-far .size))
+slice-write-found-3 c = simp length-set (omega (arith, c .before .before .before .before .before .before .loop .inv .so-far .size))
 
 add-i : tie.Need-add-i Inv-loop μ-loop
 add-i c = search needs
@@ -76,14 +110,14 @@ loop-less c = search needs
 
 loop-again : tie.Need-loop-again Inv-loop μ-loop
 loop-again c =
-    let v = c .before .before .before .before .before .before .before .before .loop .inv in
-    let a = c .before .before .before .before .attempt in
-    record {
-      within = omega arith;
-      so-far = found-more (v .so-far) (c .before .before .before .before .before .before .before .loop-test .taken) (a .ensures);
-      long = a .kept .1 .1 .0 ∙ v .long;
-      long-second = a .kept .1 .1 .1 .0 ∙ v .long-second;
-    }
+    let l = c .before .before .before .before .before .before .loop in
+    let f = c .before .before .before .foreign .ensures in
+    let e = c .before .before .refused .ensures in
+    let h = c .before .before .before .before .before .before .before .before .before .before .pre .0 in
+    ⊎-elim
+    (λ w. goes-on (l .inv) (omega arith) (as-tried (w .10) (w .3 .ensures)) (ap length (w .8) ∙ w .3 .kept .1 .1 .0) (ap length (w .9) ∙ w .3 .kept .1 .1 .1 .0))
+    (λ w. goes-on (l .inv) (omega arith) (as-tried (w .3 ∙ e) (is-foreign _ h _ _ _ f (λ z. w .0 .left (ap (λ (t : Tried). t .number) e ∙ z)))) (ap length (w .1)) (ap length (w .2)))
+    (c .if1 .came)
 
 same-length : tie.Need-same-length Inv-loop μ-loop
 same-length c = search needs
@@ -104,7 +138,11 @@ try-all-spec =
     Inv-loop
     μ-loop
     loop-holds
-    cast-attempt
+    cast-k
+    mul-foreign
+    element-copy-out-foreign
+    foreign-requires
+    refused-requires
     attempt-requires
     mul-found
     mul-found-2
