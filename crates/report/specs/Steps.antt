@@ -1,11 +1,11 @@
 -- No rules: what private functions promise. Nothing here has to be believed.
 use mathlib.Core.List.{List, _++_}
-use Prim.Native.Nat.{ℕ, _+_, _*_, _≤_}
-use lib.ListN.{length}
+use Prim.Native.Nat.{ℕ, _+_, _*_, _/_, _%_, _≤_}
+use lib.ListN.{length, getD}
 use Rattle.areas.specs.Put.{Puts}
 use Rattle.text.specs.Text.{ascii, decimal}
 use Rattle.plan.specs.declared.Plan.{Plan}
-use Rattle.report.specs.Report.{field, Lines, Prints, Areas, longest}
+use Rattle.report.specs.Report.{field, line, Lines, Prints, Areas, longest}
 
 abbrev pub lent : List ℕ → List ℕ → List ℕ → Areas
 lent state second text = record { state = state; second = second; text = text }
@@ -13,6 +13,10 @@ lent state second text = record { state = state; second = second; text = text }
 -- the first three fields of a line
 unfoldable pub front : ℕ → ℕ → ℕ → ℕ → List ℕ
 front d k number n = decimal d ++ ascii " " ++ decimal k ++ ascii " " ++ field number n
+
+-- the line of place i, by the table of what is found
+abbrev pub lineAt : List ℕ → ℕ → List ℕ
+lineAt found i = line (i / 32) (i % 32) (getD found (3 * i) 0) (getD found (3 * i + 1) 0) (getD found (3 * i + 2) 0)
 
 -- what place i adds to the lines of the places before it was put, and is at most 14 bytes long
 pub record PutsPlace (plan : Plan) (i : ℕ) (before : List ℕ) (at : ℕ) (after : List ℕ) (place : ℕ) : Type 0 where

@@ -9,7 +9,7 @@ ghost use Rattle.plan.specs.Reading.{Held};
 ghost use Rattle.bench.specs.Network.{devices};
 ghost use Rattle.bench.specs.Trials.{Finds};
 ghost use Rattle.report.specs.Report.{field, line, heading, bad};
-ghost use Rattle.report.specs.Steps.{front, PutsPlace, PutsLines};
+ghost use Rattle.report.specs.Steps.{front, lineAt, PutsLines};
 use plan::Plan;
 
 // A number, and a word behind it.
@@ -76,25 +76,19 @@ fn put_line(text: &mut [u8], at: usize, d: u32, k: u32, number: u32, n: u32, hel
     put_then(text, last, held, b"\n")
 }
 
-// The line of place i, which is device i / 32 and identifier i % 32, by what is found of it; none
-// where the device is no source of it.
-fn put_place(plan: Plan, found: &[u32], i: usize, text: &mut [u8], at: usize) -> usize
-    requires { ⌜ Held plan × Finds plan (now found) × (i < 1024) × (at + 14 ≤ length (now text)) ⌝ }
-    ensures { λ r. ⌜ PutsPlace plan i (now (text .entry)) at (now (text .exit)) r ⌝ }
+// The line of place i, which is device i / 32 and identifier i % 32, by what is found of it.
+fn put_place(found: &[u32], i: usize, text: &mut [u8], at: usize) -> usize
+    requires { ⌜ (i < 1024) × (length (now found) ≡ 3072) × (at + length (lineAt (now found) i) ≤ length (now text)) ⌝ }
+    ensures { λ r. ⌜ Puts (now (text .entry)) at (lineAt (now (found .entry)) i) (now (text .exit)) r ⌝ }
 {
-    let core = plan.core;
-    let d = i / 32;
-    let k = (i % 32) as u32;
-    if bits::get(core.source[d], k) != 1 {
-        return at;
-    }
     let number = found[3 * i];
     let n = found[3 * i + 1];
     let held = found[3 * i + 2];
-    put_line(text, at, d as u32, k, number, n, held)
+    put_line(text, at, (i / 32) as u32, (i % 32) as u32, number, n, held)
 }
 
-// All lines, by device then identifier.
+// All lines, by device then identifier; a place has one where its device is a source of its
+// identifier.
 pub(crate) fn put_lines(plan: Plan, found: &[u32], text: &mut [u8], at: usize) -> usize
     requires { ⌜ Held plan × Finds plan (now found) × (at + 14336 ≤ length (now text)) ⌝ }
     ensures { λ r. ⌜ PutsLines plan (32 * devices plan) (now (text .entry)) at (now (text .exit)) r ⌝ }
@@ -102,7 +96,9 @@ pub(crate) fn put_lines(plan: Plan, found: &[u32], text: &mut [u8], at: usize) -
     let core = plan.core;
     let mut end = at;
     for i in 0..32 * core.devices {
-        end = put_place(plan, found, i, text, end);
+        if bits::get(core.source[i / 32], (i % 32) as u32) == 1 {
+            end = put_place(found, i, text, end);
+        }
     }
     end
 }

@@ -1,70 +1,97 @@
-use mathlib.Core.Path.{_≡_, refl, _∙_}
+use mathlib.Core.Path.{_≡_, refl, sym, ap, _∙_, subst}
 use mathlib.Core.List.{List}
-use Prim.Native.Nat.{ℕ, _-_, _*_, _≤_, _<_}
+use mathlib.Core.Logic.{⊎-elim}
+use Prim.Native.Nat.{ℕ, _+_, _-_, _*_, _/_, _%_, _≤_, _<_}
 use native.Mathlib.Omega.{arith}
 use lib.ListN.{length}
 use Rattle.areas.proofs.Puts.{same-size}
+use Rattle.plan.specs.Reading.{Held}
 use Rattle.plan.specs.declared.Plan.{Plan}
-use Rattle.bench.specs.Network.{devices}
 use Rattle.plan.proofs.Round.{held-devices}
+use Rattle.bench.specs.Trials.{Finds}
 use Rattle.report.specs.Steps.{PutsLines}
-use Rattle.report.proofs.Short.{lines-none, lines-more, lines-room, lines-done}
+use Rattle.report.proofs.Short.{line-short, place-passed, place-put, lines-none, lines-more, lines-room, lines-done}
 use borrow.Author.Needs.{needs}
 use Rattle.report.proofs.lines.put_lines.Statement.{statement}
 use Rattle.report.proofs.lines.put_lines.Tie as tie
 
--- the invariant: the lines of the places before i are put
-record Going (plan : Plan) (before : List ℕ) (at i : ℕ) (text : List ℕ) (end : ℕ) : Type 0 where
-  few : devices plan ≤ 32
-  within : i ≤ 32 * devices plan
-  lines : PutsLines plan i before at text end
-  long-text : length text ≡ length before
+as-put : {plan : Plan} {i at e e' : ℕ} {before t t' : List ℕ} → t ≡ t' → e ≡ e' → PutsLines plan i before at t' e' → PutsLines plan i before at t e
+as-put {plan} {i} {at} {e} {before = before} {t' = t'} p q v =
+    subst (λ x. PutsLines plan i before at x e) (sym p) (subst (λ x. PutsLines plan i before at t' x) (sym q) v)
 
+-- the lines of the places before i are put; of the plan the loop has only its numbers
 abbrev Inv-loop : tie.InvT-loop
-Inv-loop plan found text₀ at end₀ i₀ i-end text end i = Going plan text₀ at i text end
+Inv-loop found text₀ at core end₀ i₀ i-end text end i =
+    (core .devices ≤ 32)
+    × (i ≤ 32 * core .devices)
+    × (length text ≡ length text₀)
+    × ((plan : Plan) → plan .core ≡ core → Held plan → Finds plan found → PutsLines plan i text₀ at text end)
 
 abbrev μ-loop : tie.MeasureT-loop
-μ-loop plan found text₀ at end₀ i₀ i-end text end i = 32 * devices plan - i
+μ-loop found text₀ at core end₀ i₀ i-end text end i = 32 * core .devices - i
 
 mul-i-end : tie.Need-mul-i-end Inv-loop μ-loop
-mul-i-end c =
-    let few = held-devices (c .before .before .before .before .args .plan) (c .before .before .before .before .pre .0) .1 in
-    omega (arith, few)
+mul-i-end c = omega (arith, held-devices _ (c .before .before .before .pre .0) .1)
 
 loop-holds : tie.Need-loop-holds Inv-loop μ-loop
-loop-holds c =
-    let a = c .before .before .before .before in
-    record { few = held-devices (a .args .plan) (a .pre .0) .1; within = omega arith; lines = lines-none; long-text = refl }
+loop-holds c = (held-devices _ (c .before .before .before .pre .0) .1, omega arith, refl, λ plan e h f. lines-none)
+
+mul-get : tie.Need-mul-get Inv-loop μ-loop
+mul-get c = search needs
+
+element-copy-out-get : tie.Need-element-copy-out-get Inv-loop μ-loop
+element-copy-out-get c = search needs
+
+cast-get : tie.Need-cast-get Inv-loop μ-loop
+cast-get c = search needs
+
+get-requires : tie.Need-get-requires Inv-loop μ-loop
+get-requires c κs = search needs
 
 put-place-requires : tie.Need-put-place-requires Inv-loop μ-loop
 put-place-requires c κs =
-    let a = c .before .before .before .before .before .before .before in
-    let v = c .before .before .loop .inv in
-    let small : c .before .before .loop .i < 1024 = omega (arith, v .few, c .before .loop-test .taken) in
-    (a .pre .0, a .pre .1, small, lines-room (v .lines) (a .pre .2) small)
+    let s = c .before .before .before .before .before .before .before .before .before in
+    let l = c .before .before .before .before .before .loop in
+    let small : l .i < 1024 = omega arith in
+    let room = lines-room (l .inv .3 _ refl (s .pre .0) (s .pre .1)) (s .pre .2) small in
+    let short = line-short _ (s .pre .0) (l .i / 32) (l .i % 32) (omega arith) (omega arith) (s .pre .1 .each (l .i) small) in
+    (small, s .pre .1 .size, omega (arith, room, short))
 
 add-i : tie.Need-add-i Inv-loop μ-loop
-add-i c = omega (arith, c .before .before .before .before .before .loop .inv .few, c .before .before .before .before .loop-test .taken)
+add-i c = search needs
 
 loop-less : tie.Need-loop-less Inv-loop μ-loop
 loop-less c = search needs
 
 loop-again : tie.Need-loop-again Inv-loop μ-loop
 loop-again c =
-    let v = c .before .before .before .before .before .loop .inv in
-    let p = c .before .before .put-place in
-    record {
-      few = v .few;
-      within = omega arith;
-      lines = lines-more (c .before .before .before .before .before .before .before .before .before .before .pre .2) (omega (arith, v .few, c .before .before .before .before .loop-test .taken)) (v .lines) (p .ensures);
-      long-text = same-size (p .ensures .put) ∙ v .long-text;
-    }
+    let l = c .before .before .before .before .loop in
+    let room = c .before .before .before .before .before .before .before .before .pre .2 in
+    let small : l .i < 1024 = omega arith in
+    let g = c .before .get .ensures in
+    ⊎-elim
+    (λ w. (
+      l .inv .0,
+      omega arith,
+      ap length (w .5) ∙ same-size (w .2 .ensures) ∙ l .inv .2,
+      λ plan e h f.
+          as-put (w .5) (w .6) (lines-more room small (l .inv .3 plan e h f) (place-put plan (l .i) h small (rw e (sym g ∙ w .0 .taken)) (f .each (l .i) small) (w .2 .ensures))),
+    ))
+    (λ w. (
+      l .inv .0,
+      omega arith,
+      ap length (w .1) ∙ l .inv .2,
+      λ plan e h f. as-put (w .1) (w .2) (lines-more room small (l .inv .3 plan e h f) (place-passed plan (l .i) _ _ (λ z. w .0 .left (g ∙ (rw e at z))))),
+    ))
+    (c .if1 .came)
 
 same-length : tie.Need-same-length Inv-loop μ-loop
 same-length c = search needs
 
 returns : tie.Need-returns Inv-loop μ-loop
-returns c = lines-done (c .before .loop .inv .lines) (omega (arith, c .before .loop .inv .within, c .loop-test .left))
+returns c =
+    let s = c .before .before .before .before .before in
+    lines-done (c .before .loop .inv .3 _ refl (s .pre .0) (s .pre .1)) (omega arith)
 
 pub put-lines-spec : {M : Type 1} → statement M
 put-lines-spec =
@@ -74,6 +101,10 @@ put-lines-spec =
     μ-loop
     mul-i-end
     loop-holds
+    mul-get
+    element-copy-out-get
+    cast-get
+    get-requires
     put-place-requires
     add-i
     loop-less

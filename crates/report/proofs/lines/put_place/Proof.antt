@@ -1,25 +1,7 @@
-use mathlib.Core.Path.{sym, _∙_}
-use Prim.Native.Nat.{_/_, _%_}
-use native.Mathlib.Omega.{arith}
-use Rattle.report.proofs.Short.{line-short, place-passed, place-put}
+-- `report::lines::put_place` meets its contract: the line of the three words that were read. Assumes nothing.
 use borrow.Author.Needs.{needs}
 use Rattle.report.proofs.lines.put_place.Statement.{statement}
 use Rattle.report.proofs.lines.put_place.Tie as tie
-
-cast-k : tie.Need-cast-k
-cast-k c = search needs
-
-mul-get : tie.Need-mul-get
-mul-get c = search needs
-
-element-copy-out-get : tie.Need-element-copy-out-get
-element-copy-out-get c = search needs
-
-get-requires : tie.Need-get-requires
-get-requires c κs = search needs
-
-returns : tie.Need-returns
-returns c = place-passed _ _ _ _ (λ e. c .if1 .taken (c .before .get .ensures ∙ e))
 
 mul-number : tie.Need-mul-number
 mul-number c = search needs
@@ -57,28 +39,22 @@ shared-slice-read-held c = search needs
 cast-put-line : tie.Need-cast-put-line
 cast-put-line c = search needs
 
+cast-put-line-2 : tie.Need-cast-put-line-2
+cast-put-line-2 c = search needs
+
 put-line-requires : tie.Need-put-line-requires
-put-line-requires c κs =
-    let a = c .before .before .before .before .before .before .before .before .before .before in
-    omega (arith, a .pre .3, line-short (a .args .plan) (a .pre .0) (a .args .i / 32) (a .args .i % 32) (omega (arith, a .pre .2)) (omega arith) (a .pre .1 .each (a .args .i) (a .pre .2)))
+put-line-requires c κs = c .before .before .before .before .before .before .pre .2
 
 same-length : tie.Need-same-length
 same-length c = search needs
 
-returns-2 : tie.Need-returns-2
-returns-2 c =
-    let a = c .before .before .before .before .before .before .before .before .before .before .before .before .before in
-    place-put (a .args .plan) (a .args .i) (a .pre .0) (a .pre .2) (sym (c .before .before .before .before .before .before .before .before .get .ensures) ∙ c .before .before .before .before .before .before .before .if1 .left) (a .pre .1 .each (a .args .i) (a .pre .2)) (c .before .before .put-line .ensures)
+returns : tie.Need-returns
+returns c = c .before .before .put-line .ensures
 
 pub put-place-spec : {M : Type 1} → statement M
 put-place-spec =
     tie.close
     (tie.spec
-    cast-k
-    mul-get
-    element-copy-out-get
-    get-requires
-    returns
     mul-number
     mul-number-2
     shared-slice-read-number
@@ -91,6 +67,7 @@ put-place-spec =
     mul-held-2
     shared-slice-read-held
     cast-put-line
+    cast-put-line-2
     put-line-requires
     same-length
-    returns-2)
+    returns)
