@@ -1,6 +1,6 @@
 /* What a call costs, as C makes it: in ours, in plain C, and in the judge's C (conformance/), all in one process. A line of
-   the table has the call, the devices, how many identifiers wait at each port, the microseconds of each, and what ours
-   takes for each of theirs. All three have to come to the same. */
+   the table has the call, the devices, how many identifiers wait at each port, the microseconds of each, and the ratio of
+   ours to each of theirs. All three have to come to the same. */
 #include "plain.h"
 
 struct timespec {
@@ -90,23 +90,37 @@ static double timed(call *work, int which, int turns) {
     return (now() - begun) / turns;
 }
 
-/* The best of several, in turn, so that all meet the same machine. */
+static double median(double *x, int n) {
+    for (int i = 1; i < n; i++)
+        for (int j = i; j > 0 && x[j] < x[j - 1]; j--) {
+            double y = x[j];
+            x[j] = x[j - 1];
+            x[j - 1] = y;
+        }
+    return x[n / 2];
+}
+
+/* All three in turn, many times: the best time of each, and the ratios' medians, as a machine's pace changes meanwhile. */
 static void race(const char *what, const char *waiting, call *work) {
-    double best[ALL], t;
+    enum { RUNS = 31 };
+    double best[ALL], ratio[ALL][RUNS], t[ALL];
     memset(given, 0, sizeof given);
     for (int which = 0; which < ALL; which++)
         best[which] = timed(work, which, 1);
     int turns = 1 + 1e6 / best[PLAIN];
-    for (int run = 0; run < 15; run++)
-        for (int which = 0; which < ALL; which++)
-            best[which] = (t = timed(work, which, turns)) < best[which] ? t : best[which];
+    for (int run = 0; run < RUNS; run++)
+        for (int which = 0; which < ALL; which++) {
+            t[which] = timed(work, which, turns);
+            best[which] = t[which] < best[which] ? t[which] : best[which];
+            ratio[which][run] = t[OURS] / t[which];
+        }
     for (int which = 1; which < ALL; which++)
         if (memcmp(&given[OURS], &given[which], sizeof given[OURS])) {
             printf("%s comes to something else in C\n", what);
             exit(1);
         }
     printf("| %s | %u | %s | %.1f | %.1f | %.1f | %.2f | %.2f |\n", what, file[1], waiting, best[OURS] / 1000, best[PLAIN] / 1000,
-           best[JUDGE] / 1000, best[OURS] / best[PLAIN], best[OURS] / best[JUDGE]);
+           best[JUDGE] / 1000, median(ratio[PLAIN], RUNS), median(ratio[JUDGE], RUNS));
 }
 
 /* ---- networks of any size */
