@@ -2,9 +2,11 @@
 use mathlib.Core.Path.{_≡_, refl, sym, ap, ap₂, _∙_}
 use mathlib.Core.Bool.{Bool, true, false, _&&_, _||_, false≢true}
 use mathlib.Core.Logic.{_⊎_, inl, inr}
-use Prim.Native.Nat.{ℕ, zero, suc, _<_}
+use Prim.Native.Nat.{ℕ, zero, suc, _+_, _<_}
 use native.Mathlib.Decide.{ℕ-discrete}
 use native.Mathlib.Omega.{arith}
+use lib.Dec.{eqb}
+use borrow.Author.Tests.{eq-eqb, ne-eqb}
 use Rattle.areas.specs.Table.{every}
 
 pub and-left : (a b : Bool) → (a && b) ≡ true → a ≡ true
@@ -53,3 +55,11 @@ pub every-same : (n : ℕ) (f g : ℕ → Bool) → ((i : ℕ) → i < n → f i
 unfolding every
 every-same zero f g h = refl
 every-same (suc n) f g h = ap₂ (λ (a b : Bool). a && b) (every-same n f g (λ i l. h i (omega arith))) (h n (omega arith))
+
+-- a sum is zero where both parts are
+pub sum-zero : (a b : ℕ) → eqb (a + b) 0 ≡ (eqb a 0 && eqb b 0)
+sum-zero a b =
+    elim (ℕ-discrete a 0) [
+      | yes z ↦ let e : a + b ≡ b = omega arith in rw (e, eq-eqb a 0 z)
+      | no n ↦ rw (ne-eqb a 0 n) (ne-eqb (a + b) 0 (λ e. n (omega arith)))
+    ]

@@ -1,27 +1,17 @@
 -- `planfile::block::zeros_from` meets its contract. The invariant: the bytes before byte i, from one on, are zero exactly where their sum is. Assumes nothing.
 use mathlib.Core.Path.{_≡_, _∙_}
-use mathlib.Core.Bool.{_&&_}
 use mathlib.Core.List.{List}
 use Prim.Native.Nat.{ℕ, _+_, _-_, _*_, _≤_, _<_}
-use native.Mathlib.Decide.{ℕ-discrete}
 use native.Mathlib.Numerals.{add-one}
 use native.Mathlib.Omega.{arith}
 use lib.ListN.{getD}
 use lib.Dec.{eqb}
-use borrow.Author.Tests.{eq-eqb, ne-eqb}
 use borrow.Author.Needs.{needs}
 use Rattle.areas.specs.Table.{every}
+use Rattle.areas.proofs.Tests.{sum-zero}
 use Rattle.plan.specs.Fields.{zerosFrom}
 use Rattle.planfile.proofs.block.zeros_from.Statement.{statement}
 use Rattle.planfile.proofs.block.zeros_from.Tie as tie
-
--- a sum is zero where both parts are
-both-zero : (a b : ℕ) → eqb (a + b) 0 ≡ (eqb a 0 && eqb b 0)
-both-zero a b =
-    elim (ℕ-discrete a 0) [
-      | yes z ↦ let e : a + b ≡ b = omega arith in rw (e, eq-eqb a 0 z)
-      | no n ↦ rw (ne-eqb a 0 n) (ne-eqb (a + b) 0 (λ e. n (omega arith)))
-    ]
 
 record Summed (s : List ℕ) (from i sum : ℕ) : Type 0 where
   begun : from ≤ i
@@ -39,7 +29,7 @@ more {s} {from} {i} {sum} {b} v h e l =
       begun = omega arith;
       within = omega arith;
       small = omega (arith, v .small);
-      says = both-zero sum b ∙ rw (next, add-one, v .says, here, e);
+      says = sum-zero sum b ∙ rw (next, add-one, v .says, here, e);
     }
 
 abbrev Inv-loop : tie.InvT-loop
