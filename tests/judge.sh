@@ -5,8 +5,7 @@ cd "$(dirname "$0")/.."
 work=$(mktemp -d)
 trap 'rm -rf "$work"' EXIT
 
-if ! conformance/run >"$work/given" || [ "$(tail -n 1 "$work/given")" != "judge: ok" ]; then
-    cat "$work/given"
-    exit 1
-fi
-tail -n 1 "$work/given"
+status=0
+conformance/run >"$work/given" || status=$?
+cat "$work/given"
+[ "$status" = 0 ] && [ "$(tail -n 1 "$work/given")" = "judge: ok" ]
