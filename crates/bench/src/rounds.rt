@@ -290,7 +290,6 @@ fn arrive_all(
     let mut count = count;
     for d in 0..n {
         let role = roles[d];
-        let load = load_of(loads, role);
         let first = 8 * d;
         let past = first + wide(ports[d]);
         for q in first..past {
@@ -298,7 +297,7 @@ fn arrive_all(
             if byte < 256 {
                 count = arrive_one(
                     role == 1,
-                    load,
+                    load_of(loads, role),
                     permissions,
                     q,
                     byte as u8,

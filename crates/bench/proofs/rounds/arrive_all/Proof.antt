@@ -61,14 +61,14 @@ module _ (plan : Plan) (sent : List ℕ) (q d byte : ℕ) (device : q / 8 ≡ d)
   here-nothing h w = arrives-nothing plan sent q byte (rw device e) w h
 
 abbrev Inv-loop2 : tie.InvT-loop2
-Inv-loop2 n loads roles ports permissions peers sent state₀ told₀ count count₀ d role load first past q₀ state told count' q =
+Inv-loop2 n loads roles ports permissions peers sent state₀ told₀ count count₀ d role first past q₀ state told count' q =
     ((size : ℕ) (x : Seen) → Reached (bare n loads roles ports permissions peers) sent size x first (seen state₀ told₀ count₀) → Reached (bare n loads roles ports permissions peers) sent size x q (seen state told count'))
     × (first ≤ q)
     × (q ≤ past)
     × (past ≤ 8 * n)
 
 abbrev μ-loop2 : tie.MeasureT-loop2
-μ-loop2 n loads roles ports permissions peers sent state₀ told₀ count count₀ d role load first past q₀ state told count' q =
+μ-loop2 n loads roles ports permissions peers sent state₀ told₀ count count₀ d role first past q₀ state told count' q =
     past - q
 
 abbrev Inv-loop : tie.InvT-loop
@@ -87,9 +87,6 @@ loop-holds c =
 element-copy-out-role : tie.Need-element-copy-out-role Inv-loop2 μ-loop2 Inv-loop μ-loop
 element-copy-out-role c = search needs
 
-load-of-requires : tie.Need-load-of-requires Inv-loop2 μ-loop2 Inv-loop μ-loop
-load-of-requires c κs = search needs
-
 mul-first : tie.Need-mul-first Inv-loop2 μ-loop2 Inv-loop μ-loop
 mul-first c = search needs
 
@@ -100,12 +97,12 @@ wide-requires : tie.Need-wide-requires Inv-loop2 μ-loop2 Inv-loop μ-loop
 wide-requires c κs = search needs
 
 add-past : tie.Need-add-past Inv-loop2 μ-loop2 Inv-loop μ-loop
-add-past c = omega (arith, c .before .before .before .before .before .before .before .before .before .pre .0 .most (c .before .before .before .before .before .loop .d) (omega arith), c .before .before .before .before .before .before .before .before .before .pre .0 .few, c .wide .ensures)
+add-past c = omega (arith, c .before .before .before .before .before .before .before .before .pre .0 .most (c .before .before .before .before .loop .d) (omega arith), c .before .before .before .before .before .before .before .before .pre .0 .few, c .wide .ensures)
 
 loop2-holds : tie.Need-loop2-holds Inv-loop2 μ-loop2 Inv-loop μ-loop
 loop2-holds c =
-    let s = c .before .before .before .before .before .before .before .before .before in
-    let most = s .pre .0 .most (c .before .before .before .before .before .loop .d) (omega arith) in
+    let s = c .before .before .before .before .before .before .before .before in
+    let most = s .pre .0 .most (c .before .before .before .before .loop .d) (omega arith) in
     (λ size x v. v, omega arith, omega arith, omega (arith, most, c .wide .ensures))
 
 mul-heard : tie.Need-mul-heard Inv-loop2 μ-loop2 Inv-loop μ-loop
@@ -123,13 +120,16 @@ index-2-heard c = search needs
 heard-requires : tie.Need-heard-requires Inv-loop2 μ-loop2 Inv-loop μ-loop
 heard-requires c κs = search needs
 
+load-of-requires : tie.Need-load-of-requires Inv-loop2 μ-loop2 Inv-loop μ-loop
+load-of-requires c κs = search needs
+
 cast-arrive-one : tie.Need-cast-arrive-one Inv-loop2 μ-loop2 Inv-loop μ-loop
 cast-arrive-one c = search needs
 
 arrive-one-requires : tie.Need-arrive-one-requires Inv-loop2 μ-loop2 Inv-loop μ-loop
 arrive-one-requires c κs =
-    let l = c .before .before .before .before .before .before in
-    let v = l .loop2 .inv .0 _ _ (l .before .before .before .before .before .before .loop .inv) in
+    let l = c .before .before .before .before .before .before .before in
+    let v = l .loop2 .inv .0 _ _ (l .before .before .before .before .before .loop .inv) in
     (v .state, omega (arith, v .few), omega (arith, v .count, v .few))
 
 add-q : tie.Need-add-q Inv-loop2 μ-loop2 Inv-loop μ-loop
@@ -141,19 +141,18 @@ loop2-less c = search needs
 loop2-again : tie.Need-loop2-again Inv-loop2 μ-loop2 Inv-loop μ-loop
 loop2-again c =
     let l = c .before .before .before .before in
-    let o = l .before .before .before .before .before .before in
+    let o = l .before .before .before .before .before in
     let most = o .before .before .before .before .pre .0 .most (o .loop .d) (omega arith) in
     let ports = l .before .wide .ensures in
     let device : l .loop2 .q / 8 ≡ o .loop .d = omega arith in
-    let byte = c .before .heard .ensures in
-    let load = l .before .before .before .load-of .ensures in (
+    let byte = c .before .heard .ensures in (
       λ size x v. let u = l .loop2 .inv .0 size x v in
           ⊎-elim
           (λ w. again u (omega arith)
-          (lands (w .8) (w .9) (w .10) (leads (λ told. here-byte _ _ _ _ _ device byte _ load (w .0 .taken) _) (w .3 .ensures .0)))
-          (omega (arith, w .10, w .3 .ensures .1))
-          (ap length (w .8) ∙ w .3 .kept .1 .1 .1 .1 .1 .0)
-          (ap length (w .9) ∙ w .3 .kept .1 .1 .1 .1 .1 .1 .0))
+          (lands (w .9) (w .10) (w .11) (leads (λ told. here-byte _ _ _ _ _ device byte _ (w .1 .ensures) (w .0 .taken) _) (w .4 .ensures .0)))
+          (omega (arith, w .11, w .4 .ensures .1))
+          (ap length (w .9) ∙ w .4 .kept .1 .1 .1 .1 .1 .0)
+          (ap length (w .10) ∙ w .4 .kept .1 .1 .1 .1 .1 .1 .0))
           (λ w. again u (omega arith) (lands (w .1) (w .2) (w .3) (silent (λ told. here-nothing _ _ _ _ _ device byte (w .0 .left) _))) (omega (arith, w .3)) (ap length (w .1)) (ap length (w .2)))
           (c .if1 .came),
       omega arith,
@@ -170,7 +169,7 @@ loop-less c = search needs
 loop-again : tie.Need-loop-again Inv-loop2 μ-loop2 Inv-loop μ-loop
 loop-again c =
     let l = c .before in
-    let o = l .before .before .before .before .before .before in
+    let o = l .before .before .before .before .before in
     let s = o .before .before .before .before in
     let most = s .pre .0 .most (o .loop .d) (omega arith) in
     let ports = l .before .wide .ensures in
@@ -197,7 +196,6 @@ arrive-all-spec =
     μ-loop
     loop-holds
     element-copy-out-role
-    load-of-requires
     mul-first
     element-copy-out-wide
     wide-requires
@@ -208,6 +206,7 @@ arrive-all-spec =
     index-1-heard
     index-2-heard
     heard-requires
+    load-of-requires
     cast-arrive-one
     arrive-one-requires
     add-q
