@@ -1,6 +1,6 @@
 -- What a round passes over: it is so in every sound state of a held plan, and passing over it changes nothing.
 use mathlib.Core.Path.{_≡_, sym, ap, _∙_}
-use mathlib.Core.Bool.{Bool, false}
+use mathlib.Core.Bool.{Bool}
 use mathlib.Core.List.{List, []}
 use Prim.Native.Nat.{ℕ, _+_, _*_, _/_, _%_, _≤_, _<_}
 use native.Mathlib.Omega.{arith}
@@ -14,7 +14,7 @@ use Rattle.plan.specs.Reading.{Held}
 use Rattle.plan.specs.declared.Plan.{Plan}
 use Rattle.plan.proofs.Round.{held-few}
 use Rattle.bench.specs.State.{State, word, registerAt, timerAt, timer}
-use Rattle.bench.specs.Network.{devices, exists, peer}
+use Rattle.bench.specs.Network.{devices, peer}
 use Rattle.bench.specs.Sound.{Sound}
 use Rattle.bench.specs.Round.{World, tick, arrives}
 use Rattle.bench.specs.Idle.{Rests, Unused, Idles, Laid}

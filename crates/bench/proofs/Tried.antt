@@ -21,7 +21,7 @@ use Rattle.bench.specs.Network.{devices, source}
 use Rattle.bench.specs.Sound.{Sound}
 use Rattle.bench.specs.Calls.{started, called, resetAsks}
 use Rattle.bench.specs.Settling.{rounds, Quiet, Least, Pair, settleAsks, after, Settles}
-use Rattle.bench.specs.Trials.{holders, allowance, requested, Answered, heldAfter, Tries, refused, settled, waiting, FoundAt, Finds, Lent, Fits, TriesAll}
+use Rattle.bench.specs.Trials.{holders, allowance, requested, Answered, heldAfter, Tries, refused, settled, waiting, FoundAt, Finds, Fits, TriesAll}
 use Rattle.bench.specs.Telling.{pair}
 use Rattle.bench.specs.Steps.{ownAsks, placeAsks, sendAsks, lent}
 use Rattle.bench.proofs.Asked.{call-foreign, call-answered}

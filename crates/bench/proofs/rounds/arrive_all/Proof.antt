@@ -8,7 +8,7 @@ use Rattle.areas.specs.Loop.{upTo}
 use Rattle.plan.specs.declared.Plan.{Plan}
 use Rattle.bench.specs.Network.{devices, role, router}
 use Rattle.bench.specs.Round.{World, arrived, arrives, reached}
-use Rattle.bench.specs.Idle.{Laid, bare}
+use Rattle.bench.specs.Idle.{bare}
 use Rattle.bench.specs.Telling.{Seen, seen, Follows}
 use Rattle.bench.proofs.Tellings.{leads, silent, lands, follows-none, follows-more, follows-still, follows-done}
 use Rattle.bench.proofs.Stepped.{arrives-nothing, arrives-byte}

@@ -1,7 +1,6 @@
 -- `bench::state::rest_zero` meets its contract. The invariant: the words from those of n devices on and before word i are 0 exactly where their sum is. Assumes nothing.
 use mathlib.Core.Path.{_≡_, sym, _∙_}
 use mathlib.Core.Bool.{_||_}
-use mathlib.Core.List.{List}
 use Prim.Native.Nat.{ℕ, _+_, _-_, _*_, _<_, _≤_}
 use native.Mathlib.Numerals.{add-one}
 use native.Mathlib.Omega.{arith}
