@@ -1,6 +1,7 @@
-// The bench for C, as include/bench.h declares it: the calls over numbers and areas. A plan is the bytes
-// of its file. Where the file is not accepted the reader gives the plan of zeros, which no file
-// holds, so that each call refuses it by 1.
+// The bench for C: the calls over numbers and areas, for the functions of include/bench.h, and for
+// nobody else in C. A promise here holds where what is lent is apart, which the language sees to and C
+// does not; the header tests it. A plan is the bytes of its file. Where the file is not accepted the
+// reader gives the plan of zeros, which no file holds, so that each call refuses it by 1.
 ghost use mathlib.Core.Path.{_≡_};
 ghost use Prim.Native.Nat.{_+_, _*_};
 ghost use Rattle.answers.specs.Ordered.{Outcome};
@@ -9,12 +10,10 @@ ghost use Rattle.device.specs.Reaction.{reacts};
 ghost use Rattle.plan.specs.Refusals.{verdict};
 ghost use Rattle.bench.specs.Calls.{started, startAsks, called, callAsks, unlinked, linked, linkAsks, reset, resetAsks};
 ghost use Rattle.bench.specs.Playing.{Plays};
-ghost use Rattle.bench.specs.Settling.{Settles};
-ghost use Rattle.bench.specs.Telling.{areas, pair};
+ghost use Rattle.bench.specs.Telling.{areas};
 ghost use Rattle.reach.specs.Reach.{Reaches};
-ghost use Rattle.report.specs.Report.{Reports};
-ghost use Rattle.report.specs.Steps.{lent};
 ghost use Rattle.door.specs.Numbers.{kindOf, valueOf, codeOf, actionOf, yes, planIn};
+ghost use Rattle.door.specs.Own.{SettlesOwn, ReportsOwn};
 use codes::Code;
 use codes::Written;
 use device::Action;
@@ -78,7 +77,7 @@ fn plan_in(file: &[u8]) -> Plan
 
 // The kind of the code in a byte, and its value.
 #[no_mangle]
-pub extern "C" fn bench_code_read(byte: u8, value: &mut u32) -> u32
+pub extern "C" fn bench_for_header_code_read(byte: u8, value: &mut u32) -> u32
     ensures { λ r. ⌜ (r ≡ kindOf (reads byte)) × (now (value .exit) ≡ valueOf (reads byte)) ⌝ }
 {
     let code = codes::read(byte);
@@ -88,7 +87,7 @@ pub extern "C" fn bench_code_read(byte: u8, value: &mut u32) -> u32
 
 // The byte of a code, or refusal 5. No code has a value above 63.
 #[no_mangle]
-pub extern "C" fn bench_code_write(kind: u32, value: u32, byte: &mut u32) -> u32
+pub extern "C" fn bench_for_header_code_write(kind: u32, value: u32, byte: &mut u32) -> u32
     ensures { λ r. ⌜ record { number = r; value = now (byte .exit) } ≡ writes (codeOf kind value) ⌝ }
 {
     if 63 < value {
@@ -105,7 +104,7 @@ pub extern "C" fn bench_code_write(kind: u32, value: u32, byte: &mut u32) -> u32
 
 // What a device does with a byte that arrives; its register is updated.
 #[no_mangle]
-pub extern "C" fn bench_react(
+pub extern "C" fn bench_for_header_react(
     role: u32,
     running: u32,
     permissions: u32,
@@ -124,7 +123,7 @@ pub extern "C" fn bench_react(
 
 // What the reader says of a file: a number and a block.
 #[no_mangle]
-pub extern "C" fn bench_plan_read(file: &[u8], block: &mut u32) -> u32
+pub extern "C" fn bench_for_header_plan_read(file: &[u8], block: &mut u32) -> u32
     ensures { λ r. ⌜ (r ≡ verdict (now (file .entry)) .number) × (now (block .exit) ≡ verdict (now (file .entry)) .at) ⌝ }
 {
     let read = planfile::read(file);
@@ -135,35 +134,50 @@ pub extern "C" fn bench_plan_read(file: &[u8], block: &mut u32) -> u32
 // ---- between rounds
 
 #[no_mangle]
-pub extern "C" fn bench_start(plan: &[u8], state: &mut [u32]) -> u32
+pub extern "C" fn bench_for_header_start(plan: &[u8], state: &mut [u32]) -> u32
     ensures { λ r. ⌜ Outcome (startAsks (planIn (now (plan .entry))) (now (state .entry))) (now (state .entry)) (started (planIn (now (plan .entry)))) r (now (state .exit)) ⌝ }
 {
     bench::start(plan_in(plan), state)
 }
 
 #[no_mangle]
-pub extern "C" fn bench_request(plan: &[u8], state: &mut [u32], device: usize, k: u32) -> u32
+pub extern "C" fn bench_for_header_request(
+    plan: &[u8],
+    state: &mut [u32],
+    device: usize,
+    k: u32,
+) -> u32
     ensures { λ r. ⌜ Outcome (callAsks (planIn (now (plan .entry))) 0 device k (now (state .entry))) (now (state .entry)) (called (planIn (now (plan .entry))) 0 device k (now (state .entry))) r (now (state .exit)) ⌝ }
 {
     bench::request(plan_in(plan), state, device, k)
 }
 
 #[no_mangle]
-pub extern "C" fn bench_acknowledge(plan: &[u8], state: &mut [u32], device: usize, k: u32) -> u32
+pub extern "C" fn bench_for_header_acknowledge(
+    plan: &[u8],
+    state: &mut [u32],
+    device: usize,
+    k: u32,
+) -> u32
     ensures { λ r. ⌜ Outcome (callAsks (planIn (now (plan .entry))) 1 device k (now (state .entry))) (now (state .entry)) (called (planIn (now (plan .entry))) 1 device k (now (state .entry))) r (now (state .exit)) ⌝ }
 {
     bench::acknowledge(plan_in(plan), state, device, k)
 }
 
 #[no_mangle]
-pub extern "C" fn bench_link_stop(plan: &[u8], state: &mut [u32], device: usize, port: usize) -> u32
+pub extern "C" fn bench_for_header_link_stop(
+    plan: &[u8],
+    state: &mut [u32],
+    device: usize,
+    port: usize,
+) -> u32
     ensures { λ r. ⌜ Outcome (linkAsks (planIn (now (plan .entry))) 1 device port (now (state .entry))) (now (state .entry)) (unlinked (planIn (now (plan .entry))) (8 * device + port) (now (state .entry))) r (now (state .exit)) ⌝ }
 {
     bench::link_stop(plan_in(plan), state, device, port)
 }
 
 #[no_mangle]
-pub extern "C" fn bench_link_start(
+pub extern "C" fn bench_for_header_link_start(
     plan: &[u8],
     state: &mut [u32],
     device: usize,
@@ -175,7 +189,7 @@ pub extern "C" fn bench_link_start(
 }
 
 #[no_mangle]
-pub extern "C" fn bench_reset(plan: &[u8], state: &mut [u32], device: usize) -> u32
+pub extern "C" fn bench_for_header_reset(plan: &[u8], state: &mut [u32], device: usize) -> u32
     ensures { λ r. ⌜ Outcome (resetAsks (planIn (now (plan .entry))) device (now (state .entry))) (now (state .entry)) (reset (planIn (now (plan .entry))) device (now (state .entry))) r (now (state .exit)) ⌝ }
 {
     bench::reset(plan_in(plan), state, device)
@@ -185,7 +199,7 @@ pub extern "C" fn bench_reset(plan: &[u8], state: &mut [u32], device: usize) -> 
 
 // One round; how many words were told goes to `count`.
 #[no_mangle]
-pub extern "C" fn bench_round(
+pub extern "C" fn bench_for_header_round(
     plan: &[u8],
     old: &[u32],
     next: &mut [u32],
@@ -200,25 +214,26 @@ pub extern "C" fn bench_round(
     answer.number
 }
 
-// Rounds until no port waits; how many goes to `rounds`.
+// Rounds until no port waits; how many goes to `rounds`. The second area is made here: one that C
+// lends could be the state itself.
 #[no_mangle]
-pub extern "C" fn bench_settle(
+pub extern "C" fn bench_for_header_settle(
     plan: &[u8],
     state: &mut [u32],
-    second: &mut [u32],
     allowance: u32,
     rounds: &mut u32,
 ) -> u32
-    ensures { λ r. ⌜ Settles (planIn (now (plan .entry))) (pair (now (state .entry)) (now (second .entry))) allowance r (now (rounds .exit)) (pair (now (state .exit)) (now (second .exit))) ⌝ }
+    ensures { λ r. ⌜ SettlesOwn (planIn (now (plan .entry))) (now (state .entry)) allowance r (now (rounds .exit)) (now (state .exit)) ⌝ }
 {
-    let answer = bench::settle(plan_in(plan), state, second, allowance);
+    let mut second = [0u32; 2080];
+    let answer = bench::settle(plan_in(plan), state, &mut second, allowance);
     *rounds = answer.value;
     answer.number
 }
 
 // The devices that interrupts of k reach from a device: how many, and the set of them.
 #[no_mangle]
-pub extern "C" fn bench_reach(
+pub extern "C" fn bench_for_header_reach(
     plan: &[u8],
     state: &[u32],
     device: usize,
@@ -234,18 +249,15 @@ pub extern "C" fn bench_reach(
     answer.number
 }
 
-// The text that the program settle prints for a file; its length goes to `used`.
+// The text that the program settle prints for a file; its length goes to `used`. The areas for states
+// are made here, as for settling.
 #[no_mangle]
-pub extern "C" fn bench_report(
-    file: &[u8],
-    state: &mut [u32],
-    second: &mut [u32],
-    text: &mut [u8],
-    used: &mut u32,
-) -> u32
-    ensures { λ r. ⌜ Reports (now (file .entry)) (lent (now (state .entry)) (now (second .entry)) (now (text .entry))) r (now (used .exit)) (lent (now (state .exit)) (now (second .exit)) (now (text .exit))) ⌝ }
+pub extern "C" fn bench_for_header_report(file: &[u8], text: &mut [u8], used: &mut u32) -> u32
+    ensures { λ r. ⌜ ReportsOwn (now (file .entry)) (now (text .entry)) r (now (used .exit)) (now (text .exit)) ⌝ }
 {
-    let answer = report::report(file, state, second, text);
+    let mut state = [0u32; 2080];
+    let mut second = [0u32; 2080];
+    let answer = report::report(file, &mut state, &mut second, text);
     *used = answer.value;
     answer.number
 }

@@ -1,6 +1,6 @@
 use borrow.Author.Needs.{needs}
-use Rattle.door.proofs.bench_link_stop.Statement.{statement}
-use Rattle.door.proofs.bench_link_stop.Tie as tie
+use Rattle.door.proofs.bench_for_header_link_stop.Statement.{statement}
+use Rattle.door.proofs.bench_for_header_link_stop.Tie as tie
 
 plan-in-requires : tie.Need-plan-in-requires
 plan-in-requires c κs = search needs
@@ -14,5 +14,5 @@ same-length c = search needs
 returns : tie.Need-returns
 returns c = rw (c .before .before .before .before .plan-in .ensures) at (c .before .before .link-stop .ensures)
 
-pub bench-link-stop-spec : {M : Type 1} → statement M
-bench-link-stop-spec = tie.close (tie.spec plan-in-requires link-stop-requires same-length returns)
+pub bench-for-header-link-stop-spec : {M : Type 1} → statement M
+bench-for-header-link-stop-spec = tie.close (tie.spec plan-in-requires link-stop-requires same-length returns)

@@ -2,8 +2,8 @@ use mathlib.Core.Path.{ap, _∙_}
 use borrow.Author.Needs.{needs}
 use Rattle.device.specs.declared.Reaction.{Reaction}
 use Rattle.door.specs.Numbers.{actionOf}
-use Rattle.door.proofs.bench_react.Statement.{statement}
-use Rattle.door.proofs.bench_react.Tie as tie
+use Rattle.door.proofs.bench_for_header_react.Statement.{statement}
+use Rattle.door.proofs.bench_for_header_react.Tie as tie
 
 react-requires : tie.Need-react-requires
 react-requires c κs = search needs
@@ -15,5 +15,5 @@ returns : tie.Need-returns
 returns c =
     (c .action-of .ensures ∙ ap (λ (r : Reaction). actionOf (r .action)) (c .before .react .ensures), ap (λ (r : Reaction). r .register) (c .before .react .ensures))
 
-pub bench-react-spec : {M : Type 1} → statement M
-bench-react-spec = tie.close (tie.spec react-requires action-of-requires returns)
+pub bench-for-header-react-spec : {M : Type 1} → statement M
+bench-for-header-react-spec = tie.close (tie.spec react-requires action-of-requires returns)

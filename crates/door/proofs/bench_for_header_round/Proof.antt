@@ -1,6 +1,6 @@
 use borrow.Author.Needs.{needs}
-use Rattle.door.proofs.bench_round.Statement.{statement}
-use Rattle.door.proofs.bench_round.Tie as tie
+use Rattle.door.proofs.bench_for_header_round.Statement.{statement}
+use Rattle.door.proofs.bench_for_header_round.Tie as tie
 
 plan-in-requires : tie.Need-plan-in-requires
 plan-in-requires c κs = search needs
@@ -20,7 +20,7 @@ same-length-3 c = search needs
 returns : tie.Need-returns
 returns c = rw (c .before .before .before .before .before .before .before .before .before .before .plan-in .ensures) at (c .before .before .before .before .before .before .round .ensures)
 
-pub bench-round-spec : {M : Type 1} → statement M
-bench-round-spec =
+pub bench-for-header-round-spec : {M : Type 1} → statement M
+bench-for-header-round-spec =
     tie.close
     (tie.spec plan-in-requires round-requires same-length same-length-2 same-length-3 returns)

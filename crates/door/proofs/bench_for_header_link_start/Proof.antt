@@ -1,6 +1,6 @@
 use borrow.Author.Needs.{needs}
-use Rattle.door.proofs.bench_link_start.Statement.{statement}
-use Rattle.door.proofs.bench_link_start.Tie as tie
+use Rattle.door.proofs.bench_for_header_link_start.Statement.{statement}
+use Rattle.door.proofs.bench_for_header_link_start.Tie as tie
 
 plan-in-requires : tie.Need-plan-in-requires
 plan-in-requires c κs = search needs
@@ -14,6 +14,6 @@ same-length c = search needs
 returns : tie.Need-returns
 returns c = rw (c .before .before .before .before .plan-in .ensures) at (c .before .before .link-start .ensures)
 
-pub bench-link-start-spec : {M : Type 1} → statement M
-bench-link-start-spec =
+pub bench-for-header-link-start-spec : {M : Type 1} → statement M
+bench-for-header-link-start-spec =
     tie.close (tie.spec plan-in-requires link-start-requires same-length returns)

@@ -1,6 +1,6 @@
 use borrow.Author.Needs.{needs}
-use Rattle.door.proofs.bench_request.Statement.{statement}
-use Rattle.door.proofs.bench_request.Tie as tie
+use Rattle.door.proofs.bench_for_header_request.Statement.{statement}
+use Rattle.door.proofs.bench_for_header_request.Tie as tie
 
 plan-in-requires : tie.Need-plan-in-requires
 plan-in-requires c κs = search needs
@@ -14,5 +14,5 @@ same-length c = search needs
 returns : tie.Need-returns
 returns c = rw (c .before .before .before .before .plan-in .ensures) at (c .before .before .request .ensures)
 
-pub bench-request-spec : {M : Type 1} → statement M
-bench-request-spec = tie.close (tie.spec plan-in-requires request-requires same-length returns)
+pub bench-for-header-request-spec : {M : Type 1} → statement M
+bench-for-header-request-spec = tie.close (tie.spec plan-in-requires request-requires same-length returns)

@@ -1,6 +1,6 @@
 use borrow.Author.Needs.{needs}
-use Rattle.door.proofs.bench_acknowledge.Statement.{statement}
-use Rattle.door.proofs.bench_acknowledge.Tie as tie
+use Rattle.door.proofs.bench_for_header_acknowledge.Statement.{statement}
+use Rattle.door.proofs.bench_for_header_acknowledge.Tie as tie
 
 plan-in-requires : tie.Need-plan-in-requires
 plan-in-requires c κs = search needs
@@ -14,6 +14,6 @@ same-length c = search needs
 returns : tie.Need-returns
 returns c = rw (c .before .before .before .before .plan-in .ensures) at (c .before .before .acknowledge .ensures)
 
-pub bench-acknowledge-spec : {M : Type 1} → statement M
-bench-acknowledge-spec =
+pub bench-for-header-acknowledge-spec : {M : Type 1} → statement M
+bench-for-header-acknowledge-spec =
     tie.close (tie.spec plan-in-requires acknowledge-requires same-length returns)

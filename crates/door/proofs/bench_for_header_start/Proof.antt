@@ -1,6 +1,6 @@
 use borrow.Author.Needs.{needs}
-use Rattle.door.proofs.bench_start.Statement.{statement}
-use Rattle.door.proofs.bench_start.Tie as tie
+use Rattle.door.proofs.bench_for_header_start.Statement.{statement}
+use Rattle.door.proofs.bench_for_header_start.Tie as tie
 
 plan-in-requires : tie.Need-plan-in-requires
 plan-in-requires c κs = search needs
@@ -14,5 +14,5 @@ same-length c = search needs
 returns : tie.Need-returns
 returns c = rw (c .before .before .before .before .plan-in .ensures) at (c .before .before .start .ensures)
 
-pub bench-start-spec : {M : Type 1} → statement M
-bench-start-spec = tie.close (tie.spec plan-in-requires start-requires same-length returns)
+pub bench-for-header-start-spec : {M : Type 1} → statement M
+bench-for-header-start-spec = tie.close (tie.spec plan-in-requires start-requires same-length returns)

@@ -2,8 +2,8 @@ use mathlib.Core.Path.{sym, ap, _∙_}
 use borrow.Author.Needs.{needs}
 use Rattle.codes.specs.Codes.{writes, answerOf}
 use Rattle.door.proofs.Written.{no-byte}
-use Rattle.door.proofs.bench_code_write.Statement.{statement}
-use Rattle.door.proofs.bench_code_write.Tie as tie
+use Rattle.door.proofs.bench_for_header_code_write.Statement.{statement}
+use Rattle.door.proofs.bench_for_header_code_write.Tie as tie
 
 returns : tie.Need-returns
 returns c = sym (no-byte _ _ (c .if1 .taken))
@@ -34,8 +34,8 @@ returns-3 : tie.Need-returns-3
 unfolding answerOf
 returns-3 c = sym (ap answerOf (c .before .b .given .1)) ∙ c .before .before .before .write .ensures ∙ ap writes (c .before .before .before .before .code-of .ensures)
 
-pub bench-code-write-spec : {M : Type 1} → statement M
-bench-code-write-spec =
+pub bench-for-header-code-write-spec : {M : Type 1} → statement M
+bench-for-header-code-write-spec =
     tie.close
     (tie.spec
     returns
