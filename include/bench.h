@@ -1,23 +1,30 @@
-/* The SpaceWire interrupt bench, for C (x86-64 Linux): link target/staticlib/libdoor.a, which `rt staticlib door` makes.
+/* The SpaceWire interrupt bench, for C99 and C++ (x86-64 Linux). Include this and link target/staticlib/libdoor.a, which
+ * `rt staticlib door` makes; it needs memcpy, memmove and memset, and nothing else.
  *
- * Every call takes any input, ends, and touches nothing but the areas that it is lent. It returns a number: 0 for
- * done, or that of the first refusal, in the order given at the call:
+ * Every call takes any input, ends, and touches nothing but what it is lent. It returns a number: 0 for done, or that of
+ * the first refusal, in the order given at the call:
  *
  *    1 a plan file that is not accepted         7 the port does not run, or leads nowhere
  *    2 a state that is not sound                8 it may not send this kind
- *    3 another area of the wrong length         9 the bit is already so
- *    4 no such device or port                  10 the link is already so
- *    5 an identifier or a value too great      11 an allowance above 4,096
- *    6 no source or no handler of it           12 still waiting after the allowance
+ *    3 an area of the wrong length, or one      9 the bit is already so
+ *      that cannot be lent (see below)         10 the link is already so
+ *    4 no such device or port                  11 an allowance above 4,096
+ *    5 an identifier or a value too great      12 still waiting after the allowance
+ *    6 no source or no handler of it
  *
  * A refused call changes no area and gives 0 for a value, but for 12 (bench_settle) and 20 to 26 (bench_plan_read).
  * docs/RULES.md has the rules, and "The C door" there the numbers below.
  *
- * A plan is the bytes of its file. An area is a pointer and its length, in words or bytes; lengths are checked. What no
- * call can check: that an area is as long as its length says, that words are aligned, that the pointer to a value is not
- * null, and that what a call writes overlaps nothing else that it is lent.
+ * A plan is the bytes of its file. An area is a pointer and its length, in words or bytes: a state has 2,080 words, the
+ * bytes sent 256 words, the words told 1,056, a text at least BENCH_TEXT bytes. Before anything else a call refuses by 3
+ * what cannot be lent together: areas that share a byte with each other, with the plan or with a value's place, words that
+ * are not aligned, null with a length, and a length that runs over the end of memory. A value goes to any place, aligned or
+ * not; null says that it is not wanted. Beside that 3 it is 0 too, and is left as it was only where its own place is shared.
  *
- * Areas: a state has 2,080 words, the bytes sent 256 words, the words told 1,056, a text at least BENCH_TEXT bytes.
+ * What is left to the caller: that an area is as long as its length says.
+ *
+ * The tests of the last two paragraphs are C and stand in this file; they are not proved, and are tried by tests/lending.sh.
+ * What the archive does behind them is proved for every input.
  */
 #ifndef BENCH_H
 #define BENCH_H
@@ -37,58 +44,249 @@ enum { BENCH_TIME, BENCH_INTERRUPT, BENCH_ACKNOWLEDGE, BENCH_RESERVED };
 /* What a device does with a code: names it, reports a link error, ignores it, forwards it, tells its host. */
 enum { BENCH_NAMED, BENCH_LINK_ERROR, BENCH_IGNORED, BENCH_FORWARDED, BENCH_TOLD_HOST };
 
+/* ---- the archive's own symbols: for the functions below, which test what is lent, and for no other caller in C */
+
+bench_u32 bench_for_header_code_read(bench_u8 byte, bench_u32 *value);
+bench_u32 bench_for_header_code_write(bench_u32 kind, bench_u32 value, bench_u32 *byte);
+bench_u32 bench_for_header_react(bench_u32 role, bench_u32 running, bench_u32 permissions, bench_u32 *device_register,
+                                 bench_u8 byte);
+bench_u32 bench_for_header_plan_read(const bench_u8 *file, bench_size file_length, bench_u32 *block);
+bench_u32 bench_for_header_start(const bench_u8 *plan, bench_size plan_length, bench_u32 *state, bench_size state_length);
+bench_u32 bench_for_header_request(const bench_u8 *plan, bench_size plan_length, bench_u32 *state, bench_size state_length,
+                                   bench_size device, bench_u32 k);
+bench_u32 bench_for_header_acknowledge(const bench_u8 *plan, bench_size plan_length, bench_u32 *state,
+                                       bench_size state_length, bench_size device, bench_u32 k);
+bench_u32 bench_for_header_link_stop(const bench_u8 *plan, bench_size plan_length, bench_u32 *state, bench_size state_length,
+                                     bench_size device, bench_size port);
+bench_u32 bench_for_header_link_start(const bench_u8 *plan, bench_size plan_length, bench_u32 *state, bench_size state_length,
+                                      bench_size device, bench_size port);
+bench_u32 bench_for_header_reset(const bench_u8 *plan, bench_size plan_length, bench_u32 *state, bench_size state_length,
+                                 bench_size device);
+bench_u32 bench_for_header_round(const bench_u8 *plan, bench_size plan_length, const bench_u32 *old, bench_size old_length,
+                                 bench_u32 *next, bench_size next_length, bench_u32 *sent, bench_size sent_length,
+                                 bench_u32 *told, bench_size told_length, bench_u32 *count);
+bench_u32 bench_for_header_settle(const bench_u8 *plan, bench_size plan_length, bench_u32 *state, bench_size state_length,
+                                  bench_u32 allowance, bench_u32 *rounds);
+bench_u32 bench_for_header_reach(const bench_u8 *plan, bench_size plan_length, const bench_u32 *state,
+                                 bench_size state_length, bench_size device, bench_u32 k, bench_u32 *devices, bench_u32 *set);
+bench_u32 bench_for_header_report(const bench_u8 *file, bench_size file_length, bench_u8 *text, bench_size text_length,
+                                  bench_u32 *used);
+
+/* ---- what can be lent together */
+
+/* What a call is lent: the address, the bytes, and whether an area can be there at all. */
+struct bench_lent {
+    bench_size from, bytes;
+    int there;
+};
+
+static inline struct bench_lent bench_lend(const void *at, bench_size length, bench_size width, bench_size alignment) {
+    struct bench_lent area;
+    area.from = (bench_size)at;
+    area.bytes = length * width;
+    area.there = length == 0 || (at && area.from % alignment == 0 && length <= ((bench_size)-1 - area.from) / width);
+    return area;
+}
+
+static inline struct bench_lent bench_bytes(const bench_u8 *at, bench_size length) {
+    return bench_lend(at, length, 1, 1);
+}
+
+static inline struct bench_lent bench_words(const bench_u32 *at, bench_size length) {
+    return bench_lend(at, length, sizeof *at, sizeof *at);
+}
+
+/* The place of a value; null is none. */
+static inline struct bench_lent bench_place(const bench_u32 *at) {
+    return bench_lend(at, at != 0, sizeof *at, 1);
+}
+
+static inline int bench_share(struct bench_lent one, struct bench_lent other) {
+    return one.bytes && other.bytes && one.from < other.from + other.bytes && other.from < one.from + one.bytes;
+}
+
+/* Area i is there, and shares nothing with the others of its call. */
+static inline int bench_apart(const struct bench_lent *all, int count, int i) {
+    int j;
+    for (j = 0; j < count; j++)
+        if (j != i && bench_share(all[i], all[j]))
+            return 0;
+    return all[i].there;
+}
+
+static inline int bench_all_apart(const struct bench_lent *all, int count) {
+    int i;
+    for (i = 0; i < count; i++)
+        if (!bench_apart(all, count, i))
+            return 0;
+    return 1;
+}
+
+/* Puts a value where the caller wants it, byte by byte, as the place need not be aligned. */
+static inline void bench_put(bench_u32 *place, bench_u32 value) {
+    const bench_u8 *from = (const bench_u8 *)&value;
+    bench_u8 *to = (bench_u8 *)place;
+    unsigned i;
+    for (i = 0; place && i < sizeof value; i++)
+        to[i] = from[i];
+}
+
+/* The same for the value whose place is the i-th of what a call is lent; what it would share stays as it is. */
+static inline void bench_give(const struct bench_lent *all, int count, int i, bench_u32 *place, bench_u32 value) {
+    if (bench_apart(all, count, i))
+        bench_put(place, value);
+}
+
+/* ---- codes, and one device: nothing is refused by 3 */
+
 /* The kind of the code in a byte; its value, 0 for reserved, goes to *value. */
-bench_u32 bench_code_read(bench_u8 byte, bench_u32 *value);
+static inline bench_u32 bench_code_read(bench_u8 byte, bench_u32 *value) {
+    bench_u32 given, kind = bench_for_header_code_read(byte, &given);
+    bench_put(value, given);
+    return kind;
+}
 
 /* The byte of a code of a kind goes to *byte. 5: a Time-Code above 63, an identifier above 31, no kind that is written. */
-bench_u32 bench_code_write(bench_u32 kind, bench_u32 value, bench_u32 *byte);
+static inline bench_u32 bench_code_write(bench_u32 kind, bench_u32 value, bench_u32 *byte) {
+    bench_u32 given, number = bench_for_header_code_write(kind, value, &given);
+    bench_put(byte, given);
+    return number;
+}
 
 /* One device gets a byte at a port: role 0 for a node, else a router; running 0 for no. The register is updated where it
- * stands. Returns what it does. */
-bench_u32 bench_react(bench_u32 role, bench_u32 running, bench_u32 permissions, bench_u32 *device_register, bench_u8 byte);
+ * stands; null is a register of 0 that nobody wants back. Returns what the device does. */
+static inline bench_u32 bench_react(bench_u32 role, bench_u32 running, bench_u32 permissions, bench_u32 *device_register,
+                                    bench_u8 byte) {
+    const bench_u8 *from = (const bench_u8 *)device_register;
+    bench_u32 bits = 0, action, i;
+    for (i = 0; from && i < sizeof bits; i++)
+        ((bench_u8 *)&bits)[i] = from[i];
+    action = bench_for_header_react(role, running, permissions, &bits, byte);
+    bench_put(device_register, bits);
+    return action;
+}
 
-/* Is the file a plan? 20 to 26, with the block; the block of an accepted file is 0. */
-bench_u32 bench_plan_read(const bench_u8 *file, bench_size length, bench_u32 *block);
+/* ---- plans, and the calls between rounds */
+
+/* Is the file a plan? 3; 20 to 26, with the block; the block of an accepted file is 0. */
+static inline bench_u32 bench_plan_read(const bench_u8 *file, bench_size file_length, bench_u32 *block) {
+    const struct bench_lent all[] = {bench_bytes(file, file_length), bench_place(block)};
+    bench_u32 given = 0, number = 3;
+    if (bench_all_apart(all, 2))
+        number = bench_for_header_plan_read(file, file_length, &given);
+    bench_give(all, 2, 1, block, given);
+    return number;
+}
+
+/* What the calls between rounds are lent: a plan and a state. */
+static inline int bench_two_apart(const bench_u8 *plan, bench_size plan_length, const bench_u32 *state,
+                                  bench_size state_length) {
+    const struct bench_lent all[] = {bench_bytes(plan, plan_length), bench_words(state, state_length)};
+    return bench_all_apart(all, 2);
+}
 
 /* The start state. 1; 3. */
-bench_u32 bench_start(const bench_u8 *plan, bench_size plan_length, bench_u32 *state, bench_size state_length);
+static inline bench_u32 bench_start(const bench_u8 *plan, bench_size plan_length, bench_u32 *state, bench_size state_length) {
+    if (!bench_two_apart(plan, plan_length, state, state_length))
+        return 3;
+    return bench_for_header_start(plan, plan_length, state, state_length);
+}
 
 /* The host of a device requests identifier k, or acknowledges it. 1; 2; 4; 5; 6; 7; 8; 9. */
-bench_u32 bench_request(const bench_u8 *plan, bench_size plan_length, bench_u32 *state, bench_size state_length, bench_size device,
-                        bench_u32 k);
-bench_u32 bench_acknowledge(const bench_u8 *plan, bench_size plan_length, bench_u32 *state, bench_size state_length,
-                            bench_size device, bench_u32 k);
+static inline bench_u32 bench_request(const bench_u8 *plan, bench_size plan_length, bench_u32 *state, bench_size state_length,
+                                      bench_size device, bench_u32 k) {
+    if (!bench_two_apart(plan, plan_length, state, state_length))
+        return 3;
+    return bench_for_header_request(plan, plan_length, state, state_length, device, k);
+}
+
+static inline bench_u32 bench_acknowledge(const bench_u8 *plan, bench_size plan_length, bench_u32 *state,
+                                          bench_size state_length, bench_size device, bench_u32 k) {
+    if (!bench_two_apart(plan, plan_length, state, state_length))
+        return 3;
+    return bench_for_header_acknowledge(plan, plan_length, state, state_length, device, k);
+}
 
 /* The link at a port stops, or starts. 1; 2; 4; 7; 10. */
-bench_u32 bench_link_stop(const bench_u8 *plan, bench_size plan_length, bench_u32 *state, bench_size state_length,
-                          bench_size device, bench_size port);
-bench_u32 bench_link_start(const bench_u8 *plan, bench_size plan_length, bench_u32 *state, bench_size state_length,
-                           bench_size device, bench_size port);
+static inline bench_u32 bench_link_stop(const bench_u8 *plan, bench_size plan_length, bench_u32 *state,
+                                        bench_size state_length, bench_size device, bench_size port) {
+    if (!bench_two_apart(plan, plan_length, state, state_length))
+        return 3;
+    return bench_for_header_link_stop(plan, plan_length, state, state_length, device, port);
+}
+
+static inline bench_u32 bench_link_start(const bench_u8 *plan, bench_size plan_length, bench_u32 *state,
+                                         bench_size state_length, bench_size device, bench_size port) {
+    if (!bench_two_apart(plan, plan_length, state, state_length))
+        return 3;
+    return bench_for_header_link_start(plan, plan_length, state, state_length, device, port);
+}
 
 /* A device is reset. 1; 2; 4. */
-bench_u32 bench_reset(const bench_u8 *plan, bench_size plan_length, bench_u32 *state, bench_size state_length, bench_size device);
+static inline bench_u32 bench_reset(const bench_u8 *plan, bench_size plan_length, bench_u32 *state, bench_size state_length,
+                                    bench_size device) {
+    if (!bench_two_apart(plan, plan_length, state, state_length))
+        return 3;
+    return bench_for_header_reset(plan, plan_length, state, state_length, device);
+}
+
+/* ---- rounds, settling, reach, and the text */
 
 /* One round from an old state. The word of the bytes sent at 8 x device + port is the byte that the port sent, 256 for none;
  * a word told is kind x 65,536 + device x 256 + identifier, kinds 1 interrupt, 2 acknowledge, 3 timeout. How many words
  * were told goes to *count, and behind them are zeros. 1; 2; 3. */
-bench_u32 bench_round(const bench_u8 *plan, bench_size plan_length, const bench_u32 *old, bench_size old_length, bench_u32 *next,
-                      bench_size next_length, bench_u32 *sent, bench_size sent_length, bench_u32 *told, bench_size told_length,
-                      bench_u32 *count);
+static inline bench_u32 bench_round(const bench_u8 *plan, bench_size plan_length, const bench_u32 *old, bench_size old_length,
+                                    bench_u32 *next, bench_size next_length, bench_u32 *sent, bench_size sent_length,
+                                    bench_u32 *told, bench_size told_length, bench_u32 *count) {
+    const struct bench_lent all[] = {bench_bytes(plan, plan_length), bench_words(old, old_length),
+                                     bench_words(next, next_length), bench_words(sent, sent_length),
+                                     bench_words(told, told_length), bench_place(count)};
+    bench_u32 given = 0, number = 3;
+    if (bench_all_apart(all, 6))
+        number = bench_for_header_round(plan, plan_length, old, old_length, next, next_length, sent, sent_length, told,
+                                        told_length, &given);
+    bench_give(all, 6, 5, count, given);
+    return number;
+}
 
-/* Rounds until no port waits; how many goes to *rounds. The second area, as long as a state, ends as zeros. 1; 2; 3; 11;
- * 12: still waiting, *rounds is the allowance and the state is the one after it. */
-bench_u32 bench_settle(const bench_u8 *plan, bench_size plan_length, bench_u32 *state, bench_size state_length, bench_u32 *second,
-                       bench_size second_length, bench_u32 allowance, bench_u32 *rounds);
+/* Rounds until no port waits; how many goes to *rounds. 1; 2; 11; 12: still waiting, *rounds is the allowance and the
+ * state is the one after it. */
+static inline bench_u32 bench_settle(const bench_u8 *plan, bench_size plan_length, bench_u32 *state, bench_size state_length,
+                                     bench_u32 allowance, bench_u32 *rounds) {
+    const struct bench_lent all[] = {bench_bytes(plan, plan_length), bench_words(state, state_length), bench_place(rounds)};
+    bench_u32 given = 0, number = 3;
+    if (bench_all_apart(all, 3))
+        number = bench_for_header_settle(plan, plan_length, state, state_length, allowance, &given);
+    bench_give(all, 3, 2, rounds, given);
+    return number;
+}
 
 /* The devices that interrupts of k reach from a device: how many goes to *devices, and the set of them, bit d for device
  * d, to *set. 1; 2; 4; 5; 6. */
-bench_u32 bench_reach(const bench_u8 *plan, bench_size plan_length, const bench_u32 *state, bench_size state_length,
-                      bench_size device, bench_u32 k, bench_u32 *devices, bench_u32 *set);
+static inline bench_u32 bench_reach(const bench_u8 *plan, bench_size plan_length, const bench_u32 *state,
+                                    bench_size state_length, bench_size device, bench_u32 k, bench_u32 *devices,
+                                    bench_u32 *set) {
+    const struct bench_lent all[] = {bench_bytes(plan, plan_length), bench_words(state, state_length), bench_place(devices),
+                                     bench_place(set)};
+    bench_u32 counted = 0, reached = 0, number = 3;
+    if (bench_all_apart(all, 4))
+        number = bench_for_header_reach(plan, plan_length, state, state_length, device, k, &counted, &reached);
+    bench_give(all, 4, 2, devices, counted);
+    bench_give(all, 4, 3, set, reached);
+    return number;
+}
 
 /* The text that the program settle prints for a file, accepted or not, in front of its area; its length goes to
- * *text_used. The two areas for states end as zeros. 3. */
-bench_u32 bench_report(const bench_u8 *file, bench_size length, bench_u32 *state, bench_size state_length, bench_u32 *second,
-                       bench_size second_length, bench_u8 *text, bench_size text_length, bench_u32 *text_used);
+ * *used. 3. */
+static inline bench_u32 bench_report(const bench_u8 *file, bench_size file_length, bench_u8 *text, bench_size text_length,
+                                     bench_u32 *used) {
+    const struct bench_lent all[] = {bench_bytes(file, file_length), bench_bytes(text, text_length), bench_place(used)};
+    bench_u32 given = 0, number = 3;
+    if (bench_all_apart(all, 3))
+        number = bench_for_header_report(file, file_length, text, text_length, &given);
+    bench_give(all, 3, 2, used, given);
+    return number;
+}
 
 #ifdef __cplusplus
 }
