@@ -1,0 +1,354 @@
+/* What C can lend and a language with lending would not: areas that share bytes, words that are not aligned, null.
+ *
+ *     lending pairs < PLAN     every pair of what a call is lent, sharing all, a word or a byte; no alignment; null; lengths
+ *                              that no memory has. PLAN is examples/three.plan.
+ *     lending text < PLAN      what the program settle prints, by the calls of the header
+ *
+ * What has to happen is worked out here by another method than the header's: each byte lent is counted. */
+#include "bench.h"
+
+/* The kit's compiler has no headers of C's library. */
+long read(int file, void *into, unsigned long bytes);
+int printf(const char *format, ...);
+_Noreturn void exit(int status);
+int memcmp(const void *one, const void *other, unsigned long bytes);
+void *memcpy(void *to, const void *from, unsigned long bytes);
+void *memset(void *to, int byte, unsigned long bytes);
+int strcmp(const char *one, const char *other);
+
+static bench_u8 file[16897];
+static bench_size file_length;
+static bench_u32 started[BENCH_STATE];
+
+/* ---- the calls, over what they are lent in the order of their parameters */
+
+enum kind { NONE, PLAN, STATE, OUT, TEXT, VALUE };
+enum { LENT = 6, NODE = 0, ROUTER = 1, HANDLER = 2, IDENTIFIER = 5 };
+
+typedef void *const *places;
+typedef const bench_size *lengths;
+
+static bench_u32 plan_read(places at, lengths n) {
+    return bench_plan_read(at[0], n[0], at[1]);
+}
+
+static bench_u32 start(places at, lengths n) {
+    return bench_start(at[0], n[0], at[1], n[1]);
+}
+
+static bench_u32 request(places at, lengths n) {
+    return bench_request(at[0], n[0], at[1], n[1], NODE, IDENTIFIER);
+}
+
+static bench_u32 acknowledge(places at, lengths n) {
+    return bench_acknowledge(at[0], n[0], at[1], n[1], HANDLER, IDENTIFIER);
+}
+
+static bench_u32 link_stop(places at, lengths n) {
+    return bench_link_stop(at[0], n[0], at[1], n[1], ROUTER, 1);
+}
+
+static bench_u32 link_start(places at, lengths n) {
+    return bench_link_start(at[0], n[0], at[1], n[1], ROUTER, 1);
+}
+
+static bench_u32 reset(places at, lengths n) {
+    return bench_reset(at[0], n[0], at[1], n[1], ROUTER);
+}
+
+static bench_u32 round(places at, lengths n) {
+    return bench_round(at[0], n[0], at[1], n[1], at[2], n[2], at[3], n[3], at[4], n[4], at[5]);
+}
+
+static bench_u32 settle(places at, lengths n) {
+    return bench_settle(at[0], n[0], at[1], n[1], 4096, at[2]);
+}
+
+static bench_u32 reach(places at, lengths n) {
+    return bench_reach(at[0], n[0], at[1], n[1], NODE, IDENTIFIER, at[2], at[3]);
+}
+
+static bench_u32 report(places at, lengths n) {
+    return bench_report(at[0], n[0], at[1], n[1], at[2]);
+}
+
+/* What each is lent, and what it answers in a network that has just started; then what it answers for each of its areas
+ * where that is empty. */
+static const struct call {
+    const char *name;
+    bench_u32 (*make)(places, lengths);
+    enum kind lent[LENT];
+    bench_size words[LENT];
+    bench_u32 answer, empty[LENT];
+} calls[] = {
+    {"plan read", plan_read, {PLAN, VALUE}, {0}, 0, {20}},
+    {"start", start, {PLAN, STATE}, {0, BENCH_STATE}, 0, {1, 3}},
+    {"request", request, {PLAN, STATE}, {0, BENCH_STATE}, 0, {1, 2}},
+    {"acknowledge", acknowledge, {PLAN, STATE}, {0, BENCH_STATE}, 9, {1, 2}},
+    {"link stop", link_stop, {PLAN, STATE}, {0, BENCH_STATE}, 0, {1, 2}},
+    {"link start", link_start, {PLAN, STATE}, {0, BENCH_STATE}, 10, {1, 2}},
+    {"reset", reset, {PLAN, STATE}, {0, BENCH_STATE}, 0, {1, 2}},
+    {"round", round, {PLAN, STATE, OUT, OUT, OUT, VALUE}, {0, BENCH_STATE, BENCH_STATE, BENCH_SENT, BENCH_TOLD}, 0,
+     {1, 2, 3, 3, 3}},
+    {"settle", settle, {PLAN, STATE, VALUE}, {0, BENCH_STATE}, 0, {1, 2}},
+    {"reach", reach, {PLAN, STATE, VALUE, VALUE}, {0, BENCH_STATE}, 0, {1, 2}},
+    {"report", report, {PLAN, TEXT, VALUE}, {0}, 0, {0, 3}},
+};
+enum { CALLS = sizeof calls / sizeof *calls };
+
+/* ---- memory, and what stands where */
+
+enum { ARENA = 1 << 18, SPARE = 100000, REGION = 20000, MIDDLE = 40000 };
+static _Alignas(16) bench_u8 arena[ARENA];
+static bench_u8 wanted[ARENA], counts[ARENA];
+
+static const struct call *call;
+static bench_u8 *at[LENT];
+static bench_size n[LENT];
+static bench_size refused, taken;
+
+static int lent(unsigned i) {
+    return i < LENT && call->lent[i] != NONE;
+}
+
+static int in_words(unsigned i) {
+    return call->lent[i] == STATE || call->lent[i] == OUT;
+}
+
+static bench_size bytes(unsigned i) {
+    return in_words(i) ? 4 * n[i] : n[i];
+}
+
+static _Noreturn void fail(const char *what, bench_size one, bench_size other) {
+    printf("lending: %s: %s: %lu, %lu\n", call ? call->name : "codes", what, one, other);
+    for (unsigned i = 0; call && lent(i); i++)
+        printf("  %u: %ld, %lu bytes\n", i, at[i] ? (long)(at[i] - arena) : -1, bytes(i));
+    exit(1);
+}
+
+/* All areas of a call, far apart. */
+static void apart(const struct call *of) {
+    call = of;
+    for (unsigned i = 0; lent(i); i++) {
+        at[i] = arena + SPARE + REGION * i;
+        n[i] = call->lent[i] == PLAN ? file_length : call->lent[i] == TEXT ? BENCH_TEXT : call->lent[i] == VALUE ? 4 : call->words[i];
+    }
+}
+
+/* One behind the other, with no byte between them. */
+static void adjoining(const struct call *of) {
+    apart(of);
+    for (unsigned i = 1; lent(i); i++)
+        at[i] = at[i - 1] + bytes(i - 1);
+}
+
+static void fill(void) {
+    for (bench_size i = 0; i < ARENA; i++)
+        arena[i] = 7 * i + 1;
+    for (unsigned i = 0; lent(i); i++) {
+        if (at[i] && call->lent[i] == PLAN)
+            memcpy(at[i], file, file_length);
+        if (at[i] && call->lent[i] == STATE)
+            memcpy(at[i], started, sizeof started);
+    }
+}
+
+/* ---- what has to happen */
+
+static void count_bytes(void) {
+    memset(counts, 0, ARENA);
+    for (unsigned i = 0; lent(i); i++)
+        for (bench_size b = 0; at[i] && b < bytes(i); b++)
+            counts[at[i] - arena + b]++;
+}
+
+static int shares(unsigned i) {
+    for (bench_size b = 0; at[i] && b < bytes(i); b++)
+        if (counts[at[i] - arena + b] > 1)
+            return 1;
+    return 0;
+}
+
+/* Something of what is lent cannot be. */
+static int faulty(void) {
+    int fault = 0;
+    for (unsigned i = 0; lent(i); i++)
+        fault |= shares(i) || (in_words(i) && n[i] && (at[i] - arena) % 4) || (!at[i] && n[i] && call->lent[i] != VALUE);
+    return fault;
+}
+
+/* What is refused by 3 changes nothing, but for a value of 0 where its place is its own. */
+static void must_refuse(void) {
+    memcpy(wanted, arena, ARENA);
+    for (unsigned i = 0; lent(i); i++)
+        if (call->lent[i] == VALUE && at[i] && !shares(i))
+            memset(wanted + (at[i] - arena), 0, 4);
+    bench_u32 number = call->make((places)at, n);
+    if (number != 3)
+        fail("not refused by 3 (should be, is)", 3, number);
+    for (bench_size i = 0; i < ARENA; i++)
+        if (wanted[i] != arena[i])
+            fail("a byte changed by a refusal (place, byte)", i, arena[i]);
+    refused++;
+}
+
+/* What is taken changes nothing but what it is lent, and not the plan. */
+static void must_answer(bench_u32 number) {
+    memcpy(wanted, arena, ARENA);
+    bench_u32 given = call->make((places)at, n);
+    if (number != given)
+        fail("another answer (should be, is)", number, given);
+    for (bench_size i = 0; i < ARENA; i++)
+        if (wanted[i] != arena[i] && (!counts[i] || (at[0] && i - (at[0] - arena) < n[0])))
+            fail("a byte changed that was not lent to be (place, byte)", i, arena[i]);
+    taken++;
+}
+
+static void check(int fault) {
+    fill();
+    count_bytes();
+    if (fault != faulty())
+        fail("this test does not try what it should (fault wanted, made)", fault, !fault);
+    if (fault)
+        must_refuse();
+    else
+        must_answer(call->answer);
+}
+
+/* ---- what is tried */
+
+/* Area j shares so many of its bytes with area i: with the end of i, with its front, or, for all, from the same place on. */
+static void try_shared(const struct call *of, unsigned i, unsigned j, bench_size shared) {
+    for (int front = 0; front < 2; front++) {
+        apart(of);
+        at[i] = arena + MIDDLE;
+        at[j] = !shared ? at[i] : front ? at[i] + shared - bytes(j) : at[i] + bytes(i) - shared;
+        check(1);
+    }
+}
+
+static void try_pairs(const struct call *of) {
+    for (unsigned i = 0; lent(i); i++)
+        for (unsigned j = 0; lent(j); j++)
+            for (bench_size shared = 0; i != j && shared <= 4; shared++)
+                try_shared(of, i, j, shared);
+}
+
+/* One area at a time: not aligned; null with a length; empty, at null. A value may be anywhere, and is then the same. */
+static void try_alone(const struct call *of, unsigned i) {
+    for (unsigned off = 1; off < 4; off++) {
+        apart(of);
+        at[i] += off;
+        check(in_words(i));
+    }
+    apart(of);
+    at[i] = 0;
+    check(call->lent[i] != VALUE);
+    if (call->lent[i] == VALUE)
+        return;
+    n[i] = 0;
+    fill();
+    count_bytes();
+    must_answer(call->empty[i]);
+}
+
+/* Lengths that no memory has, the last of which are 0 and a right one where they are counted in bytes and wrap around. */
+static void try_endless(const struct call *of, unsigned i) {
+    const bench_size most = -1ul, wrong[] = {most, most - 1, most / 2, most / 4, most / 4 + 1, most / 4 + 1 + BENCH_STATE};
+    for (unsigned w = 0; w < sizeof wrong / sizeof *wrong; w++) {
+        apart(of);
+        fill();
+        count_bytes();
+        n[i] = wrong[w];
+        memcpy(wanted, arena, ARENA);
+        bench_u32 number = call->make((places)at, n);
+        if (number != 3 && (in_words(i) || w < 2))
+            fail("a length that no memory has (which, number)", w, number);
+        refused++;
+    }
+}
+
+static void try_call(const struct call *of) {
+    apart(of);
+    check(0);
+    adjoining(of);
+    check(0);
+    try_pairs(of);
+    for (unsigned i = 0; lent(i); i++) {
+        try_alone(of, i);
+        if (in_words(i))
+            try_endless(of, i);
+    }
+}
+
+/* Codes and one device refuse nothing by 3: a value goes anywhere, or nowhere. */
+static void try_codes(void) {
+    call = 0;
+    for (unsigned off = 0; off < 4; off++) {
+        bench_u32 *place = (void *)(arena + off), value = 0;
+        if (bench_code_read(191, place) != BENCH_ACKNOWLEDGE || (memcpy(&value, place, 4), value) != 31)
+            fail("a value at any place (offset, value)", off, value);
+        if (bench_code_write(BENCH_INTERRUPT, 31, place) || (memcpy(&value, place, 4), value) != 159)
+            fail("a byte at any place (offset, value)", off, value);
+        memcpy(place, &(bench_u32){1 << 9}, 4);
+        if (bench_react(1, 1, 15, place, 128 + 5) != BENCH_FORWARDED || (memcpy(&value, place, 4), value) != (1 << 9 | 1 << 5))
+            fail("a register at any place (offset, value)", off, value);
+    }
+    if (bench_code_read(191, 0) != BENCH_ACKNOWLEDGE || bench_code_write(BENCH_INTERRUPT, 32, 0) != 5)
+        fail("a value that nobody wants", 0, 0);
+    if (bench_react(0, 1, 15, 0, 128) != BENCH_TOLD_HOST || bench_react(0, 1, 15, 0, 160) != BENCH_IGNORED)
+        fail("a register that nobody wants", 0, 0);
+}
+
+/* ---- the incident: old and next were one area, and all settled after one round */
+
+static int in_mask(bench_u32 device, bench_u32 k) {
+    return file[512 * (1 + device) + 4 + k / 8] >> k % 8 & 1;
+}
+
+static void try_one_area(bench_u32 device, bench_u32 k) {
+    static bench_u32 state[BENCH_STATE], before[BENCH_STATE], sent[BENCH_SENT], told[BENCH_TOLD];
+    bench_u32 rounds, held = 0;
+    bench_start(file, file_length, state, BENCH_STATE);
+    bench_u32 number = bench_request(file, file_length, state, BENCH_STATE, device, k);
+    if (number) {
+        printf("%u %u r%u 0\n", device, k, number);
+        return;
+    }
+    memcpy(before, state, sizeof state);
+    number = bench_round(file, file_length, state, BENCH_STATE, state, BENCH_STATE, sent, BENCH_SENT, told, BENCH_TOLD, 0);
+    if (number != 3 || memcmp(state, before, sizeof state))
+        fail("a round in one area (device, answer)", device, number);
+    number = bench_settle(file, file_length, state, BENCH_STATE, 4096, &rounds);
+    for (bench_u32 d = 0; d < file[1]; d++)
+        held += state[33 * d] >> k & 1;
+    if (number == 12)
+        printf("%u %u - %u\n", device, k, held);
+    else
+        printf("%u %u %u %u\n", device, k, rounds, held);
+}
+
+static void print_text(void) {
+    printf("network %u\n", file[1]);
+    for (bench_u32 d = 0; d < file[1]; d++)
+        for (bench_u32 k = 0; k < 32; k++)
+            if (in_mask(d, k))
+                try_one_area(d, k);
+}
+
+int main(int count, char **words) {
+    long got;
+    while ((got = read(0, file + file_length, sizeof file - file_length)) > 0)
+        file_length += got;
+    if (bench_start(file, file_length, started, BENCH_STATE))
+        fail("no plan", file_length, 0);
+    if (count == 2 && !strcmp(words[1], "text")) {
+        print_text();
+        return 0;
+    }
+    for (unsigned i = 0; i < CALLS; i++)
+        try_call(&calls[i]);
+    try_codes();
+    printf("lending: %lu refused by 3, %lu taken\n", refused, taken);
+    return 0;
+}
