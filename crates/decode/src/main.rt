@@ -1,4 +1,5 @@
 // Lists standard input on standard output, a line for each byte.
+use libc::STDERR_FILENO;
 use libc::STDIN_FILENO;
 use libc::STDOUT_FILENO;
 ghost use mathlib.Core.Path.{_≡_};
@@ -22,20 +23,29 @@ fn main() {
 fn list_all() {
     let mut page = [0u8; PAGE];
     let mut turns = u64::MAX;
-    while turns > 0 && 0 < list_some(&mut page) {
+    while turns > 0 && list_some(&mut page) {
         turns -= 1;
     }
 }
 
-// Reads once, writes the lines of what came, and answers how many bytes those were. Nothing came
-// where the input has ended or the read failed; where the lines could not be written it is 0 too.
-fn list_some(page: &mut [u8; PAGE]) -> usize
-    ensures { λ r. ⌜ r ≤ 4096 ⌝ }
-{
+// Reads once, writes the lines of what came, and answers whether to go on: not where the input has
+// ended, nor where the read or the write failed. A failure is said, or it would look like the end.
+fn list_some(page: &mut [u8; PAGE]) -> bool {
     let mut piece = [0u8; PIECE];
     let got = libc::read(STDIN_FILENO, &mut piece);
+    if got < 0 {
+        io::write_all(STDERR_FILENO, b"decode: standard input could not be read\n");
+        return false;
+    }
     let n = io::count(got, &piece);
-    if show(&piece[..n], page) { n } else { 0 }
+    if !show(&piece[..n], page) {
+        io::write_all(
+            STDERR_FILENO,
+            b"decode: standard output could not be written\n",
+        );
+        return false;
+    }
+    0 < n
 }
 
 // Writes the lines of a whole piece, and answers whether it could.
