@@ -1,4 +1,5 @@
 // Reads a plan file on standard input and writes what `report` makes of it on standard output.
+use libc::STDERR_FILENO;
 use libc::STDIN_FILENO;
 use libc::STDOUT_FILENO;
 ghost use mathlib.Core.Path.{_≡_};
@@ -6,18 +7,58 @@ ghost use mathlib.Core.List.{List};
 ghost use Prim.Native.Nat.{ℕ};
 ghost use lib.ListN.{length};
 ghost use Rattle.areas.specs.Put.{over};
+ghost use Rattle.io.specs.Counts.{Counts};
 ghost use Rattle.report.specs.Report.{Prints, Fits};
 
 // The longest file has 16,896 bytes. One byte more shows that a file is longer.
 const FILE: usize = 16897;
 
+// What reading the file came to: so many bytes of it, or a read that failed.
+enum Input {
+    Read(usize),
+    Failed,
+}
+
 fn main() {
     let mut file = [0u8; FILE];
-    let n = io::read_full(STDIN_FILENO, &mut file);
+    let Input::Read(n) = read_file(&mut file) else {
+        io::write_all(STDERR_FILENO, b"settle: standard input could not be read\n");
+        return;
+    };
+    settle(&file[..n]);
+}
+
+// Reads until the buffer is full, the input ends or a read fails. `io::read_full` does not tell the
+// last two apart, and the start of a file must not pass for a whole one.
+fn read_file(file: &mut [u8]) -> Input
+    ensures { λ r. ⌜ ((n : ℕ) → r ≡ Input.Read n → Counts n (now (file .exit))) ⌝ }
+{
+    let mut n = 0;
+    while n < file.len() {
+        let got = libc::read(STDIN_FILENO, &mut file[n..]);
+        if got < 0 {
+            return Input::Failed;
+        }
+        let more = io::count(got, &file[n..]);
+        if more == 0 {
+            return Input::Read(n);
+        }
+        n += more;
+    }
+    Input::Read(n)
+}
+
+// Writes the text of a file, or says that it could not.
+fn settle(file: &[u8]) {
     let mut state = [0u32; 2080];
     let mut second = [0u32; 2080];
     let mut text = [0u8; report::LONGEST];
-    show(&file[..n], &mut state, &mut second, &mut text);
+    if !show(file, &mut state, &mut second, &mut text) {
+        io::write_all(
+            STDERR_FILENO,
+            b"settle: standard output could not be written\n",
+        );
+    }
 }
 
 // Writes the text of a file, and answers whether it could.
