@@ -48,8 +48,7 @@ enum { BENCH_NAMED, BENCH_LINK_ERROR, BENCH_IGNORED, BENCH_FORWARDED, BENCH_TOLD
 
 bench_u32 bench_for_header_code_read(bench_u8 byte, bench_u32 *value);
 bench_u32 bench_for_header_code_write(bench_u32 kind, bench_u32 value, bench_u32 *byte);
-bench_u32 bench_for_header_react(bench_u32 role, bench_u32 running, bench_u32 permissions, bench_u32 *device_register,
-                                 bench_u8 byte);
+bench_u32 bench_for_header_react(bench_u32 role, bench_u32 running, bench_u32 permissions, bench_u32 *bits, bench_u8 byte);
 bench_u32 bench_for_header_plan_read(const bench_u8 *file, bench_size file_length, bench_u32 *block);
 bench_u32 bench_for_header_start(const bench_u8 *plan, bench_size plan_length, bench_u32 *state, bench_size state_length);
 bench_u32 bench_for_header_request(const bench_u8 *plan, bench_size plan_length, bench_u32 *state, bench_size state_length,
@@ -153,16 +152,16 @@ static inline bench_u32 bench_code_write(bench_u32 kind, bench_u32 value, bench_
     return number;
 }
 
-/* One device gets a byte at a port: role 0 for a node, else a router; running 0 for no. The register is updated where it
- * stands; null is a register of 0 that nobody wants back. Returns what the device does. */
-static inline bench_u32 bench_react(bench_u32 role, bench_u32 running, bench_u32 permissions, bench_u32 *device_register,
-                                    bench_u8 byte) {
-    const bench_u8 *from = (const bench_u8 *)device_register;
-    bench_u32 bits = 0, action, i;
-    for (i = 0; from && i < sizeof bits; i++)
-        ((bench_u8 *)&bits)[i] = from[i];
-    action = bench_for_header_react(role, running, permissions, &bits, byte);
-    bench_put(device_register, bits);
+/* One device gets a byte at a port: role 0 for a node, else a router; running 0 for no. Its register is updated where it
+ * stands, at bits; null is a register of 0 that nobody wants back. Returns what the device does. */
+static inline bench_u32 bench_react(bench_u32 role, bench_u32 running, bench_u32 permissions, bench_u32 *bits, bench_u8 byte) {
+    const bench_u8 *from = (const bench_u8 *)bits;
+    bench_u32 held = 0, action;
+    unsigned i;
+    for (i = 0; bits && i < sizeof held; i++)
+        ((bench_u8 *)&held)[i] = from[i];
+    action = bench_for_header_react(role, running, permissions, &held, byte);
+    bench_put(bits, held);
     return action;
 }
 

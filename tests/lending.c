@@ -252,19 +252,25 @@ static void try_alone(const struct call *of, unsigned i) {
     must_answer(call->empty[i]);
 }
 
-/* Lengths that no memory has, the last of which are 0 and a right one where they are counted in bytes and wrap around. */
-static void try_endless(const struct call *of, unsigned i) {
-    const bench_size most = -1ul, wrong[] = {most, most - 1, most / 2, most / 4, most / 4 + 1, most / 4 + 1 + BENCH_STATE};
-    for (unsigned w = 0; w < sizeof wrong / sizeof *wrong; w++) {
-        apart(of);
-        fill();
-        count_bytes();
-        n[i] = wrong[w];
-        memcpy(wanted, arena, ARENA);
-        bench_u32 number = call->make((places)at, n);
-        if (number != 3 && (in_words(i) || w < 2))
-            fail("a length that no memory has (which, number)", w, number);
-        refused++;
+/* A length that no memory has. */
+static void try_endless(const struct call *of, unsigned i, bench_size length) {
+    apart(of);
+    fill();
+    n[i] = length;
+    bench_u32 number = call->make((places)at, n);
+    if (number != 3)
+        fail("a length that no memory has (length, number)", length, number);
+    refused++;
+}
+
+/* For words also lengths that wrap around where they are counted in bytes: to 0, and to the right one. */
+static void try_ends(const struct call *of, unsigned i) {
+    const bench_size most = -1ul;
+    try_endless(of, i, most);
+    try_endless(of, i, most - 1);
+    for (bench_size wraps = 1; in_words(i) && wraps < 4; wraps++) {
+        try_endless(of, i, wraps * (most / 4 + 1));
+        try_endless(of, i, wraps * (most / 4 + 1) + of->words[i]);
     }
 }
 
@@ -276,8 +282,8 @@ static void try_call(const struct call *of) {
     try_pairs(of);
     for (unsigned i = 0; lent(i); i++) {
         try_alone(of, i);
-        if (in_words(i))
-            try_endless(of, i);
+        if (call->lent[i] != VALUE)
+            try_ends(of, i);
     }
 }
 

@@ -108,13 +108,13 @@ pub extern "C" fn bench_for_header_react(
     role: u32,
     running: u32,
     permissions: u32,
-    register: &mut u32,
+    bits: &mut u32,
     byte: u8,
 ) -> u32
-    ensures { λ r. ⌜ (r ≡ actionOf (reacts (yes role) (yes running) permissions (now (register .entry)) byte .action)) × (now (register .exit) ≡ reacts (yes role) (yes running) permissions (now (register .entry)) byte .register) ⌝ }
+    ensures { λ r. ⌜ (r ≡ actionOf (reacts (yes role) (yes running) permissions (now (bits .entry)) byte .action)) × (now (bits .exit) ≡ reacts (yes role) (yes running) permissions (now (bits .entry)) byte .register) ⌝ }
 {
-    let reaction = device::react(role != 0, running != 0, permissions, *register, byte);
-    *register = reaction.register;
+    let reaction = device::react(role != 0, running != 0, permissions, *bits, byte);
+    *bits = reaction.register;
     let action = reaction.action;
     action_of(action)
 }

@@ -1,0 +1,32 @@
+#!/bin/sh
+# The header against the door's source: what include/bench.h declares of the archive is what crates/door exports, and each
+# function that people call takes what the one behind it takes. Both are read here; nothing else compares them, as C's linker
+# knows names alone.
+set -eu
+cd "$(dirname "$0")/.."
+work=$(mktemp -d)
+trap 'rm -rf "$work"' EXIT
+
+# A file on one line, with its comments gone and no space too many.
+line() {
+    sed 's,//.*,,' "$1" | tr '\n' ' ' | sed 's,/\*[^*]*\*\(\**[^/*][^*]*\*\)*\**/, ,g; s/  */ /g; s/( /(/g; s/,* )/)/g'
+}
+
+# The exported functions, as C has to declare them: a lent area is a pointer and a length.
+line crates/door/src/lib.rt | grep -o 'pub extern "C" fn [a-z_]*([^)]*) -> [a-z0-9]*' | sed '
+    s/^pub extern "C" fn \(.*\) -> \(.*\)$/\2 \1/
+    s/\([a-z_]*\): &mut \[\([a-z0-9]*\)\]/\2 *\1, usize \1_length/g
+    s/\([a-z_]*\): &\[\([a-z0-9]*\)\]/const \2 *\1, usize \1_length/g
+    s/\([a-z_]*\): &mut \([a-z0-9]*\)/\2 *\1/g
+    s/\([a-z_]*\): \([a-z0-9]*\)/\2 \1/g
+    s/usize/bench_size/g
+    s/u32 /bench_u32 /g
+    s/u8 /bench_u8 /g' >"$work/exported"
+[ -s "$work/exported" ]
+[ "$(wc -l <"$work/exported")" -eq "$(grep -c no_mangle crates/door/src/lib.rt)" ]
+
+line include/bench.h >"$work/header"
+grep -o 'bench_u32 bench_for_header_[a-z_]*([^)]*);' "$work/header" | tr -d ';' | diff "$work/exported" -
+grep -o 'static inline bench_u32 bench_[a-z_]*([^)]*) {' "$work/header" |
+    sed 's/^static inline //; s/ {$//; s/ bench_/ bench_for_header_/' | diff "$work/exported" -
+echo "header: ok"
