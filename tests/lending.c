@@ -146,9 +146,9 @@ static void fill(void) {
     for (bench_size i = 0; i < ARENA; i++)
         arena[i] = 7 * i + 1;
     for (unsigned i = 0; lent(i); i++) {
-        if (at[i] && call->lent[i] == PLAN)
+        if (at[i] && n[i] && call->lent[i] == PLAN)
             memcpy(at[i], file, file_length);
-        if (at[i] && call->lent[i] == STATE)
+        if (at[i] && n[i] && call->lent[i] == STATE)
             memcpy(at[i], started, sizeof started);
     }
 }
@@ -234,7 +234,17 @@ static void try_pairs(const struct call *of) {
                 try_shared(of, i, j, shared);
 }
 
-/* One area at a time: not aligned; null with a length; empty, at null. A value may be anywhere, and is then the same. */
+/* An empty area shares nothing, wherever it is. */
+static void try_empty(const struct call *of, unsigned i, bench_u8 *place) {
+    apart(of);
+    at[i] = place;
+    n[i] = 0;
+    fill();
+    count_bytes();
+    must_answer(call->empty[i]);
+}
+
+/* One area at a time: not aligned; null with a length; empty. A value may be anywhere, or nowhere. */
 static void try_alone(const struct call *of, unsigned i) {
     for (unsigned off = 1; off < 4; off++) {
         apart(of);
@@ -246,10 +256,8 @@ static void try_alone(const struct call *of, unsigned i) {
     check(call->lent[i] != VALUE);
     if (call->lent[i] == VALUE)
         return;
-    n[i] = 0;
-    fill();
-    count_bytes();
-    must_answer(call->empty[i]);
+    try_empty(of, i, 0);
+    try_empty(of, i, at[!i] + 8);
 }
 
 /* A length that no memory has. */
