@@ -179,6 +179,15 @@ def mesh():
     return plan
 
 
+def chain():
+    """A source, thirty routers and a handler in a row: 31 links, as far apart as two devices can be. Each router passes on by its last port."""
+    plan = Plan(2000, 4000)
+    row = [plan.node(source=[5])] + [plan.router(8) for _ in range(30)] + [plan.node(handler=[5])]
+    for i in range(31):
+        plan.join((row[i], 7 if i else 0), (row[i + 1], 0))
+    return plan
+
+
 def never():
     """Four routers in a ring with none, one, two and three nodes, and loads of 1: every bit is gone before its code comes round again, so
     the code never stops. How many devices hold it tells where it is."""
@@ -222,5 +231,5 @@ def idle():
 
 if __name__ == "__main__":
     folder = pathlib.Path(sys.argv[1] if len(sys.argv) > 1 else pathlib.Path(__file__).parent)
-    for make in (three, ring, tree, torus, full, loop, brief, mute, incident, mesh, never, fading, refused, idle):
+    for make in (three, ring, tree, torus, full, loop, brief, mute, incident, mesh, chain, never, fading, refused, idle):
         (folder / f"{make.__name__}.plan").write_bytes(make().file())

@@ -44,6 +44,16 @@ enum { BENCH_TIME, BENCH_INTERRUPT, BENCH_ACKNOWLEDGE, BENCH_RESERVED };
 /* What a device does with a code: names it, reports a link error, ignores it, forwards it, tells its host. */
 enum { BENCH_NAMED, BENCH_LINK_ERROR, BENCH_IGNORED, BENCH_FORWARDED, BENCH_TOLD_HOST };
 
+/* The stack that each call needs, in bytes, and each program, from its arguments down: measured by painting it and rounded up
+ * (tests/stack.sh, which fails where one needs more). */
+enum {
+    BENCH_STACK_CODE_READ = 256, BENCH_STACK_CODE_WRITE = 256, BENCH_STACK_REACT = 256, BENCH_STACK_PLAN_READ = 4096,
+    BENCH_STACK_START = 5120, BENCH_STACK_REQUEST = 7168, BENCH_STACK_ACKNOWLEDGE = 7168, BENCH_STACK_LINK_STOP = 6144,
+    BENCH_STACK_LINK_START = 6144, BENCH_STACK_RESET = 5120, BENCH_STACK_ROUND = 7168, BENCH_STACK_SETTLE = 14336,
+    BENCH_STACK_REACH = 28672, BENCH_STACK_REPORT = 38912,
+    BENCH_STACK_PROGRAM_SETTLE = 73728, BENCH_STACK_PROGRAM_DECODE = 92160
+};
+
 /* ---- the archive's own symbols: for the functions below, which test what is lent, and for no other caller in C */
 
 bench_u32 bench_for_header_code_read(bench_u8 byte, bench_u32 *value);

@@ -1,0 +1,200 @@
+/* The stack that each call of include/bench.h needs: it is made on a stack of paint, and what is no paint afterwards was used.
+ *
+ *     stack PLAN...     prints the call, the bytes used at most over all plans, and the bytes that the header says;
+ *                       then what the header says of the programs. Fails where a call needs more. */
+#include "bench.h"
+
+/* The kit's compiler has no headers of C's library. */
+int open(const char *name, int how);
+int close(int file);
+long read(int file, void *into, unsigned long bytes);
+int printf(const char *format, ...);
+void *memcpy(void *to, const void *from, unsigned long bytes);
+void *memset(void *to, int byte, unsigned long bytes);
+
+enum { STACK = 1 << 18, PAINT = 0xA5 };
+static _Alignas(16) bench_u8 stack[STACK];
+
+/* What the calls are given. */
+static bench_u8 file[16897], text[BENCH_TEXT];
+static bench_size length, device;
+static bench_u32 k, value, set;
+static bench_u32 before[BENCH_STATE], state[BENCH_STATE], next[BENCH_STATE], sent[BENCH_SENT], told[BENCH_TOLD];
+
+/* ---- the calls */
+
+static void code_read(void) {
+    bench_code_read(191, &value);
+}
+
+static void code_write(void) {
+    bench_code_write(BENCH_INTERRUPT, 31, &value);
+}
+
+static void react(void) {
+    bench_react(1, 1, 15, &value, 133);
+}
+
+static void plan_read(void) {
+    bench_plan_read(file, length, &value);
+}
+
+static void start(void) {
+    bench_start(file, length, state, BENCH_STATE);
+}
+
+static void request(void) {
+    bench_request(file, length, state, BENCH_STATE, device, k);
+}
+
+static void acknowledge(void) {
+    bench_acknowledge(file, length, state, BENCH_STATE, device, k);
+}
+
+static void link_stop(void) {
+    bench_link_stop(file, length, state, BENCH_STATE, device, 0);
+}
+
+static void link_start(void) {
+    bench_link_start(file, length, state, BENCH_STATE, device, 0);
+}
+
+static void reset(void) {
+    bench_reset(file, length, state, BENCH_STATE, device);
+}
+
+static void round(void) {
+    bench_round(file, length, state, BENCH_STATE, next, BENCH_STATE, sent, BENCH_SENT, told, BENCH_TOLD, &value);
+}
+
+static void settle(void) {
+    bench_settle(file, length, state, BENCH_STATE, 4096, &value);
+}
+
+static void reach(void) {
+    bench_reach(file, length, state, BENCH_STATE, device, k, &value, &set);
+}
+
+static void report(void) {
+    bench_report(file, length, text, BENCH_TEXT, &value);
+}
+
+static struct call {
+    const char *name;
+    void (*make)(void);
+    bench_size says, needs;
+} calls[] = {
+    {"bench_code_read", code_read, BENCH_STACK_CODE_READ, 0},
+    {"bench_code_write", code_write, BENCH_STACK_CODE_WRITE, 0},
+    {"bench_react", react, BENCH_STACK_REACT, 0},
+    {"bench_plan_read", plan_read, BENCH_STACK_PLAN_READ, 0},
+    {"bench_start", start, BENCH_STACK_START, 0},
+    {"bench_request", request, BENCH_STACK_REQUEST, 0},
+    {"bench_acknowledge", acknowledge, BENCH_STACK_ACKNOWLEDGE, 0},
+    {"bench_link_stop", link_stop, BENCH_STACK_LINK_STOP, 0},
+    {"bench_link_start", link_start, BENCH_STACK_LINK_START, 0},
+    {"bench_reset", reset, BENCH_STACK_RESET, 0},
+    {"bench_round", round, BENCH_STACK_ROUND, 0},
+    {"bench_settle", settle, BENCH_STACK_SETTLE, 0},
+    {"bench_reach", reach, BENCH_STACK_REACH, 0},
+    {"bench_report", report, BENCH_STACK_REPORT, 0},
+};
+enum { CALLS = sizeof calls / sizeof *calls };
+
+/* ---- the measure */
+
+/* Makes a call at the top of the painted stack. */
+static void on_paint(void (*make)(void)) {
+    __asm__ volatile("movq %%rsp, %%rbx\n\tmovq %0, %%rsp\n\tcall *%1\n\tmovq %%rbx, %%rsp"
+                     :
+                     : "r"(stack + STACK), "r"(make)
+                     : "rbx", "rax", "rcx", "rdx", "rsi", "rdi", "r8", "r9", "r10", "r11", "xmm0", "xmm1", "xmm2", "xmm3",
+                       "xmm4", "xmm5", "xmm6", "xmm7", "xmm8", "xmm9", "xmm10", "xmm11", "xmm12", "xmm13", "xmm14", "xmm15",
+                       "cc", "memory");
+}
+
+static void measure(struct call *call) {
+    memcpy(state, before, sizeof state);
+    memset(stack, PAINT, STACK);
+    on_paint(call->make);
+    bench_size bare = 0;
+    while (bare < STACK && stack[bare] == PAINT)
+        bare++;
+    if (STACK - bare > call->needs)
+        call->needs = STACK - bare;
+}
+
+static void measure_all(void) {
+    for (unsigned i = 0; i < CALLS; i++)
+        measure(&calls[i]);
+}
+
+/* ---- what is tried */
+
+static int source(bench_size d, bench_u32 i) {
+    return file[512 * (1 + d) + 4 + i / 8] >> i % 8 & 1;
+}
+
+/* Every source in turn, in a network that has just started and in one where all have requested and some rounds went by;
+ * then a state that is not sound, and a file that is not accepted. */
+static void measure_plan(void) {
+    for (int busy = 0; busy < 2; busy++)
+        for (device = 0; device < file[1]; device++)
+            for (k = 0; k < 32; k++)
+                if (source(device, k)) {
+                    bench_start(file, length, before, BENCH_STATE);
+                    for (bench_size d = 0; busy && d < file[1]; d++)
+                        for (bench_u32 i = 0; i < 32; i++)
+                            bench_request(file, length, before, BENCH_STATE, d, i);
+                    measure_all();
+                    k += 7;
+                }
+    before[0] ^= 1;
+    device = k = 0;
+    measure_all();
+    file[600] ^= 1;
+    measure_all();
+}
+
+/* The last device becomes a router of eight ports: at the end of a row of routers nothing goes deeper than its last port. */
+static void lengthen(void) {
+    bench_u8 *block = file + 512 * file[1];
+    bench_u32 sum = 0;
+    block[2] = 1;
+    block[3] = 8;
+    memset(block + 4, 0, 8);
+    for (bench_u32 i = 0; i < 510; i++)
+        sum += (i + 1) * block[i];
+    block[510] = sum % 65521 % 256;
+    block[511] = sum % 65521 / 256;
+}
+
+static int load(const char *name) {
+    int from = open(name, 0);
+    long got;
+    length = 0;
+    while ((got = read(from, file + length, sizeof file - length)) > 0)
+        length += got;
+    close(from);
+    return bench_plan_read(file, length, 0) == 0;
+}
+
+int main(int count, char **plans) {
+    int more = 0;
+    for (int i = 1; i < count; i++) {
+        if (!load(plans[i])) {
+            printf("no plan: %s\n", plans[i]);
+            return 1;
+        }
+        measure_plan();
+        load(plans[i]);
+        lengthen();
+        measure_plan();
+    }
+    for (unsigned i = 0; i < CALLS; i++) {
+        printf("%s %lu %lu\n", calls[i].name, calls[i].needs, calls[i].says);
+        more |= calls[i].needs > calls[i].says;
+    }
+    printf("bin/settle - %u\nbin/decode - %u\n", BENCH_STACK_PROGRAM_SETTLE, BENCH_STACK_PROGRAM_DECODE);
+    return more;
+}
