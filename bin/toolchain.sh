@@ -18,18 +18,79 @@ run() {
     ${emulator:+"$emulator"} "$lib/ld-linux-x86-64.so.2" --library-path "$lib" "$@"
 }
 
-# Proves and builds a crate: build check NAME for a program, build staticlib NAME for an archive. It does nothing
-# where that has been done since the sources last changed: the stamp bears the time at which the build began.
+# Proves and builds a crate: build check NAME for a program, build staticlib NAME for an archive. It does nothing where that
+# has been done since the sources last changed.
 build() {
+    case $1 in check) made=$here/target/bin/$2 ;; *) made=$here/target/staticlib/lib$2.a ;; esac
     stamp=$here/target/built/$1-$2
-    if [ -e "$stamp" ] && [ -z "$(find "$here/crates" "$here/crates.txt" -newer "$stamp" -print -quit)" ]; then return; fi
-    echo "$2: proving and building it first, once" >&2
-    mkdir -p "$here/target/built"
+    ! is_built || return 0
+    mkdir -p "$here/target/built" 2>/dev/null && [ -w "$here/target/built" ] || {
+        echo "$2: it is not built yet, and $here cannot be written: copy the repository to where it can, and start it there" >&2
+        exit 2
+    }
+    alone "$@"
+    is_built || prove "$@"
+    exec 9>&-
+}
+
+# Is it there, and newer than every source?
+is_built() {
+    [ -e "$made" ] && [ -e "$stamp" ] && [ -z "$(find "$here/crates" "$here/crates.txt" -newer "$stamp" -print -quit)" ]
+}
+
+# One build at a time: two would write the same files. The lock goes with the process that has it.
+alone() {
+    exec 9>>"$here/target/built/lock"
+    command -v flock >/dev/null 2>&1 || return 0
+    flock -n 9 || {
+        echo "$2: it is being built by another start; waiting for that" >&2
+        flock 9
+    }
+}
+
+# The crates that a crate is made of, itself among them, by crates.txt.
+crates_of() {
+    awk -v want="$1" '
+        function visit(name,    need, i, n) {
+            if (!(name in needs) || name in seen) return
+            seen[name] = 1
+            count++
+            n = split(needs[name], need, " ")
+            for (i = 1; i <= n; i++) visit(need[i])
+        }
+        { sub(/#.*/, "") }
+        /:/ { name = $0; sub(/:.*/, "", name); sub(/[^:]*:/, ""); needs[name] = $0 }
+        END { visit(want); print count }' "$here/crates.txt"
+}
+
+# Says of each crate that it is proved, when rt does: proved NAME COUNT.
+proved() {
+    done=0
+    while IFS= read -r line; do
+        case $line in
+        'rt: '*' proved ('*) crate=${line#rt: } ;;
+        'rt: target/staticlib/'*) crate=$1 ;;
+        *) continue ;;
+        esac
+        done=$((done + 1))
+        echo "$1: ${crate%% *} is proved, $done of $2" >&2
+    done
+}
+
+# Proves and builds it, and says what is proved as it goes. The stamp bears the time at which that began. A stamp of rt's own for a
+# program that is gone would have rt build nothing.
+prove() {
+    count=$(crates_of "$2")
+    echo "$2: its $count crates are proved first, once, which takes minutes" >&2
     touch "$stamp.new"
-    if ! log=$(cd "$here" && rt "$1" "$2" </dev/null 2>&1); then
-        printf '%s\n' "$log" >&2
+    [ -e "$made" ] || rm -f "$here/target/stamp/$2"
+    {
+        if (cd "$here" && rt "$1" "$2" </dev/null 2>&1); then echo 0 >"$stamp.ended"; else echo 1 >"$stamp.ended"; fi
+    } | tee "$stamp.log" | proved "$2" "$count"
+    if [ "$(cat "$stamp.ended")" != 0 ] || [ ! -e "$made" ]; then
+        cat "$stamp.log" >&2
         echo "$2: it is not proved, so it is not run" >&2
-        exit 1
+        exit 2
     fi
     mv "$stamp.new" "$stamp"
 }

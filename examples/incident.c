@@ -85,7 +85,7 @@ int main(void) {
     /* How long the handler has to wait: until nothing waits. */
     bench_u32 wait;
     begin();
-    must("settle", bench_settle(file, length, AREA(states[now]), AREA(states[!now]), 4096, &wait));
+    must("settle", bench_settle(file, length, AREA(states[now]), 4096, &wait));
     printf("nothing waits after %u rounds\n", wait);
 
     acknowledge_after(wait);

@@ -1,5 +1,5 @@
 #!/bin/sh
-# The commands of the README, as a new user types them.
+# The commands of the README, as a new user types them, and the mistakes that one makes.
 set -eu
 cd "$(dirname "$0")/.."
 work=$(mktemp -d)
@@ -23,22 +23,100 @@ example settle
 example decode
 example example
 
-# A second start builds nothing and says nothing.
-for program in decode settle; do
-    bin/$program </dev/null >/dev/null 2>"$work/said"
-    [ ! -s "$work/said" ]
+# The command ends with a status, and has so many lines on standard output and on standard error.
+ends() {
+    status=0
+    out=$2 said=$3 wanted=$1
+    shift 3
+    "$@" >"$work/out" 2>"$work/said" || status=$?
+    [ "$status $(wc -l <"$work/out") $(wc -l <"$work/said")" = "$wanted $out $said" ] || {
+        echo "$*: status $status for $wanted, and it printed and said:"
+        cat "$work/out" "$work/said"
+        exit 1
+    }
+}
+
+# A file may be named, or stand on standard input; a second start says nothing.
+three=examples/three.plan
+for given in "$three" ''; do
+    ends 0 2 0 bin/settle $given <$three
+    cmp "$work/out" examples/expected/three.txt
+    ends 0 2048 0 bin/decode $given <$three
+    ends 0 4 0 bin/example incident ${given:+examples/incident.plan} <examples/incident.plan
+    cmp "$work/out" tests/incident.txt
 done
 
-# No kit: one clear line, and a status that is not 0. The folder has the shell's tools and no rt.
+# By a link, and by a link to that, from elsewhere.
+ln -s "$PWD/bin/settle" "$work/link"
+ln -s link "$work/other"
+for link in "$work/link" "$work/other"; do (cd / && ends 0 2 0 "$link" "$OLDPWD/$three"); done
+
+# A refused file gives 1, and the line that says so; so does what cannot be read or written, with a line that says that.
+head -c 600 $three >"$work/short"
+ends 1 1 0 bin/settle "$work/short"
+grep -qx 'bad 20 0' "$work/out"
+ends 1 1 0 bin/settle </dev/null
+ends 0 0 0 bin/decode </dev/null
+ends 1 1 0 bin/example incident "$work/short"
+for program in settle decode; do
+    ends 1 0 1 bin/$program <&-
+    grep -q 'input could not be read' "$work/said"
+    ends 1 0 1 bin/$program </
+    grep -q 'input could not be read' "$work/said"
+    ends 1 0 1 sh -c "bin/$program $three >/dev/full"
+    grep -q 'output could not be written' "$work/said"
+    ends 1 0 1 sh -c "bin/$program $three >&-"
+    grep -q 'output could not be written' "$work/said"
+done
+
+# The rest is tried where a kit is out of reach, so that whatever builds fails. The folder has the shell's tools and no rt.
 mkdir "$work/tools"
 for tool in sh dirname uname readlink; do ln -s "$(command -v $tool)" "$work/tools/$tool"; done
-for program in decode settle; do
-    if PATH=$work/tools bin/$program </dev/null >"$work/out" 2>"$work/said"; then
-        echo "$program started without the kit"
-        exit 1
-    fi
-    [ ! -s "$work/out" ]
-    [ "$(wc -l <"$work/said")" -eq 1 ]
+no_kit() {
+    PATH=$work/tools "$@"
+}
+for program in 'settle' 'decode' 'example incident'; do
+    # shellcheck disable=SC2086
+    ends 2 0 1 no_kit bin/$program <$three
     grep -q 'kit is missing' "$work/said"
 done
+
+# A mistake gets one line on how to call it, before anything is built.
+helps() {
+    ends 2 0 1 no_kit "$@" <$three
+    grep -q 'usage: ' "$work/said"
+}
+for program in settle decode 'example incident'; do
+    helps bin/$program one two
+    helps bin/$program no-such-file
+    helps bin/$program examples
+    helps bin/$program --flag
+    ends 0 1 0 no_kit bin/${program% *} --help
+    grep -q '^usage: ' "$work/out"
+done
+helps bin/example
+helps bin/example no-such-example
+helps bin/example ../bench/plain
+
+# A terminal for standard input, and one that is not ready.
+if command -v python3 >/dev/null 2>&1; then
+    cat >"$work/input.py" <<'END'
+import os, pty, subprocess, sys
+if sys.argv[1] == "terminal":
+    given = pty.openpty()[1]
+else:
+    given, keep = os.pipe()
+    os.set_blocking(given, False)
+sys.exit(subprocess.run(sys.argv[2:], stdin=given).returncode)
+END
+    for program in settle decode 'example incident'; do
+        # shellcheck disable=SC2086
+        ends 2 0 1 python3 "$work/input.py" terminal bin/$program
+        grep -q 'usage: ' "$work/said"
+    done
+    for program in settle decode; do
+        ends 1 0 1 python3 "$work/input.py" waiting bin/$program
+        grep -q 'input could not be read' "$work/said"
+    done
+fi
 echo "commands: ok"

@@ -1,7 +1,10 @@
 #!/bin/sh
 # Faults of input and output: settle and decode end, are ended by no signal of their own, and print nothing wrong.
+# tests/commands.sh has what the commands then say, and their status.
 set -eu
 cd "$(dirname "$0")/.."
+here=$(pwd -P)
+. bin/toolchain.sh
 work=$(mktemp -d)
 trap 'rm -rf "$work"' EXIT
 plan=examples/three.plan
@@ -9,22 +12,22 @@ plan=examples/three.plan
 # Ends in time, and not by a signal; its output is in $work/out.
 ends() {
     status=0
-    timeout 20 "$@" >"$work/out" || status=$?
+    timeout 20 "$@" >"$work/out" 2>"$work/said" || status=$?
     [ "$status" -lt 124 ] || { echo "$* ended with $status"; exit 1; }
 }
 printed() {
     printf "$1" | cmp - "$work/out"
 }
-bin/settle </dev/null >/dev/null
-bin/decode </dev/null >/dev/null
+bin/settle $plan >/dev/null
+bin/decode $plan >/dev/null
 
 # No input, and none that could be read.
 ends bin/settle </dev/null
 printed 'bad 20 0\n'
 ends bin/settle <&-
-printed 'bad 20 0\n'
+printed ''
 ends bin/settle </
-printed 'bad 20 0\n'
+printed ''
 ends bin/decode </dev/null
 printed ''
 ends bin/decode <&-
@@ -67,5 +70,14 @@ for program in settle decode; do
     timeout 20 bin/$program <$plan >/dev/full 2>/dev/null || status=$?
     [ "$status" -lt 124 ]
 done
-timeout 20 bin/decode </dev/zero >/dev/full 2>/dev/null
+ends sh -c 'bin/decode </dev/zero >/dev/full'
+printed ''
+
+# The program itself, as the command for settle writes in its place: the one line that it says.
+for program in settle decode; do
+    for output in '>/dev/full' '>&-'; do
+        said=$(eval "run target/bin/$program <$plan $output" 2>&1)
+        [ "$said" = "$program: standard output could not be written" ]
+    done
+done
 echo "faults: ok"

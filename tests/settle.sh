@@ -6,16 +6,20 @@ cd "$(dirname "$0")/.."
 work=$(mktemp -d)
 trap 'rm -rf "$work"' EXIT
 
-# For its input the program prints the text in this file, and nothing else.
+# For its input the program prints the text in this file, and nothing else, and the command ends with this status.
+ends() {
+    status=0
+    bin/settle >"$work/given" || status=$?
+    cmp "$work/given" "$2" && [ "$status" = "$1" ]
+}
 prints() {
-    bin/settle >"$work/given"
-    cmp "$work/given" "$1"
+    ends 0 "$1"
 }
 
 # Its input is refused by this number with this block.
 refuses() {
     echo "bad $1 $2" >"$work/bad-$1-$2"
-    prints "$work/bad-$1-$2"
+    ends 1 "$work/bad-$1-$2"
 }
 
 # The stored text of a plan.
