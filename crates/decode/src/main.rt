@@ -23,29 +23,32 @@ fn main() {
 fn list_all() {
     let mut page = [0u8; PAGE];
     let mut turns = u64::MAX;
-    while turns > 0 && list_some(&mut page) {
+    while turns > 0 && 0 < list_some(&mut page) {
         turns -= 1;
     }
 }
 
-// Reads once, writes the lines of what came, and answers whether to go on: not where the input has
-// ended, nor where the read or the write failed. A failure is said, or it would look like the end.
-fn list_some(page: &mut [u8; PAGE]) -> bool {
+// Reads once, writes the lines of what came, and answers how many bytes those were. Nothing came
+// where the input has ended; where the read or the write failed it is 0 too, and that is said, or it
+// would look like the end.
+fn list_some(page: &mut [u8; PAGE]) -> usize
+    ensures { λ r. ⌜ r ≤ 4096 ⌝ }
+{
     let mut piece = [0u8; PIECE];
     let got = libc::read(STDIN_FILENO, &mut piece);
     if got < 0 {
         io::write_all(STDERR_FILENO, b"decode: standard input could not be read\n");
-        return false;
+        return 0;
     }
     let n = io::count(got, &piece);
-    if !show(&piece[..n], page) {
-        io::write_all(
-            STDERR_FILENO,
-            b"decode: standard output could not be written\n",
-        );
-        return false;
+    if show(&piece[..n], page) {
+        return n;
     }
-    0 < n
+    io::write_all(
+        STDERR_FILENO,
+        b"decode: standard output could not be written\n",
+    );
+    0
 }
 
 // Writes the lines of a whole piece, and answers whether it could.
