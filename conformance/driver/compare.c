@@ -33,7 +33,7 @@ static const u8 numbers[CALLS][12] = {
     [CODE_READ] = {0, END}, [CODE_WRITE] = {0, 5, END}, [REACT] = {0, END}, [PLAN_READ] = {0, 20, 21, 22, 23, 24, 25, 26, END},
     [START] = {0, 1, 3, END}, [REQUEST] = {0, 1, 2, 4, 5, 6, 7, 8, 9, END}, [ACKNOWLEDGES] = {0, 1, 2, 4, 5, 6, 7, 8, 9, END},
     [LINK_STOP] = {0, 1, 2, 4, 7, 10, END}, [LINK_START] = {0, 1, 2, 4, 7, 10, END}, [RESET] = {0, 1, 2, 4, END},
-    [ROUND] = {0, 1, 2, 3, END}, [SETTLE] = {0, 1, 2, 3, 11, 12, END}, [REACH] = {0, 1, 2, 4, 5, 6, END}, [REPORT] = {0, 3, END}};
+    [ROUND] = {0, 1, 2, 3, END}, [SETTLE] = {0, 1, 2, 11, 12, END}, [REACH] = {0, 1, 2, 4, 5, 6, END}, [REPORT] = {0, 3, END}};
 
 void case_begin(size of_seed, size which) {
     seed = of_seed;
@@ -217,15 +217,13 @@ u32 try_round(const struct plan *plan, const struct state *old, struct played *p
     return bench;
 }
 
-u32 try_settle(const struct plan *plan, struct state *state, size second_length, u32 allowance) {
-    begin(SETTLE, plan->length, state->length, second_length, allowance, 0);
+u32 try_settle(const struct plan *plan, struct state *state, u32 allowance) {
+    begin(SETTLE, plan->length, state->length, allowance, 0, 0);
     struct lent *file = lend("plan", INPUT, 1, plan->bytes, plan->length);
     struct lent *area = lend("state", AREA, 4, state->words, state->length);
-    struct lent *second = lend("second area", AREA, 4, 0, second_length), *rounds = lend("rounds", VALUE, 4, 0, 1);
-    u32 judge = judge_settle(by_judge(file), plan->length, by_judge(area), state->length, by_judge(second), second_length,
-                             allowance, by_judge(rounds));
-    u32 bench = bench_settle(by_bench(file), plan->length, by_bench(area), state->length, by_bench(second), second_length,
-                             allowance, by_bench(rounds));
+    struct lent *rounds = lend("rounds", VALUE, 4, 0, 1);
+    u32 judge = judge_settle(by_judge(file), plan->length, by_judge(area), state->length, allowance, by_judge(rounds));
+    u32 bench = bench_settle(by_bench(file), plan->length, by_bench(area), state->length, allowance, by_bench(rounds));
     finish(judge, bench);
     memcpy(state->words, by_bench(area), area->bytes);
     return bench;
@@ -243,15 +241,11 @@ u32 try_reach(const struct plan *plan, const struct state *state, size device, u
 }
 
 u32 try_report(const struct plan *plan, struct printed *printed) {
-    size state_length = printed->state_length, second_length = printed->second_length, text_length = printed->text_length;
-    begin(REPORT, plan->length, state_length, second_length, text_length, 0);
+    begin(REPORT, plan->length, printed->text_length, 0, 0, 0);
     struct lent *file = lend("file", INPUT, 1, plan->bytes, plan->length);
-    struct lent *state = lend("state", AREA, 4, 0, state_length), *second = lend("second area", AREA, 4, 0, second_length);
-    struct lent *text = lend("text", AREA, 1, 0, text_length), *used = lend("length used", VALUE, 4, 0, 1);
-    u32 judge = judge_report(by_judge(file), plan->length, by_judge(state), state_length, by_judge(second), second_length,
-                             by_judge(text), text_length, by_judge(used));
-    u32 bench = bench_report(by_bench(file), plan->length, by_bench(state), state_length, by_bench(second), second_length,
-                             by_bench(text), text_length, by_bench(used));
+    struct lent *text = lend("text", AREA, 1, 0, printed->text_length), *used = lend("length used", VALUE, 4, 0, 1);
+    u32 judge = judge_report(by_judge(file), plan->length, by_judge(text), printed->text_length, by_judge(used));
+    u32 bench = bench_report(by_bench(file), plan->length, by_bench(text), printed->text_length, by_bench(used));
     finish(judge, bench);
     memcpy(printed->text, by_bench(text), text->bytes);
     memcpy(&printed->used, by_bench(used), used->bytes);

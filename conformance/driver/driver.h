@@ -33,9 +33,9 @@ struct played {
     u32 sent[2 * SENT_WORDS], told[2 * TOLD_WORDS], count;
 };
 
-/* What a report prints, and the lengths of its areas. */
+/* What a report prints, and the length of the area for it. */
 struct printed {
-    size state_length, second_length, text_length;
+    size text_length;
     u32 used;
     u8 text[ROOM];
 };
@@ -64,7 +64,7 @@ u32 try_plan_read(const struct plan *plan);
 u32 judge_change(enum call call, const u8 *plan, size plan_length, u32 *state, size state_length, size device, size other);
 u32 try_change(enum call call, const struct plan *plan, struct state *state, size device, size other);
 u32 try_round(const struct plan *plan, const struct state *old, struct played *played);
-u32 try_settle(const struct plan *plan, struct state *state, size second_length, u32 allowance);
+u32 try_settle(const struct plan *plan, struct state *state, u32 allowance);
 u32 try_reach(const struct plan *plan, const struct state *state, size device, u32 k);
 u32 try_report(const struct plan *file, struct printed *printed);
 

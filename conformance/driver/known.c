@@ -4,7 +4,7 @@
 static struct plan plan;
 static struct state state;
 static struct played played;
-static struct printed printed = {.state_length = STATE_WORDS, .second_length = STATE_WORDS, .text_length = TEXT_BYTES};
+static struct printed printed = {.text_length = TEXT_BYTES};
 
 /* Node 0, source of 5, to router 1, to node 2, handler of 5. */
 static void three_in_a_row(void) {
@@ -81,8 +81,8 @@ void known_values(void) {
     known_choice(1 << 5, 6, 128 + 5, 6);
     known_choice(1u << 31, 31, 128 + 31, 0);
     known_choice(0, 6, 256, 6);
-    must_be("allowance 4,096", 0, try_settle(&plan, &state, STATE_WORDS, MOST_ALLOWED));
-    must_be("allowance 4,097", 11, try_settle(&plan, &state, STATE_WORDS, MOST_ALLOWED + 1));
+    must_be("allowance 4,096", 0, try_settle(&plan, &state, MOST_ALLOWED));
+    must_be("allowance 4,097", 11, try_settle(&plan, &state, MOST_ALLOWED + 1));
     known_timer();
     known_files();
 }

@@ -72,15 +72,15 @@ static u32 any_allowance(void) {
 static u32 any_call(struct plan *likely, const struct plan *plan, struct state *state) {
     static struct played played;
     enum call call;
-    size device, other, length = length_near(STATE_WORDS);
+    size device, other;
     likely_call(likely, &call, &device, &other);
     switch (pick(8)) {
     case 0:
-        played.next.length = length;
+        played.next.length = length_near(STATE_WORDS);
         played.sent_length = length_near(SENT_WORDS);
         played.told_length = length_near(TOLD_WORDS);
         return try_round(plan, state, &played);
-    case 1: return try_settle(plan, state, length, any_allowance());
+    case 1: return try_settle(plan, state, any_allowance());
     case 2:
         if (once_in(2))
             likely_host(likely, REQUEST, &device, &other);
@@ -161,7 +161,7 @@ void try_settling(struct plan *plan) {
     const u32 allowances[] = {0, 1, few, more, most, MOST_ALLOWED + 1, 0xFFFFFFFF};
     for (u32 i = 0; i < sizeof allowances / sizeof *allowances; i++) {
         sound_state(plan, &state);
-        u32 number = try_settle(plan, &state, STATE_WORDS, allowances[i]);
+        u32 number = try_settle(plan, &state, allowances[i]);
         must_be("settling", allowances[i] > MOST_ALLOWED ? 11 : number == 12 ? 12 : 0, number);
     }
     for (u32 d = 0; d < plan->bytes[1]; d++) {
@@ -200,8 +200,6 @@ void try_reports(struct plan *plan) {
     thin(&file, plan->bytes[3] > 0 ? (once_in(20) ? 1024 : 50) : 2);
     if (once_in(3))
         damage(&file);
-    printed.state_length = length_near(STATE_WORDS);
-    printed.second_length = length_near(STATE_WORDS);
     printed.text_length = texts[pick(sizeof texts / sizeof *texts)];
     try_report(&file, &printed);
 }

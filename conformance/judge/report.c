@@ -59,13 +59,12 @@ static void print_network(struct text *text, struct network *net) {
         }
 }
 
-u32 judge_report(const u8 *file, size length, u32 *state, size state_length, u32 *second, size second_length, u8 *text,
-                 size text_length, u32 *text_used) {
+u32 judge_report(const u8 *file, size length, u8 *text, size text_length, u32 *text_used) {
     struct network net;
     struct text printed = {text, 0};
     u32 block;
     *text_used = 0;
-    if (state_length != STATE_WORDS || second_length != STATE_WORDS || text_length < TEXT_BYTES)
+    if (text_length < TEXT_BYTES)
         return 3;
     u32 number = file_read(&net, file, length, &block);
     if (number) {
@@ -77,8 +76,6 @@ u32 judge_report(const u8 *file, size length, u32 *state, size state_length, u32
     } else {
         print_network(&printed, &net);
     }
-    for (u32 i = 0; i < STATE_WORDS; i++)
-        state[i] = second[i] = 0;
     *text_used = printed.used;
     return 0;
 }

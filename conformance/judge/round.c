@@ -119,20 +119,15 @@ u32 judge_round(const u8 *plan, size plan_length, const u32 *old, size old_lengt
     return 0;
 }
 
-u32 judge_settle(const u8 *plan, size plan_length, u32 *state, size state_length, u32 *second, size second_length,
-                 u32 allowance, u32 *rounds) {
+u32 judge_settle(const u8 *plan, size plan_length, u32 *state, size state_length, u32 allowance, u32 *rounds) {
     struct network net;
     *rounds = 0;
     u32 number = network_read(&net, plan, plan_length, state, state_length);
     if (number)
         return number;
-    if (second_length != STATE_WORDS)
-        return 3;
     if (allowance > MOST_ALLOWED)
         return 11;
     number = settle(&net, allowance, rounds);
     state_write(&net, state);
-    for (u32 i = 0; i < STATE_WORDS; i++)
-        second[i] = 0;
     return number;
 }
