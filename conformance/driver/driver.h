@@ -6,11 +6,11 @@
 
 /* The kit's compiler has no headers of C's library. */
 int printf(const char *format, ...);
+int dprintf(int file, const char *format, ...);
 _Noreturn void exit(int status);
 int memcmp(const void *one, const void *other, unsigned long bytes);
 void *memcpy(void *restrict to, const void *restrict from, unsigned long bytes);
 void *memset(void *to, int byte, unsigned long bytes);
-int strcmp(const char *one, const char *other);
 unsigned long strtoul(const char *text, char **end, int base);
 
 /* The longest area lent: a text of twice the least length. */

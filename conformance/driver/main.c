@@ -1,8 +1,6 @@
 /* The cases, each from the seed and its number alone. */
 #include "driver.h"
 
-enum { SEED = 20120831, BOUNDED = 2400, LONG = 12000 };
-
 static struct plan plan;
 static size demands;
 static u32 longest;
@@ -25,33 +23,31 @@ static void play(size seed, size which) {
         longest = window;
 }
 
-static int usage(void) {
-    printf("usage: conformance/run [--seed N] [--cases N | --long | --case N]\n");
-    return 2;
+/* A line on standard error at each tenth. */
+static void progress(size played, size cases) {
+    if (cases > 1 && 10 * played / cases > 10 * (played - 1) / cases)
+        dprintf(2, "%lu of %lu networks\n", played, cases);
 }
 
+static size number(const char *word) {
+    return strtoul(word, 0, 10);
+}
+
+/* For conformance/run, which has tested the numbers: the seed, the first case, how many cases, and 1 where every number
+ * that a call can answer has to be answered. */
 int main(int count, char **words) {
-    size seed = SEED, first = 0, cases = BOUNDED;
-    flag whole = 1;
-    for (int i = 1; i < count; i++) {
-        flag has_number = i + 1 < count;
-        if (!strcmp(words[i], "--long"))
-            cases = LONG;
-        else if (!strcmp(words[i], "--seed") && has_number)
-            seed = strtoul(words[++i], 0, 0);
-        else if (!strcmp(words[i], "--cases") && has_number)
-            cases = strtoul(words[++i], 0, 0);
-        else if (!strcmp(words[i], "--case") && has_number)
-            first = strtoul(words[++i], 0, 0), cases = 1, whole = 0;
-        else
-            return usage();
+    if (count != 5)
+        return 2;
+    size seed = number(words[1]), first = number(words[2]), cases = number(words[3]);
+    flag whole = number(words[4]);
+    for (size i = 0; i < cases; i++) {
+        play(seed, first + i);
+        progress(1 + i, cases);
     }
-    for (size i = first; i < first + cases; i++)
-        play(seed, i);
     printf("seed %lu, cases %lu to %lu\n", seed, first, first + cases - 1);
     table();
-    printf("demand 3 tried on %lu of the networks, for up to %u rounds; in the others no node is joined to anything\n", demands,
-           longest);
+    printf("demand 3 tried on %lu of the networks, for up to %u rounds; in the others no node is joined to anything\n",
+           demands, longest);
     if (whole && !all_hit())
         return 1;
     printf("judge: ok\n");
