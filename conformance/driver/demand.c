@@ -28,7 +28,7 @@ static flag find_source(struct trial *trial) {
     return 0;
 }
 
-/* Where no source can send, a node that is joined to something becomes one, and its link runs; 0 if there is no such node. */
+/* Where no source can send, a node that is joined to something becomes one, and its link runs; 0 if there is none. */
 static flag make_source(struct trial *trial) {
     trial->k = pick(IDENTIFIERS);
     for (u32 d = 0; d < plan.bytes[1]; d++) {
