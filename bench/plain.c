@@ -336,10 +336,9 @@ u32 plain_round(const u8 *file, usize length, const u32 *old, usize old_length, 
     return 0;
 }
 
-u32 plain_settle(const u8 *file, usize length, u32 *state, usize state_length, u32 *second, usize second_length, u32 allowance,
-                 u32 *rounds) {
+u32 plain_settle(const u8 *file, usize length, u32 *state, usize state_length, u32 allowance, u32 *rounds) {
     struct plan plan;
-    u32 number = refusal(file, length, state, &plan), *areas[2] = {state, second};
+    u32 second[BENCH_STATE], *areas[2] = {state, second}, number = refusal(file, length, state, &plan);
     int home;
     *rounds = 0;
     if (number)
@@ -347,7 +346,6 @@ u32 plain_settle(const u8 *file, usize length, u32 *state, usize state_length, u
     number = settle(&plan, areas, allowance, rounds, &home);
     if (home)
         memcpy(state, second, state_length * sizeof *state);
-    memset(second, 0, second_length * sizeof *second);
     return number;
 }
 
@@ -366,11 +364,9 @@ u32 plain_reach(const u8 *file, usize length, const u32 *state, usize state_leng
     return 0;
 }
 
-u32 plain_report(const u8 *file, usize length, u32 *state, usize state_length, u32 *second, usize second_length, u8 *text,
-                 usize text_length, u32 *text_used) {
+u32 plain_report(const u8 *file, usize length, u8 *text, usize text_length, u32 *text_used) {
+    u32 state[BENCH_STATE], second[BENCH_STATE];
     (void)text_length;
     *text_used = put_text(file, length, (u32 *[]){state, second}, text) - text;
-    memset(state, 0, state_length * sizeof *state);
-    memset(second, 0, second_length * sizeof *second);
     return 0;
 }

@@ -8,9 +8,7 @@ typedef bench_size usize;
 u32 plain_plan_read(const u8 *file, usize length, u32 *block);
 u32 plain_round(const u8 *file, usize length, const u32 *old, usize old_length, u32 *next, usize next_length, u32 *sent,
                 usize sent_length, u32 *told, usize told_length, u32 *count);
-u32 plain_settle(const u8 *file, usize length, u32 *state, usize state_length, u32 *second, usize second_length, u32 allowance,
-                 u32 *rounds);
+u32 plain_settle(const u8 *file, usize length, u32 *state, usize state_length, u32 allowance, u32 *rounds);
 u32 plain_reach(const u8 *file, usize length, const u32 *state, usize state_length, usize device, u32 k, u32 *devices,
                 u32 *set);
-u32 plain_report(const u8 *file, usize length, u32 *state, usize state_length, u32 *second, usize second_length, u8 *text,
-                 usize text_length, u32 *text_used);
+u32 plain_report(const u8 *file, usize length, u8 *text, usize text_length, u32 *text_used);

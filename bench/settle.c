@@ -5,7 +5,6 @@ long read(int, void *, usize);
 long write(int, const void *, usize);
 
 static u8 file[16896 + 1], text[BENCH_TEXT];
-static u32 state[BENCH_STATE], second[BENCH_STATE];
 
 int main(void) {
     usize length = 0;
@@ -13,6 +12,6 @@ int main(void) {
     while ((got = read(0, file + length, sizeof file - length)) > 0)
         length += got;
     u32 used;
-    plain_report(file, length, state, BENCH_STATE, second, BENCH_STATE, text, BENCH_TEXT, &used);
+    plain_report(file, length, text, BENCH_TEXT, &used);
     return write(1, text, used) != (long)used;
 }

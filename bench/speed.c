@@ -45,7 +45,7 @@ static u32 before[BENCH_STATE];
 /* What it gives. */
 static struct given {
     u32 number, value, set;
-    u32 state[BENCH_STATE], second[BENCH_STATE], sent[BENCH_SENT], told[BENCH_TOLD];
+    u32 state[BENCH_STATE], sent[BENCH_SENT], told[BENCH_TOLD];
     u8 text[BENCH_TEXT];
 } given[ALL];
 
@@ -64,7 +64,7 @@ static void round(const struct bench *b, struct given *g) {
 
 static void settle(const struct bench *b, struct given *g) {
     memcpy(g->state, before, sizeof before);
-    g->number = b->settle(file, length, g->state, BENCH_STATE, g->second, BENCH_STATE, 4096, &g->value);
+    g->number = b->settle(file, length, g->state, BENCH_STATE, 4096, &g->value);
 }
 
 static void reach(const struct bench *b, struct given *g) {
@@ -72,7 +72,7 @@ static void reach(const struct bench *b, struct given *g) {
 }
 
 static void report(const struct bench *b, struct given *g) {
-    g->number = b->report(file, length, g->state, BENCH_STATE, g->second, BENCH_STATE, g->text, BENCH_TEXT, &g->value);
+    g->number = b->report(file, length, g->text, BENCH_TEXT, &g->value);
 }
 
 /* ---- the measure */
