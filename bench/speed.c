@@ -1,6 +1,6 @@
 /* What a call costs, as C makes it: in ours, in plain C, and in the judge's C (conformance/), all in one process. A line of
-   the table has the call, the devices, how many identifiers wait at each port, the microseconds of each, and the ratio of
-   ours to each of theirs. All three have to come to the same. */
+   the table has the call, the devices, how many identifiers wait at each port, the median microseconds of each, and the
+   ratio of ours to each of theirs. All three have to come to the same. */
 #include "plain.h"
 
 struct timespec {
@@ -100,27 +100,27 @@ static double median(double *x, int n) {
     return x[n / 2];
 }
 
-/* All three in turn, many times: the best time of each, and the ratios' medians, as a machine's pace changes meanwhile. */
+/* All three in turn, many times, as a machine's pace changes meanwhile. Of each the median time is printed, and the ratios
+   are those of these medians, so that they are what the times beside them say. */
 static void race(const char *what, const char *waiting, call *work) {
     enum { RUNS = 31 };
-    double best[ALL], ratio[ALL][RUNS], t[ALL];
+    double t[ALL][RUNS], us[ALL];
     memset(given, 0, sizeof given);
     for (int which = 0; which < ALL; which++)
-        best[which] = timed(work, which, 1);
-    int turns = 1 + 1e6 / best[PLAIN];
+        t[which][0] = timed(work, which, 1);
+    int turns = 1 + 1e6 / t[PLAIN][0];
     for (int run = 0; run < RUNS; run++)
-        for (int which = 0; which < ALL; which++) {
-            t[which] = timed(work, which, turns);
-            best[which] = t[which] < best[which] ? t[which] : best[which];
-            ratio[which][run] = t[OURS] / t[which];
-        }
+        for (int which = 0; which < ALL; which++)
+            t[which][run] = timed(work, which, turns);
     for (int which = 1; which < ALL; which++)
         if (memcmp(&given[OURS], &given[which], sizeof given[OURS])) {
             printf("%s comes to something else in C\n", what);
             exit(1);
         }
-    printf("| %s | %u | %s | %.1f | %.1f | %.1f | %.2f | %.2f |\n", what, file[1], waiting, best[OURS] / 1000, best[PLAIN] / 1000,
-           best[JUDGE] / 1000, median(ratio[PLAIN], RUNS), median(ratio[JUDGE], RUNS));
+    for (int which = 0; which < ALL; which++)
+        us[which] = median(t[which], RUNS) / 1000;
+    printf("| %s | %u | %s | %.2f | %.2f | %.2f | %.2f | %.2f |\n", what, file[1], waiting, us[OURS], us[PLAIN], us[JUDGE],
+           us[OURS] / us[PLAIN], us[OURS] / us[JUDGE]);
 }
 
 /* ---- networks of any size */
@@ -217,7 +217,8 @@ static void report_of(const char *name) {
 }
 
 int main(int count, char **plans) {
-    printf("| call | devices | waiting | ours, us | C, us | judge, us | to C | to the judge |\n|---|---|---|---|---|---|---|---|\n");
+    printf("| call | devices | waiting | ours, us | C, us | judge, us | to C | to the judge |\n");
+    printf("|---|---|---|---|---|---|---|---|\n");
     for (u32 n = 2; n <= 32; n *= 4)
         growth(n);
     for (int i = 1; i < count; i++)
