@@ -6,7 +6,7 @@
 
 # Called wrongly: what is wrong, if there is more to say, and how to call it, on one line.
 wrong() {
-    echo "$name: ${1:+$1; }$usage" >&2
+    echo "${1:+$name: $1; }$usage" >&2
     exit 2
 }
 

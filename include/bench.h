@@ -114,20 +114,16 @@ static inline int bench_share(struct bench_lent one, struct bench_lent other) {
     return one.bytes && other.bytes && one.from < other.from + other.bytes && other.from < one.from + one.bytes;
 }
 
-/* Area i is there, and shares nothing with the others of its call. */
-static inline int bench_apart(const struct bench_lent *all, int count, int i) {
-    int j;
-    for (j = 0; j < count; j++)
-        if (j != i && bench_share(all[i], all[j]))
+/* All areas of a call are there, and share nothing. */
+static inline int bench_apart(const struct bench_lent *all, int count) {
+    int i, j;
+    for (i = 0; i < count; i++) {
+        for (j = 0; j < i; j++)
+            if (bench_share(all[i], all[j]))
+                return 0;
+        if (!all[i].there)
             return 0;
-    return all[i].there;
-}
-
-static inline int bench_all_apart(const struct bench_lent *all, int count) {
-    int i;
-    for (i = 0; i < count; i++)
-        if (!bench_apart(all, count, i))
-            return 0;
+    }
     return 1;
 }
 
@@ -140,10 +136,13 @@ static inline void bench_put(bench_u32 *place, bench_u32 value) {
         to[i] = from[i];
 }
 
-/* The same for the value whose place is the i-th of what a call is lent; what it would share stays as it is. */
-static inline void bench_give(const struct bench_lent *all, int count, int i, bench_u32 *place, bench_u32 value) {
-    if (bench_apart(all, count, i))
-        bench_put(place, value);
+/* The value of a call that refuses what it is lent, whose place is the i-th of that: 0, or as it was where the place is shared. */
+static inline void bench_put_none(const struct bench_lent *all, int count, int i, bench_u32 *place) {
+    int j;
+    for (j = 0; j < count; j++)
+        if (j != i && bench_share(all[i], all[j]))
+            return;
+    bench_put(place, 0);
 }
 
 /* ---- codes, and one device: nothing is refused by 3 */
@@ -180,10 +179,13 @@ static inline bench_u32 bench_react(bench_u32 role, bench_u32 running, bench_u32
 /* Is the file a plan? 3; 20 to 26, with the block; the block of an accepted file is 0. */
 static inline bench_u32 bench_plan_read(const bench_u8 *file, bench_size file_length, bench_u32 *block) {
     const struct bench_lent all[] = {bench_bytes(file, file_length), bench_place(block)};
-    bench_u32 given = 0, number = 3;
-    if (bench_all_apart(all, 2))
-        number = bench_for_header_plan_read(file, file_length, &given);
-    bench_give(all, 2, 1, block, given);
+    bench_u32 given, number;
+    if (!bench_apart(all, 2)) {
+        bench_put_none(all, 2, 1, block);
+        return 3;
+    }
+    number = bench_for_header_plan_read(file, file_length, &given);
+    bench_put(block, given);
     return number;
 }
 
@@ -191,7 +193,7 @@ static inline bench_u32 bench_plan_read(const bench_u8 *file, bench_size file_le
 static inline int bench_two_apart(const bench_u8 *plan, bench_size plan_length, const bench_u32 *state,
                                   bench_size state_length) {
     const struct bench_lent all[] = {bench_bytes(plan, plan_length), bench_words(state, state_length)};
-    return bench_all_apart(all, 2);
+    return bench_apart(all, 2);
 }
 
 /* The start state. 1; 3. */
@@ -250,11 +252,14 @@ static inline bench_u32 bench_round(const bench_u8 *plan, bench_size plan_length
     const struct bench_lent all[] = {bench_bytes(plan, plan_length), bench_words(old, old_length),
                                      bench_words(next, next_length), bench_words(sent, sent_length),
                                      bench_words(told, told_length), bench_place(count)};
-    bench_u32 given = 0, number = 3;
-    if (bench_all_apart(all, 6))
-        number = bench_for_header_round(plan, plan_length, old, old_length, next, next_length, sent, sent_length, told,
-                                        told_length, &given);
-    bench_give(all, 6, 5, count, given);
+    bench_u32 given, number;
+    if (!bench_apart(all, 6)) {
+        bench_put_none(all, 6, 5, count);
+        return 3;
+    }
+    number = bench_for_header_round(plan, plan_length, old, old_length, next, next_length, sent, sent_length, told,
+                                    told_length, &given);
+    bench_put(count, given);
     return number;
 }
 
@@ -263,10 +268,13 @@ static inline bench_u32 bench_round(const bench_u8 *plan, bench_size plan_length
 static inline bench_u32 bench_settle(const bench_u8 *plan, bench_size plan_length, bench_u32 *state, bench_size state_length,
                                      bench_u32 allowance, bench_u32 *rounds) {
     const struct bench_lent all[] = {bench_bytes(plan, plan_length), bench_words(state, state_length), bench_place(rounds)};
-    bench_u32 given = 0, number = 3;
-    if (bench_all_apart(all, 3))
-        number = bench_for_header_settle(plan, plan_length, state, state_length, allowance, &given);
-    bench_give(all, 3, 2, rounds, given);
+    bench_u32 given, number;
+    if (!bench_apart(all, 3)) {
+        bench_put_none(all, 3, 2, rounds);
+        return 3;
+    }
+    number = bench_for_header_settle(plan, plan_length, state, state_length, allowance, &given);
+    bench_put(rounds, given);
     return number;
 }
 
@@ -277,11 +285,15 @@ static inline bench_u32 bench_reach(const bench_u8 *plan, bench_size plan_length
                                     bench_u32 *set) {
     const struct bench_lent all[] = {bench_bytes(plan, plan_length), bench_words(state, state_length), bench_place(devices),
                                      bench_place(set)};
-    bench_u32 counted = 0, reached = 0, number = 3;
-    if (bench_all_apart(all, 4))
-        number = bench_for_header_reach(plan, plan_length, state, state_length, device, k, &counted, &reached);
-    bench_give(all, 4, 2, devices, counted);
-    bench_give(all, 4, 3, set, reached);
+    bench_u32 counted, reached, number;
+    if (!bench_apart(all, 4)) {
+        bench_put_none(all, 4, 2, devices);
+        bench_put_none(all, 4, 3, set);
+        return 3;
+    }
+    number = bench_for_header_reach(plan, plan_length, state, state_length, device, k, &counted, &reached);
+    bench_put(devices, counted);
+    bench_put(set, reached);
     return number;
 }
 
@@ -290,10 +302,13 @@ static inline bench_u32 bench_reach(const bench_u8 *plan, bench_size plan_length
 static inline bench_u32 bench_report(const bench_u8 *file, bench_size file_length, bench_u8 *text, bench_size text_length,
                                      bench_u32 *used) {
     const struct bench_lent all[] = {bench_bytes(file, file_length), bench_bytes(text, text_length), bench_place(used)};
-    bench_u32 given = 0, number = 3;
-    if (bench_all_apart(all, 3))
-        number = bench_for_header_report(file, file_length, text, text_length, &given);
-    bench_give(all, 3, 2, used, given);
+    bench_u32 given, number;
+    if (!bench_apart(all, 3)) {
+        bench_put_none(all, 3, 2, used);
+        return 3;
+    }
+    number = bench_for_header_report(file, file_length, text, text_length, &given);
+    bench_put(used, given);
     return number;
 }
 

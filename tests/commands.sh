@@ -97,6 +97,9 @@ done
 helps bin/example
 helps bin/example no-such-example
 helps bin/example ../bench/plain
+helps bench/run all
+helps bench/run --flag
+ends 0 1 0 no_kit bench/run --help
 
 # A terminal for standard input, and one that is not ready.
 if command -v python3 >/dev/null 2>&1; then
