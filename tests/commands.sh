@@ -23,6 +23,14 @@ example settle
 example decode
 example example
 
+# So does the program that the README's line for a C compiler makes, where there is one for x86-64.
+if [ "$(uname -m)" = x86_64 ] && command -v cc >/dev/null 2>&1; then
+    mkdir "$work/user"
+    for part in include examples target; do ln -s "$PWD/$part" "$work/user/$part"; done
+    line=$(sed -n 's/^    \(cc .*\)$/\1/p' README.md)
+    (cd "$work/user" && sh -c "$line" && ./incident <examples/incident.plan) | cmp - tests/incident.txt
+fi
+
 # The command ends with a status, and has so many lines on standard output and on standard error.
 ends() {
     status=0
