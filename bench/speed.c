@@ -14,6 +14,7 @@ int clock_gettime(int, struct timespec *);
 int memcmp(const void *, const void *, usize);
 void *memcpy(void *, const void *, usize);
 void *memset(void *, int, usize);
+unsigned long strtoul(const char *, char **, int);
 void exit(int);
 
 /* The calls that are measured, of one bench. */
@@ -100,16 +101,19 @@ static double median(double *x, int n) {
     return x[n / 2];
 }
 
+/* How often each is timed. */
+enum { MOST_RUNS = 31 };
+static int runs;
+
 /* All three in turn, many times, as a machine's pace changes meanwhile. Of each the median time is printed, and the ratios
    are those of these medians, so that they are what the times beside them say. */
 static void race(const char *what, const char *waiting, call *work) {
-    enum { RUNS = 31 };
-    double t[ALL][RUNS], us[ALL];
+    double t[ALL][MOST_RUNS], us[ALL];
     memset(given, 0, sizeof given);
     for (int which = 0; which < ALL; which++)
         t[which][0] = timed(work, which, 1);
     int turns = 1 + 1e6 / t[PLAIN][0];
-    for (int run = 0; run < RUNS; run++)
+    for (int run = 0; run < runs; run++)
         for (int which = 0; which < ALL; which++)
             t[which][run] = timed(work, which, turns);
     for (int which = 1; which < ALL; which++)
@@ -118,7 +122,7 @@ static void race(const char *what, const char *waiting, call *work) {
             exit(1);
         }
     for (int which = 0; which < ALL; which++)
-        us[which] = median(t[which], RUNS) / 1000;
+        us[which] = median(t[which], runs) / 1000;
     printf("| %s | %u | %s | %.2f | %.2f | %.2f | %.2f | %.2f |\n", what, file[1], waiting, us[OURS], us[PLAIN], us[JUDGE],
            us[OURS] / us[PLAIN], us[OURS] / us[JUDGE]);
 }
@@ -216,12 +220,16 @@ static void report_of(const char *name) {
     race(name, "", report);
 }
 
-int main(int count, char **plans) {
+/* speed RUNS PLAN... */
+int main(int count, char **words) {
+    runs = strtoul(words[1], 0, 10);
+    if (runs < 1 || runs > MOST_RUNS)
+        return 2;
     printf("| call | devices | waiting | ours, us | C, us | judge, us | to C | to the judge |\n");
     printf("|---|---|---|---|---|---|---|---|\n");
     for (u32 n = 2; n <= 32; n *= 4)
         growth(n);
-    for (int i = 1; i < count; i++)
-        report_of(plans[i]);
+    for (int i = 2; i < count; i++)
+        report_of(words[i]);
     return 0;
 }

@@ -107,6 +107,7 @@ helps bin/example no-such-example
 helps bin/example ../bench/plain
 helps bench/run all
 helps bench/run --flag
+helps bench/run --brief more
 ends 0 1 0 no_kit bench/run --help
 
 # A terminal for standard input, and one that is not ready.
