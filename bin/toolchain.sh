@@ -81,7 +81,7 @@ proved() {
 # program that is gone would have rt build nothing.
 prove() {
     count=$(crates_of "$2")
-    echo "$2: its $count crates are proved first, once, which takes minutes" >&2
+    echo "$2: its $count crates are proved first, once; that can take minutes" >&2
     touch "$stamp.new"
     [ -e "$made" ] || rm -f "$here/target/stamp/$2"
     {

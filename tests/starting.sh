@@ -46,7 +46,7 @@ for start in one two; do cmp "$work/$start.out" "$work/text"; done
 calls 1
 sort "$work/one.said" "$work/two.said" >"$work/said"
 sort >"$work/wanted" <<'END'
-decode: its 4 crates are proved first, once, which takes minutes
+decode: its 4 crates are proved first, once; that can take minutes
 decode: low is proved, 1 of 4
 decode: left is proved, 2 of 4
 decode: right is proved, 3 of 4
