@@ -38,7 +38,7 @@ is_built() {
     [ -e "$made" ] && [ -e "$stamp" ] && [ -z "$(find "$here/crates" "$here/crates.txt" -newer "$stamp" -print -quit)" ]
 }
 
-# One build at a time: two would write the same files. The lock goes with the process that has it.
+# One build at a time: two would write the same files. The lock goes with the process that has it. Without flock nobody waits.
 alone() {
     exec 9>>"$here/target/built/lock"
     command -v flock >/dev/null 2>&1 || return 0

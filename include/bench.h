@@ -36,6 +36,9 @@ typedef unsigned char bench_u8;
 typedef unsigned int bench_u32;
 typedef unsigned long bench_size;
 
+/* An address fits a bench_size: what is lent is compared so. */
+typedef char bench_size_fits_an_address[sizeof(bench_size) == sizeof(void *) ? 1 : -1];
+
 enum { BENCH_STATE = 2080, BENCH_SENT = 256, BENCH_TOLD = 1056, BENCH_TEXT = 14347 };
 
 /* Kinds of code. */

@@ -217,21 +217,31 @@ static void check(int fault) {
 
 /* ---- what is tried */
 
-/* Area j shares so many of its bytes with area i: with the end of i, with its front, or, for all, from the same place on. */
-static void try_shared(const struct call *of, unsigned i, unsigned j, bench_size shared) {
-    for (int front = 0; front < 2; front++) {
-        apart(of);
-        at[i] = arena + MIDDLE;
-        at[j] = !shared ? at[i] : front ? at[i] + shared - bytes(j) : at[i] + bytes(i) - shared;
-        check(1);
+/* Area j stands so many bytes behind the beginning of area i, or before it, and shares some with it. */
+static void try_shared(const struct call *of, unsigned i, unsigned j, long behind) {
+    apart(of);
+    at[i] = arena + MIDDLE;
+    at[j] = at[i] + behind;
+    check(1);
+}
+
+/* They begin together; j begins inside i; and j shares a byte, or up to a word, with the end of i or with its front. */
+static void try_pair(const struct call *of, unsigned i, unsigned j) {
+    apart(of);
+    long long_i = bytes(i), long_j = bytes(j);
+    try_shared(of, i, j, 0);
+    try_shared(of, i, j, long_i / 8 * 4);
+    for (long shared = 1; shared <= 4; shared++) {
+        try_shared(of, i, j, long_i - shared);
+        try_shared(of, i, j, shared - long_j);
     }
 }
 
 static void try_pairs(const struct call *of) {
     for (unsigned i = 0; lent(i); i++)
         for (unsigned j = 0; lent(j); j++)
-            for (bench_size shared = 0; i != j && shared <= 4; shared++)
-                try_shared(of, i, j, shared);
+            if (i != j)
+                try_pair(of, i, j);
 }
 
 /* An empty area shares nothing, wherever it is. */
