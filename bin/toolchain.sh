@@ -25,7 +25,7 @@ build() {
     stamp=$here/target/built/$1-$2
     ! is_built || return 0
     mkdir -p "$here/target/built" 2>/dev/null && [ -w "$here/target/built" ] || {
-        echo "$2: it is not built yet, and $here cannot be written: copy the repository to where it can, and start it there" >&2
+        echo "$2: it has to be built first, and $here cannot be written: copy the repository to where it can, and start it there" >&2
         exit 2
     }
     alone "$@"

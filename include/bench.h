@@ -21,10 +21,8 @@
  * are not aligned, null with a length, and a length that runs over the end of memory. A value goes to any place, aligned or
  * not; null says that it is not wanted. Beside that 3 it is 0 too, and is left as it was only where its own place is shared.
  *
- * What is left to the caller: that an area is as long as its length says.
- *
- * The tests of the last two paragraphs are C and stand in this file; they are not proved, and are tried by tests/lending.sh.
- * What the archive does behind them is proved for every input.
+ * These tests are C and stand in this file: they are not proved, and tests/lending.sh tries them. What the archive does
+ * behind them is proved for every input. What is left to the caller: that an area is as long as its length says.
  */
 #ifndef BENCH_H
 #define BENCH_H
