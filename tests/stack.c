@@ -1,7 +1,8 @@
 /* The stack that each call of include/bench.h needs: it is made on a stack of paint, and what is no paint afterwards was used.
  *
  *     stack PLAN...     prints the call, the bytes used at most over all plans, and the bytes that the header says;
- *                       then what the header says of the programs. Fails where a call needs more. */
+ *                       then what the header says of the programs. Fails where a call needs more, and where one was
+ *                       never done but always refused, as its measure then says nothing. */
 #include "bench.h"
 
 /* The kit's compiler has no headers of C's library. */
@@ -17,8 +18,8 @@ static _Alignas(16) bench_u8 stack[STACK];
 
 /* What the calls are given. */
 static bench_u8 file[16897], text[BENCH_TEXT];
-static bench_size length, device;
-static bench_u32 k, value, set;
+static bench_size length, device, handler;
+static bench_u32 k, value, set, answer;
 static bench_u32 before[BENCH_STATE], state[BENCH_STATE], next[BENCH_STATE], sent[BENCH_SENT], told[BENCH_TOLD];
 
 /* ---- the calls */
@@ -28,7 +29,7 @@ static void code_read(void) {
 }
 
 static void code_write(void) {
-    bench_code_write(BENCH_INTERRUPT, 31, &value);
+    answer = bench_code_write(BENCH_INTERRUPT, 31, &value);
 }
 
 static void react(void) {
@@ -36,68 +37,69 @@ static void react(void) {
 }
 
 static void plan_read(void) {
-    bench_plan_read(file, length, &value);
+    answer = bench_plan_read(file, length, &value);
 }
 
 static void start(void) {
-    bench_start(file, length, state, BENCH_STATE);
+    answer = bench_start(file, length, state, BENCH_STATE);
 }
 
 static void request(void) {
-    bench_request(file, length, state, BENCH_STATE, device, k);
+    answer = bench_request(file, length, state, BENCH_STATE, device, k);
 }
 
 static void acknowledge(void) {
-    bench_acknowledge(file, length, state, BENCH_STATE, device, k);
+    answer = bench_acknowledge(file, length, state, BENCH_STATE, handler, k);
 }
 
 static void link_stop(void) {
-    bench_link_stop(file, length, state, BENCH_STATE, device, 0);
+    answer = bench_link_stop(file, length, state, BENCH_STATE, device, 0);
 }
 
 static void link_start(void) {
-    bench_link_start(file, length, state, BENCH_STATE, device, 0);
+    answer = bench_link_start(file, length, state, BENCH_STATE, device, 0);
 }
 
 static void reset(void) {
-    bench_reset(file, length, state, BENCH_STATE, device);
+    answer = bench_reset(file, length, state, BENCH_STATE, device);
 }
 
 static void round(void) {
-    bench_round(file, length, state, BENCH_STATE, next, BENCH_STATE, sent, BENCH_SENT, told, BENCH_TOLD, &value);
+    answer = bench_round(file, length, state, BENCH_STATE, next, BENCH_STATE, sent, BENCH_SENT, told, BENCH_TOLD, &value);
 }
 
 static void settle(void) {
-    bench_settle(file, length, state, BENCH_STATE, 4096, &value);
+    answer = bench_settle(file, length, state, BENCH_STATE, 4096, &value);
 }
 
 static void reach(void) {
-    bench_reach(file, length, state, BENCH_STATE, device, k, &value, &set);
+    answer = bench_reach(file, length, state, BENCH_STATE, device, k, &value, &set);
 }
 
 static void report(void) {
-    bench_report(file, length, text, BENCH_TEXT, &value);
+    answer = bench_report(file, length, text, BENCH_TEXT, &value);
 }
 
 static struct call {
     const char *name;
     void (*make)(void);
     bench_size says, needs;
+    int done;
 } calls[] = {
-    {"bench_code_read", code_read, BENCH_STACK_CODE_READ, 0},
-    {"bench_code_write", code_write, BENCH_STACK_CODE_WRITE, 0},
-    {"bench_react", react, BENCH_STACK_REACT, 0},
-    {"bench_plan_read", plan_read, BENCH_STACK_PLAN_READ, 0},
-    {"bench_start", start, BENCH_STACK_START, 0},
-    {"bench_request", request, BENCH_STACK_REQUEST, 0},
-    {"bench_acknowledge", acknowledge, BENCH_STACK_ACKNOWLEDGE, 0},
-    {"bench_link_stop", link_stop, BENCH_STACK_LINK_STOP, 0},
-    {"bench_link_start", link_start, BENCH_STACK_LINK_START, 0},
-    {"bench_reset", reset, BENCH_STACK_RESET, 0},
-    {"bench_round", round, BENCH_STACK_ROUND, 0},
-    {"bench_settle", settle, BENCH_STACK_SETTLE, 0},
-    {"bench_reach", reach, BENCH_STACK_REACH, 0},
-    {"bench_report", report, BENCH_STACK_REPORT, 0},
+    {"bench_code_read", code_read, BENCH_STACK_CODE_READ, 0, 0},
+    {"bench_code_write", code_write, BENCH_STACK_CODE_WRITE, 0, 0},
+    {"bench_react", react, BENCH_STACK_REACT, 0, 0},
+    {"bench_plan_read", plan_read, BENCH_STACK_PLAN_READ, 0, 0},
+    {"bench_start", start, BENCH_STACK_START, 0, 0},
+    {"bench_request", request, BENCH_STACK_REQUEST, 0, 0},
+    {"bench_acknowledge", acknowledge, BENCH_STACK_ACKNOWLEDGE, 0, 0},
+    {"bench_link_stop", link_stop, BENCH_STACK_LINK_STOP, 0, 0},
+    {"bench_link_start", link_start, BENCH_STACK_LINK_START, 0, 0},
+    {"bench_reset", reset, BENCH_STACK_RESET, 0, 0},
+    {"bench_round", round, BENCH_STACK_ROUND, 0, 0},
+    {"bench_settle", settle, BENCH_STACK_SETTLE, 0, 0},
+    {"bench_reach", reach, BENCH_STACK_REACH, 0, 0},
+    {"bench_report", report, BENCH_STACK_REPORT, 0, 0},
 };
 enum { CALLS = sizeof calls / sizeof *calls };
 
@@ -115,8 +117,12 @@ static void on_paint(void (*make)(void)) {
 
 static void measure(struct call *call) {
     memcpy(state, before, sizeof state);
+    if (call->make == link_start)
+        bench_link_stop(file, length, state, BENCH_STATE, device, 0);
+    answer = 0;
     memset(stack, PAINT, STACK);
     on_paint(call->make);
+    call->done |= answer == 0;
     bench_size bare = 0;
     while (bare < STACK && stack[bare] == PAINT)
         bare++;
@@ -131,26 +137,47 @@ static void measure_all(void) {
 
 /* ---- what is tried */
 
-static int source(bench_size d, bench_u32 i) {
-    return file[512 * (1 + d) + 4 + i / 8] >> i % 8 & 1;
+/* Is the device in a mask of its block: 4 for sources, 8 for handlers? */
+static int in_mask(bench_u32 mask, bench_size d, bench_u32 i) {
+    return file[512 * (1 + d) + mask + i / 8] >> i % 8 & 1;
 }
 
-/* Every source in turn, in a network that has just started and in one where all have requested and some rounds went by;
- * then a state that is not sound, and a file that is not accepted. */
+/* The device requests k, or everybody requests what it can; then rounds go by. The handler is one that holds k by then, if
+ * there is one. */
+static void let_go_by(int everybody, bench_u32 rounds) {
+    bench_start(file, length, before, BENCH_STATE);
+    bench_request(file, length, before, BENCH_STATE, device, k);
+    for (bench_size d = 0; everybody && d < file[1]; d++)
+        for (bench_u32 i = 0; i < 32; i++)
+            bench_request(file, length, before, BENCH_STATE, d, i);
+    for (; rounds; rounds--) {
+        bench_round(file, length, before, BENCH_STATE, next, BENCH_STATE, sent, BENCH_SENT, told, BENCH_TOLD, 0);
+        memcpy(before, next, sizeof before);
+    }
+    for (bench_size d = 0; d < file[1]; d++)
+        if (in_mask(8, d, k) && before[33 * d] >> k & 1)
+            handler = d;
+}
+
+/* In the network as it starts, with the codes on their way, and when they have arrived. */
+static void measure_source(void) {
+    bench_start(file, length, before, BENCH_STATE);
+    measure_all();
+    for (int everybody = 0; everybody < 2; everybody++)
+        for (bench_u32 rounds = 0; rounds <= 40; rounds += rounds ? 19 : 2) {
+            let_go_by(everybody, rounds);
+            measure_all();
+        }
+}
+
+/* Every source in turn; then a state that is not sound, and a file that is not accepted. */
 static void measure_plan(void) {
-    for (int busy = 0; busy < 2; busy++)
-        for (device = 0; device < file[1]; device++)
-            for (k = 0; k < 32; k++)
-                if (source(device, k)) {
-                    bench_start(file, length, before, BENCH_STATE);
-                    for (bench_size d = 0; busy && d < file[1]; d++)
-                        for (bench_u32 i = 0; i < 32; i++)
-                            bench_request(file, length, before, BENCH_STATE, d, i);
-                    measure_all();
-                    k += 7;
-                }
+    for (device = 0; device < file[1]; device++)
+        for (k = 0; k < 32; k++)
+            if (in_mask(4, device, k))
+                measure_source();
+    device = handler = k = 0;
     before[0] ^= 1;
-    device = k = 0;
     measure_all();
     file[600] ^= 1;
     measure_all();
@@ -180,7 +207,7 @@ static int load(const char *name) {
 }
 
 int main(int count, char **plans) {
-    int more = 0;
+    int faults = 0;
     for (int i = 1; i < count; i++) {
         if (!load(plans[i])) {
             printf("no plan: %s\n", plans[i]);
@@ -193,8 +220,10 @@ int main(int count, char **plans) {
     }
     for (unsigned i = 0; i < CALLS; i++) {
         printf("%s %lu %lu\n", calls[i].name, calls[i].needs, calls[i].says);
-        more |= calls[i].needs > calls[i].says;
+        if (!calls[i].done)
+            printf("%s was never done\n", calls[i].name);
+        faults |= calls[i].needs > calls[i].says || !calls[i].done;
     }
     printf("bin/settle - %u\nbin/decode - %u\n", BENCH_STACK_PROGRAM_SETTLE, BENCH_STACK_PROGRAM_DECODE);
-    return more;
+    return faults;
 }
