@@ -1,20 +1,20 @@
 -- Demand 2 on codes: "Every time, interrupt or acknowledge code has its one byte, and every byte reads as that code or as reserved."
 use mathlib.Core.Path.{_≡_, refl, sym, ap, _∙_}
 use mathlib.Core.Bool.{Bool, true, false, cond}
-use Prim.Native.Nat.{ℕ, _+_, _-_, _≤_}
+use Prim.Native.Nat.{ℕ, _-_, _≤_, _<_}
 use native.Mathlib.Omega.{arith}
 use lib.Dec.{ltb, leb}
 use borrow.Author.Tests.{ltb-true, ltb-false, leb-true, lt-ltb, le-ltb, le-leb}
 use Rattle.answers.specs.Answer.{Answer, done, refused}
-use Rattle.codes.specs.Codes.{reads, writes, counted}
+use Rattle.codes.specs.Codes.{byteOf, reads, writes, atMost}
 use Rattle.codes.specs.declared.Code.{Code}
 use Rattle.codes.specs.declared.Code.the-variants.{Time, Interrupt, Acknowledge, Reserved}
 
 -- where a byte stands, by the code that it reads as
 pub data Stands (b : ℕ) : Code → Type 0 where
   time : b ≤ 63 → Stands b (Time b)
-  interrupt : {k : ℕ} → k ≤ 31 → 128 + k ≡ b → Stands b (Interrupt k)
-  acknowledge : {k : ℕ} → k ≤ 31 → 160 + k ≡ b → Stands b (Acknowledge k)
+  interrupt : {k : ℕ} → k ≤ 31 → byteOf 0 k ≡ b → Stands b (Interrupt k)
+  acknowledge : {k : ℕ} → k ≤ 31 → byteOf 1 k ≡ b → Stands b (Acknowledge k)
   reserved : Stands b Reserved
 
 pub stands : (b : ℕ) → Stands b (reads b)
@@ -29,21 +29,21 @@ stands b = by-tests (ltb b 64) (ltb b 128) (ltb b 160) (ltb b 192) refl refl ref
     by-tests false false false true p q r s = acknowledge {k = b - 160} (omega (arith, ltb-true b 192 s)) (omega (arith, ltb-false b 160 r))
     by-tests false false false false p q r s = reserved
 
--- the byte of a value that is small enough
-counts : (first most : ℕ) {v b : ℕ} → v ≤ most → first + v ≡ b → counted first most v ≡ done b
-unfolding counted
-counts first most {v} h e = simp (le-leb v most h) (ap done e)
+-- a value that is small enough has its byte
+has : (most : ℕ) {v b : ℕ} → v ≤ most → atMost most v b ≡ done b
+unfolding atMost
+has most {v} h = simp (le-leb v most h)
 
 -- no answer is both refused and done
 refused-or-done : (b : ℕ) → refused 5 ≡ done b → ⊥
 refused-or-done b e = let z : _≡_ {A = ℕ} 5 0 = ap (λ (a : Answer). a .number) e in omega arith
 
 -- and only such a value has one
-fits : (first most v b : ℕ) → counted first most v ≡ done b → (v ≤ most) × (first + v ≡ b)
-unfolding counted
-fits first most v b e = by-test (leb v most) refl e
+fits : (most v byte b : ℕ) → atMost most v byte ≡ done b → (v ≤ most) × (byte ≡ b)
+unfolding atMost
+fits most v byte b e = by-test (leb v most) refl e
   where
-    by-test : (t : Bool) → leb v most ≡ t → cond t (done (first + v)) (refused 5) ≡ done b → (v ≤ most) × (first + v ≡ b)
+    by-test : (t : Bool) → leb v most ≡ t → cond t (done byte) (refused 5) ≡ done b → (v ≤ most) × (byte ≡ b)
     by-test true p e = (leb-true v most p, ap (λ (a : Answer). a .value) e)
     by-test false p e = absurd (refused-or-done b e)
 
@@ -51,18 +51,26 @@ fits first most v b e = by-test (leb v most) refl e
 pub reading-what-was-written : (c : Code) (b : ℕ) → writes c ≡ done b → reads b ≡ c
 unfolding writes reads
 reading-what-was-written (Time v) b e =
-    let f = fits 0 63 v b e in
+    let f = fits 63 v v b e in
     let q : b ≡ v = omega arith in
     rw q (simp (lt-ltb v 64 (omega arith)))
 reading-what-was-written (Interrupt k) b e =
-    let f = fits 128 31 k b e in
+    let f = fits 31 k (byteOf 0 k) b e in
     let q : b - 128 ≡ k = omega arith in
     simp (le-ltb b 64 (omega arith), le-ltb b 128 (omega arith), lt-ltb b 160 (omega arith), q)
 reading-what-was-written (Acknowledge k) b e =
-    let f = fits 160 31 k b e in
+    let f = fits 31 k (byteOf 1 k) b e in
     let q : b - 160 ≡ k = omega arith in
     simp (le-ltb b 64 (omega arith), le-ltb b 128 (omega arith), le-ltb b 160 (omega arith), lt-ltb b 192 (omega arith), q)
 reading-what-was-written Reserved b e = absurd (refused-or-done b e)
+
+pub reads-interrupt : (k : ℕ) → k < 32 → reads (byteOf 0 k) ≡ Interrupt k
+unfolding writes
+reads-interrupt k l = reading-what-was-written (Interrupt k) (byteOf 0 k) (has 31 (omega arith))
+
+pub reads-acknowledge : (k : ℕ) → k < 32 → reads (byteOf 1 k) ≡ Acknowledge k
+unfolding writes
+reads-acknowledge k l = reading-what-was-written (Acknowledge k) (byteOf 1 k) (has 31 (omega arith))
 
 -- writing what was read gives the byte, for every byte that is not reserved
 pub writing-what-was-read : (b : ℕ) → (reads b ≡ Reserved → ⊥) → writes (reads b) ≡ done b
@@ -70,9 +78,9 @@ unfolding writes
 writing-what-was-read b h = back (reads b) (stands b) h
   where
     back : (c : Code) → Stands b c → (c ≡ Reserved → ⊥) → writes c ≡ done b
-    back _ (time l) n = counts 0 63 l (omega arith)
-    back _ (interrupt l e) n = counts 128 31 l e
-    back _ (acknowledge l e) n = counts 160 31 l e
+    back _ (time l) n = has 63 l
+    back _ (interrupt l e) n = has 31 l ∙ ap done e
+    back _ (acknowledge l e) n = has 31 l ∙ ap done e
     back _ reserved n = absurd (n refl)
 
 -- two codes have two bytes

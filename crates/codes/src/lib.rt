@@ -1,7 +1,12 @@
 // Control codes, and the byte after ESC that each of them is (draft 000, clause 1).
 ghost use mathlib.Core.Path.{_≡_};
 ghost use Prim.Native.Nat.{_+_, _≤_};
-ghost use Rattle.codes.specs.Codes.{reads, writes, counted, answerOf};
+ghost use Rattle.codes.specs.Codes.{reads, writes, atMost, answerOf};
+
+// The bytes that a kind's identifiers are counted from.
+pub const INTERRUPTS: u8 = 128;
+
+pub const ACKNOWLEDGES: u8 = 160;
 
 // What a byte says. A value above 63 or an identifier above 31 has no byte.
 pub enum Code {
@@ -24,14 +29,14 @@ pub fn read(byte: u8) -> Code
     if byte < 64 {
         return Code::Time(byte);
     }
-    if byte < 128 {
+    if byte < INTERRUPTS {
         return Code::Reserved;
     }
-    if byte < 160 {
-        return Code::Interrupt(byte - 128);
+    if byte < ACKNOWLEDGES {
+        return Code::Interrupt(byte - INTERRUPTS);
     }
     if byte < 192 {
-        return Code::Acknowledge(byte - 160);
+        return Code::Acknowledge(byte - ACKNOWLEDGES);
     }
     Code::Reserved
 }
@@ -42,8 +47,8 @@ pub fn write(code: Code) -> Written
 {
     match code {
         Code::Time(value) => placed(0, 63, value),
-        Code::Interrupt(k) => placed(128, 31, k),
-        Code::Acknowledge(k) => placed(160, 31, k),
+        Code::Interrupt(k) => placed(INTERRUPTS, 31, k),
+        Code::Acknowledge(k) => placed(ACKNOWLEDGES, 31, k),
         Code::Reserved => Written::Refused,
     }
 }
@@ -51,7 +56,7 @@ pub fn write(code: Code) -> Written
 // The byte of a value, counted from the byte `first`.
 fn placed(first: u8, most: u8, value: u8) -> Written
     requires { ⌜ first + most ≤ 255 ⌝ }
-    ensures { λ r. ⌜ answerOf r ≡ counted first most value ⌝ }
+    ensures { λ r. ⌜ answerOf r ≡ atMost most value (first + value) ⌝ }
 {
     if most < value {
         return Written::Refused;

@@ -6,7 +6,7 @@ use native.Mathlib.Omega.{arith}
 use lib.Dec.{eqb}
 use borrow.Author.Tests.{lt-leb}
 use Rattle.answers.specs.Answer.{refused}
-use Rattle.codes.specs.Codes.{writes, counted}
+use Rattle.codes.specs.Codes.{writes, atMost}
 use Rattle.codes.specs.declared.Code.{Code}
 use Rattle.codes.specs.declared.Code.the-variants.{Time, Interrupt, Acknowledge, Reserved}
 use Rattle.door.specs.Numbers.{kindOf, valueOf, codeOf}
@@ -19,7 +19,7 @@ code-of-numbers (Acknowledge k) = refl
 code-of-numbers Reserved = refl
 
 pub no-byte : (kind v : ℕ) → 63 < v → writes (codeOf kind v) ≡ refused 5
-unfolding writes counted codeOf
+unfolding writes atMost codeOf
 no-byte kind v h = by-kind (eqb kind 0) (eqb kind 1) (eqb kind 2)
   where
     by-kind : (t i a : Bool) → writes (cond t (Time v) (cond i (Interrupt v) (cond a (Acknowledge v) Reserved))) ≡ refused 5

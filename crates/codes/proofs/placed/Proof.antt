@@ -1,18 +1,18 @@
 use borrow.Author.Needs.{needs}
 use borrow.Author.Tests.{lt-leb, le-leb}
-use Rattle.codes.specs.Codes.{counted, answerOf}
+use Rattle.codes.specs.Codes.{atMost, answerOf}
 use Rattle.codes.proofs.placed.Statement.{statement}
 use Rattle.codes.proofs.placed.Tie as tie
 
 returns : tie.Need-returns
-unfolding counted answerOf
+unfolding atMost answerOf
 returns c = simp (lt-leb _ _ (c .if1 .taken))
 
 add-t5 : tie.Need-add-t5
 add-t5 c = search needs
 
 returns-2 : tie.Need-returns-2
-unfolding counted answerOf
+unfolding atMost answerOf
 returns-2 c = simp (le-leb _ _ (c .if1 .left))
 
 pub placed-spec : {M : Type 1} → statement M

@@ -1,6 +1,7 @@
 use mathlib.Core.Path.{sym, ap, _∙_}
+use native.Mathlib.Nat.{zero-add}
 use borrow.Author.Needs.{needs}
-use Rattle.codes.specs.Codes.{writes, answerOf}
+use Rattle.codes.specs.Codes.{atMost, writes, answerOf}
 use Rattle.codes.proofs.write.Statement.{statement}
 use Rattle.codes.proofs.write.Tie as tie
 
@@ -27,7 +28,7 @@ enum-told c = search needs
 
 returns : tie.Need-returns
 unfolding writes
-returns c = c .placed .ensures ∙ sym (ap writes (c .before .before .code .given .1))
+returns c = c .placed .ensures ∙ ap (atMost 63 _) (zero-add _) ∙ sym (ap writes (c .before .before .code .given .1))
 
 returns-2 : tie.Need-returns-2
 unfolding writes
