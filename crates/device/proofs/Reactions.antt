@@ -1,10 +1,9 @@
 -- What a reaction can change: only the bit of the identifier concerned; nothing for a Time-Code or a reserved byte; and nothing for
 -- an accepted code that comes again.
-use mathlib.Core.Path.{_≡_, refl, sym, ap, subst⁻¹, _∙_}
+use mathlib.Core.Path.{_≡_, refl, sym, ap, _∙_}
 use mathlib.Core.Bool.{Bool, true, false, cond}
 use mathlib.Core.Logic.{_⊎_, inl, inr, _≢_}
 use Prim.Native.Nat.{ℕ, zero, suc, _-_, _<_}
-use native.Mathlib.Decide.{ℕ-discrete}
 use native.Mathlib.Omega.{arith}
 use lib.Dec.{eqb}
 use Rattle.bits.specs.Set.{bit, join, leave}
@@ -13,12 +12,12 @@ use Rattle.codes.specs.Codes.{reads}
 use Rattle.codes.specs.declared.Code.{Code}
 use Rattle.codes.specs.declared.Code.the-variants.{Time, Interrupt, Acknowledge, Reserved}
 use Rattle.codes.proofs.BothWays.{Stands, stands, interrupt, acknowledge}
-use Rattle.device.specs.Permissions.{mayReceive}
-use Rattle.device.specs.Reaction.{marked, kept, accepted, ruled, reactsTo, reacts}
+use Rattle.device.specs.Reaction.{marked, kept, ruled, reactsTo, reacts}
 use Rattle.device.specs.declared.Action.{Action}
 use Rattle.device.specs.declared.Action.the-variants.{Named, LinkError, Ignored, Forwarded, Told}
 use Rattle.device.specs.declared.Reaction.{Reaction}
-use Rattle.device.proofs.Rule.{stopped, forbidden, opposite, taken}
+use Rattle.device.specs.declared.Side.{Side}
+use Rattle.device.proofs.Rule.{Accepts, opposite, ruled-cases}
 
 -- ---- the bit that is marked, and the others
 
@@ -63,28 +62,19 @@ carries true code of (inr e) = absurd (let z : _≡_ {A = ℕ} 0 1 = cc in omega
 carries false code of (inl e) = absurd (let z : _≡_ {A = ℕ} 0 1 = cc in omega arith)
 carries false code of (inr e) = cc
 
-module _ (router running : Bool) (permissions register : ℕ) where
+module _ (side : Side) (register : ℕ) where
   -- ---- only the bit of the identifier concerned can change
 
-  ruled-other : (kind k : ℕ) (code : Code) (j : ℕ) → j < 32 → j ≢ k → bit (ruled router running permissions register kind k code .register) j ≡ bit register j
-  unfolding ruled
-  ruled-other kind k code j h ne = by-tests running (mayReceive kind permissions) (eqb (bit register k) kind)
-    where
-      by-tests : (s m b : Bool)
-          → bit
-          ((cond s (cond m (cond b (accepted router running permissions register kind k code) (kept router running permissions register (Ignored code)))
-          (kept router running permissions register (Ignored code))) (kept router running permissions register (LinkError code))) .register) j ≡ bit register j
-      by-tests true true true = marked-other kind register k j h ne
-      by-tests true true false = refl
-      by-tests true false b = refl
-      by-tests false m b = refl
+  ruled-other : (kind k : ℕ) (code : Code) (j : ℕ) → j < 32 → j ≢ k → bit (ruled side register kind k code .register) j ≡ bit register j
+  ruled-other kind k code j h ne =
+      ruled-cases (λ r. bit (r .register) j ≡ bit register j) side register kind k code (λ n. refl) (λ n. refl) (λ o. marked-other kind register k j h ne)
 
   pub only-its-own-bit : (byte j : ℕ) → j < 32 → (reads byte ≡ Interrupt j → ⊥) → (reads byte ≡ Acknowledge j → ⊥)
-      → bit (reacts router running permissions register byte .register) j ≡ bit register j
+      → bit (reacts side register byte .register) j ≡ bit register j
   unfolding reacts reactsTo
   only-its-own-bit byte j h n m = by-code (reads byte) n m
     where
-      by-code : (c : Code) → (c ≡ Interrupt j → ⊥) → (c ≡ Acknowledge j → ⊥) → bit (reactsTo router running permissions register c .register) j ≡ bit register j
+      by-code : (c : Code) → (c ≡ Interrupt j → ⊥) → (c ≡ Acknowledge j → ⊥) → bit (reactsTo side register c .register) j ≡ bit register j
       by-code (Time v) n m = refl
       by-code Reserved n m = refl
       by-code (Interrupt k) n m = ruled-other 0 k (Interrupt k) j h (λ e. n (ap Interrupt (sym e)))
@@ -92,75 +82,48 @@ module _ (router running : Bool) (permissions register : ℕ) where
 
   -- ---- time and reserved bytes change nothing
 
-  pub time-changes-nothing : (byte v : ℕ) → reads byte ≡ Time v → reacts router running permissions register byte ≡ kept router running permissions register (Named (Time v))
+  pub time-changes-nothing : (byte v : ℕ) → reads byte ≡ Time v → reacts side register byte ≡ kept register (Named (Time v))
   unfolding reacts reactsTo
-  time-changes-nothing byte v e = ap (reactsTo router running permissions register) e
+  time-changes-nothing byte v e = ap (reactsTo side register) e
 
-  pub reserved-changes-nothing : (byte : ℕ) → reads byte ≡ Reserved → reacts router running permissions register byte ≡ kept router running permissions register (Named Reserved)
+  pub reserved-changes-nothing : (byte : ℕ) → reads byte ≡ Reserved → reacts side register byte ≡ kept register (Named Reserved)
   unfolding reacts reactsTo
-  reserved-changes-nothing byte e = ap (reactsTo router running permissions register) e
+  reserved-changes-nothing byte e = ap (reactsTo side register) e
 
   -- ---- an accepted code that comes again at once is ignored
 
-  -- what the rule saw where it accepted
-  record Saw (kind k : ℕ) (code of : Code) : Type 0 where
-    runs : running ≡ true
-    may : mayReceive kind permissions ≡ true
-    stood : bit register k ≡ kind
-    next : ruled router running permissions register kind k code .register ≡ marked kind register k
+  -- what the rule saw where it accepted, and what it made of it
+  record Saw (kind k : ℕ) (code of : Code) (r : Reaction) : Type 0 where
+    accepts : Accepts side register kind k
+    next : r .register ≡ marked kind register k
     same : code ≡ of
 
-  saw : (kind k : ℕ) (code of : Code) → Accepted (ruled router running permissions register kind k code .action) of → Saw kind k code of
+  saw : (kind k : ℕ) (code of : Code) → Accepted (ruled side register kind k code .action) of → Saw kind k code of (ruled side register kind k code)
   unfolding rank
-  saw kind k code of a = by-running running refl
-    where
-      R : Reaction
-      R = ruled router running permissions register kind k code
+  saw kind k code of =
+      ruled-cases (λ r. Accepted (r .action) of → Saw kind k code of r) side register kind k code
+      (λ n a. absurd (not-accepted (LinkError code) of (omega arith) a))
+      (λ n a. absurd (not-accepted (Ignored code) of (omega arith) a))
+      (λ o a. record { accepts = o; next = refl; same = carries (side .router) code of a })
 
-      -- a way on which nothing is accepted
-      not-so : (action : Action) → kept router running permissions register action ≡ R → rank action < 3 → Saw kind k code of
-      not-so action e h = absurd (not-accepted action of h (subst⁻¹ (λ (r : Reaction). Accepted (r .action) of) e a))
-
-      all-so : running ≡ true → mayReceive kind permissions ≡ true → bit register k ≡ kind → Saw kind k code of
-      all-so s m b =
-          let e = taken router running permissions register kind k code (marked kind register k) (cond router (Forwarded code) (Told code)) s m b refl refl in
-          record {
-            runs = s;
-            may = m;
-            stood = b;
-            next = sym (ap (λ (r : Reaction). r .register) e);
-            same = carries router code of (subst⁻¹ (λ (r : Reaction). Accepted (r .action) of) e a);
-          }
-
-      by-may : running ≡ true → (m : Bool) → mayReceive kind permissions ≡ m → Saw kind k code of
-      by-may s false m = not-so (Ignored code) (forbidden router running permissions register kind k code s m) (omega arith)
-      by-may s true m = elim (ℕ-discrete (bit register k) kind) [
-        | yes b ↦ all-so s m b
-        | no b ↦ not-so (Ignored code) (opposite router running permissions register kind k code s m b) (omega arith)
-      ]
-
-      by-running : (s : Bool) → running ≡ s → Saw kind k code of
-      by-running false s = not-so (LinkError code) (stopped router running permissions register kind k code s) (omega arith)
-      by-running true s = by-may s (mayReceive kind permissions) refl
-
-  ruled-twice : (kind k : ℕ) (code of : Code) → kind < 2 → k < 32 → Accepted (ruled router running permissions register kind k code .action) of
-      → ruled router running permissions (ruled router running permissions register kind k code .register) kind k code
-      ≡ kept router running permissions (ruled router running permissions register kind k code .register) (Ignored of)
+  ruled-twice : (kind k : ℕ) (code of : Code) → kind < 2 → k < 32 → Accepted (ruled side register kind k code .action) of
+      → ruled side (ruled side register kind k code .register) kind k code
+      ≡ kept (ruled side register kind k code .register) (Ignored of)
   ruled-twice kind k code of h g a =
       let w = saw kind k code of a in
       rw (w .next)
-      (sym (opposite router running permissions (marked kind register k) kind k code (w .runs) (w .may) (omega (arith, marked-same kind register k h g)))
-      ∙ ap (λ (c : Code). kept router running permissions (marked kind register k) (Ignored c)) (w .same))
+      (sym (opposite side (marked kind register k) kind k code (w .accepts .runs) (w .accepts .may) (omega (arith, marked-same kind register k h g)))
+      ∙ ap (λ (c : Code). kept (marked kind register k) (Ignored c)) (w .same))
 
-  pub accepted-twice : (byte : ℕ) (code : Code) → Accepted (reacts router running permissions register byte .action) code
-      → reacts router running permissions (reacts router running permissions register byte .register) byte
-      ≡ kept router running permissions (reacts router running permissions register byte .register) (Ignored code)
+  pub accepted-twice : (byte : ℕ) (code : Code) → Accepted (reacts side register byte .action) code
+      → reacts side (reacts side register byte .register) byte
+      ≡ kept (reacts side register byte .register) (Ignored code)
   unfolding reacts reactsTo rank
   accepted-twice byte code a = by-code (reads byte) (stands byte) a
     where
-      by-code : (c : Code) → Stands byte c → Accepted (reactsTo router running permissions register c .action) code
-          → reactsTo router running permissions (reactsTo router running permissions register c .register) c
-          ≡ kept router running permissions (reactsTo router running permissions register c .register) (Ignored code)
+      by-code : (c : Code) → Stands byte c → Accepted (reactsTo side register c .action) code
+          → reactsTo side (reactsTo side register c .register) c
+          ≡ kept (reactsTo side register c .register) (Ignored code)
       by-code (Time v) s a = absurd (not-accepted (Named (Time v)) code (omega arith) a)
       by-code Reserved s a = absurd (not-accepted (Named Reserved) code (omega arith) a)
       by-code (Interrupt k) (interrupt l e) a = ruled-twice 0 k (Interrupt k) code (omega arith) (omega arith) a

@@ -5,6 +5,7 @@ use Prim.Native.Nat.{ℕ}
 use Rattle.device.specs.Permissions.{maySend, mayReceive}
 use Rattle.device.specs.Reaction.{marked, reacts}
 use Rattle.device.specs.declared.Reaction.{Reaction}
+use Rattle.device.specs.declared.Side.{Side}
 
 pub may-send-unique : (kind permissions : ℕ) (r s : Bool) → r ≡ maySend kind permissions → s ≡ maySend kind permissions → r ≡ s
 may-send-unique kind permissions r s p q = p ∙ sym q
@@ -15,6 +16,5 @@ may-receive-unique kind permissions r s p q = p ∙ sym q
 pub marked-unique : (kind register k r s : ℕ) → r ≡ marked kind register k → s ≡ marked kind register k → r ≡ s
 marked-unique kind register k r s p q = p ∙ sym q
 
-pub react-unique : (router running : Bool) (permissions register byte : ℕ) (r s : Reaction)
-    → r ≡ reacts router running permissions register byte → s ≡ reacts router running permissions register byte → r ≡ s
-react-unique router running permissions register byte r s p q = p ∙ sym q
+pub react-unique : (side : Side) (register byte : ℕ) (r s : Reaction) → r ≡ reacts side register byte → s ≡ reacts side register byte → r ≡ s
+react-unique side register byte r s p q = p ∙ sym q

@@ -1,5 +1,5 @@
 -- RULES, "One device": the reaction to a byte (000, 2.2 o and w, 2.3.2 d and e, 2.3.3 e and f).
-use mathlib.Core.Bool.{Bool, cond}
+use mathlib.Core.Bool.{cond}
 use Prim.Native.Nat.{ℕ}
 use lib.Dec.{eqb}
 use Rattle.bits.specs.Set.{bit, join, leave}
@@ -10,32 +10,33 @@ use Rattle.device.specs.Permissions.{mayReceive}
 use Rattle.device.specs.declared.Action.{Action}
 use Rattle.device.specs.declared.Action.the-variants.{Named, LinkError, Ignored, Forwarded, Told}
 use Rattle.device.specs.declared.Reaction.{Reaction}
+use Rattle.device.specs.declared.Side.{Side}
 
 -- an interrupt (kind 0) sets the bit of its identifier, an acknowledge (kind 1) clears it
 unfoldable pub marked : ℕ → ℕ → ℕ → ℕ
 marked kind register k = cond (eqb kind 0) (join register k) (leave register k)
 
-module _ (router running : Bool) (permissions register : ℕ) where
-  -- nothing changes
-  abbrev pub kept : Action → Reaction
-  kept action = record { register = register; action = action }
+-- nothing changes
+abbrev pub kept : ℕ → Action → Reaction
+kept register action = record { register = register; action = action }
 
+module _ (side : Side) (register : ℕ) where
   -- accepted: the bit changes, a router forwards, a node tells its host
   abbrev pub accepted : ℕ → ℕ → Code → Reaction
-  accepted kind k code = record { register = marked kind register k; action = cond router (Forwarded code) (Told code) }
+  accepted kind k code = record { register = marked kind register k; action = cond (side .router) (Forwarded code) (Told code) }
 
   -- a code of a kind: a port not running, no permission, then the bit, which an interrupt finds 0 and an acknowledge 1
   unfoldable pub ruled : ℕ → ℕ → Code → Reaction
   ruled kind k code =
-      cond running
-      (cond (mayReceive kind permissions)
-      (cond (eqb (bit register k) kind) (accepted kind k code) (kept (Ignored code)))
-      (kept (Ignored code)))
-      (kept (LinkError code))
+      cond (side .running)
+      (cond (mayReceive kind (side .permissions))
+      (cond (eqb (bit register k) kind) (accepted kind k code) (kept register (Ignored code)))
+      (kept register (Ignored code)))
+      (kept register (LinkError code))
 
   unfoldable pub reactsTo : Code → Reaction
-  reactsTo (Time v) = kept (Named (Time v))
-  reactsTo Reserved = kept (Named Reserved)
+  reactsTo (Time v) = kept register (Named (Time v))
+  reactsTo Reserved = kept register (Named Reserved)
   reactsTo (Interrupt k) = ruled 0 k (Interrupt k)
   reactsTo (Acknowledge k) = ruled 1 k (Acknowledge k)
 

@@ -14,6 +14,13 @@ pub enum Action {
     Told(Code),
 }
 
+// The port's side of a reaction: whether its device is a router, whether it runs, its permissions.
+pub struct Side {
+    pub router: bool,
+    pub running: bool,
+    pub permissions: u32,
+}
+
 pub struct Reaction {
     pub register: u32,
     pub action: Action,
@@ -45,8 +52,8 @@ pub fn marked(kind: u8, register: u32, k: u8) -> u32
 }
 
 // The reaction to a byte. Only an Interrupt-Code and an acknowledge get as far as the register.
-pub fn react(router: bool, running: bool, permissions: u32, register: u32, byte: u8) -> Reaction
-    ensures { λ r. ⌜ r ≡ reacts router running permissions register byte ⌝ }
+pub fn react(side: Side, register: u32, byte: u8) -> Reaction
+    ensures { λ r. ⌜ r ≡ reacts side register byte ⌝ }
 {
     let code = codes::read(byte);
     let Code::Interrupt(k) = code else {
@@ -56,31 +63,23 @@ pub fn react(router: bool, running: bool, permissions: u32, register: u32, byte:
                 action: Action::Named(code),
             };
         };
-        return ruled(router, running, permissions, register, 1, k, code);
+        return ruled(side, register, 1, k, code);
     };
-    ruled(router, running, permissions, register, 0, k, code)
+    ruled(side, register, 0, k, code)
 }
 
 // The rule for a code of a kind with its identifier. The bit has to stand as the kind's own number:
 // 0 before an interrupt, 1 before an acknowledge.
-fn ruled(
-    router: bool,
-    running: bool,
-    permissions: u32,
-    register: u32,
-    kind: u8,
-    k: u8,
-    code: Code,
-) -> Reaction
-    ensures { λ r. ⌜ r ≡ Reaction·ruled router running permissions register kind k code ⌝ }
+fn ruled(side: Side, register: u32, kind: u8, k: u8, code: Code) -> Reaction
+    ensures { λ r. ⌜ r ≡ Reaction·ruled side register kind k code ⌝ }
 {
-    if !running {
+    if !side.running {
         return Reaction {
             register: register,
             action: Action::LinkError(code),
         };
     }
-    if !may_receive(kind, permissions) {
+    if !may_receive(kind, side.permissions) {
         return Reaction {
             register: register,
             action: Action::Ignored(code),
@@ -93,7 +92,7 @@ fn ruled(
         };
     }
     let next = marked(kind, register, k);
-    if router {
+    if side.router {
         return Reaction {
             register: next,
             action: Action::Forwarded(code),

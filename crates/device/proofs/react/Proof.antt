@@ -1,5 +1,4 @@
 use mathlib.Core.Path.{_≡_, refl, sym, ap, _∙_}
-use mathlib.Core.Bool.{Bool}
 use mathlib.Core.List.{[], _∷_}
 use mathlib.Core.Logic.{⊎-elim}
 use Prim.Native.Nat.{ℕ}
@@ -11,6 +10,7 @@ use Rattle.codes.specs.declared.Code.{Code}
 use Rattle.codes.specs.declared.Code.the-variants.{Time, Interrupt, Acknowledge, Reserved}
 use Rattle.device.specs.Reaction.{kept, reactsTo, reacts}
 use Rattle.device.specs.declared.Action.the-variants.{Named}
+use Rattle.device.specs.declared.Side.{Side}
 use borrow.Author.Needs.{needs}
 use Rattle.device.proofs.react.Statement.{statement}
 use Rattle.device.proofs.react.Tie as tie
@@ -25,32 +25,32 @@ enum-known-code-2 : tie.Need-enum-known-code-2
 enum-known-code-2 c = search needs
 
 -- neither of the two kinds
-neither : (router running : Bool) (permissions register : ℕ) (code : Code) → OneOf (0 ∷ 2 ∷ 3 ∷ []) (tagOf C.the-type code) → OneOf (0 ∷ 1 ∷ 3 ∷ []) (tagOf C.the-type code)
-    → kept router running permissions register (Named code) ≡ reactsTo router running permissions register code
+neither : (side : Side) (register : ℕ) (code : Code) → OneOf (0 ∷ 2 ∷ 3 ∷ []) (tagOf C.the-type code) → OneOf (0 ∷ 1 ∷ 3 ∷ []) (tagOf C.the-type code)
+    → kept register (Named code) ≡ reactsTo side register code
 unfolding reactsTo
-neither router running permissions register (Time v) p q = refl
-neither router running permissions register Reserved p q = refl
-neither router running permissions register (Interrupt k) p q = absurd (⊎-elim (λ e. omega arith) (λ o. ⊎-elim (λ e. omega arith) (λ e. omega arith) o) p)
-neither router running permissions register (Acknowledge k) p q = absurd (⊎-elim (λ e. omega arith) (λ o. ⊎-elim (λ e. omega arith) (λ e. omega arith) o) q)
+neither side register (Time v) p q = refl
+neither side register Reserved p q = refl
+neither side register (Interrupt k) p q = absurd (⊎-elim (λ e. omega arith) (λ o. ⊎-elim (λ e. omega arith) (λ e. omega arith) o) p)
+neither side register (Acknowledge k) p q = absurd (⊎-elim (λ e. omega arith) (λ o. ⊎-elim (λ e. omega arith) (λ e. omega arith) o) q)
 
 returns : tie.Need-returns
 unfolding reacts
 returns c =
-    neither _ _ _ _ (c .before .before .read .result) (c .before .match .keys2) (c .match2 .keys2) ∙ ap (reactsTo _ _ _ _) (c .before .before .read .ensures)
+    neither _ _ (c .before .before .read .result) (c .before .match .keys2) (c .match2 .keys2) ∙ ap (reactsTo _ _) (c .before .before .read .ensures)
 
 ruled-requires : tie.Need-ruled-requires
 ruled-requires c κs = search needs
 
 returns-2 : tie.Need-returns-2
 unfolding reacts reactsTo
-returns-2 c = c .ruled .ensures ∙ ap (reactsTo _ _ _ _) (sym (c .before .before .code2 .given .1) ∙ c .before .before .before .before .before .read .ensures)
+returns-2 c = c .ruled .ensures ∙ ap (reactsTo _ _) (sym (c .before .before .code2 .given .1) ∙ c .before .before .before .before .before .read .ensures)
 
 ruled-requires-2 : tie.Need-ruled-requires-2
 ruled-requires-2 c κs = search needs
 
 returns-3 : tie.Need-returns-3
 unfolding reacts reactsTo
-returns-3 c = c .ruled2 .ensures ∙ ap (reactsTo _ _ _ _) (sym (c .before .before .code .given .1) ∙ c .before .before .before .before .read .ensures)
+returns-3 c = c .ruled2 .ensures ∙ ap (reactsTo _ _) (sym (c .before .before .code .given .1) ∙ c .before .before .before .before .read .ensures)
 
 pub react-spec : {M : Type 1} → statement M
 react-spec =
