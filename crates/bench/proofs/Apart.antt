@@ -15,23 +15,24 @@ use Rattle.bits.specs.Set.{bit, join, leave}
 use Rattle.bits.specs.declared.Found.{Found}
 use Rattle.bits.specs.declared.Found.the-variants.{At, Nowhere}
 use Rattle.bits.proofs.Sets.{join-same, join-other, leave-same, leave-other}
-use Rattle.codes.specs.Codes.{reads}
+use Rattle.codes.specs.Codes.{byteOf, reads}
 use Rattle.codes.specs.declared.Code.{Code}
 use Rattle.codes.specs.declared.Code.the-variants.{Time, Interrupt, Acknowledge, Reserved}
 use Rattle.codes.proofs.BothWays.{Stands, stands, interrupt, acknowledge}
-use Rattle.device.specs.Permissions.{mayReceive}
-use Rattle.device.specs.Reaction.{marked, kept, accepted, ruled, reactsTo, reacts}
-use Rattle.device.specs.declared.Action.the-variants.{LinkError, Ignored, Forwarded, Told}
+use Rattle.device.specs.Reaction.{marked, accepted, reactsTo, reacts}
+use Rattle.device.specs.declared.Action.the-variants.{Forwarded, Told}
 use Rattle.device.specs.declared.Reaction.{Reaction}
+use Rattle.device.specs.declared.Side.{Side}
+use Rattle.device.proofs.Rule.{ruled-both}
 use Rattle.device.proofs.Reactions.{marked-same, marked-other}
 use Rattle.plan.specs.Reading.{Held}
 use Rattle.plan.specs.declared.Plan.{Plan}
-use Rattle.bench.specs.State.{State, word, put, registerAt, timerAt, portAt, register, timer, waiting, next, running}
+use Rattle.bench.specs.State.{State, word, put, registerAt, timerAt, portAt, register, timer, waiting, next}
 use Rattle.bench.specs.Network.{devices, router, peer, permissions, loadOf}
 use Rattle.bench.specs.Sound.{Sound}
 use Rattle.bench.specs.Queue.{sendsAt, queueAt, queueBut, queueAllAt}
 use Rattle.bench.specs.Calls.{mark, called}
-use Rattle.bench.specs.Round.{World, tick, chosen, sends, unqueued, timed, forwarded, acted, arrived, ticked, sentBytes, posted, arrives, reached, afterTimers, afterSending, round}
+use Rattle.bench.specs.Round.{World, tick, chosen, sends, unqueued, timed, forwarded, sideAt, acted, arrived, ticked, sentBytes, posted, arrives, reached, afterTimers, afterSending, round}
 use Rattle.bench.specs.Alike.{Alike, SendsIt, SendAlike}
 use Rattle.bench.proofs.Words.{length-put, word-same, word-other, put-word}
 use Rattle.bench.proofs.Plans.{few}
@@ -237,25 +238,6 @@ module _ {k : ℕ} (l : k < 32) (permissions : List ℕ) (kind d but : ℕ) (g :
       by-test i u v m y false = queue-both l y (getD permissions (8 * d + i) 0) kind (8 * d + i) g (omega arith)
 
 -- a code of identifier k arrives at both: whether it is accepted is the same in both, and so is what follows
-ruled-both : (R : Reaction → Reaction → Type 0) (isRouter runs : Bool) (permissions a b kind k : ℕ) (code : Code) → bit a k ≡ bit b k
-    → R (kept isRouter runs permissions a (LinkError code)) (kept isRouter runs permissions b (LinkError code))
-    → R (kept isRouter runs permissions a (Ignored code)) (kept isRouter runs permissions b (Ignored code))
-    → R (accepted isRouter runs permissions a kind k code) (accepted isRouter runs permissions b kind k code)
-    → R (ruled isRouter runs permissions a kind k code) (ruled isRouter runs permissions b kind k code)
-unfolding ruled
-ruled-both R isRouter runs permissions a b kind k code e stopped ignored taken = rw e (by-tests runs (mayReceive kind permissions) (eqb (bit b k) kind))
-  where
-    by-tests : (x y z : Bool)
-        → R
-        (cond x (cond y (cond z (accepted isRouter runs permissions a kind k code) (kept isRouter runs permissions a (Ignored code)))
-        (kept isRouter runs permissions a (Ignored code))) (kept isRouter runs permissions a (LinkError code)))
-        (cond x (cond y (cond z (accepted isRouter runs permissions b kind k code) (kept isRouter runs permissions b (Ignored code)))
-        (kept isRouter runs permissions b (Ignored code))) (kept isRouter runs permissions b (LinkError code)))
-    by-tests false y z = stopped
-    by-tests true false z = ignored
-    by-tests true true false = ignored
-    by-tests true true true = taken
-
 module _ {k : ℕ} (l : k < 32) (plan : Plan) (q : ℕ) (h : q < 256) where
   module _ (w v : World) (p : Both k (w .state) (v .state)) where
     -- what two reactions make of the two worlds is alike
@@ -274,12 +256,12 @@ module _ {k : ℕ} (l : k < 32) (plan : Plan) (q : ℕ) (h : q < 256) where
     unchanged = register-both l p (q / 8) a b (omega arith) (p .like .marks (q / 8) (omega arith))
 
     -- the code is accepted
-    taken-both : (isRouter runs : Bool) (permissions kind : ℕ) (code : Code) → kind < 2
+    taken-both : (side : Side) (kind : ℕ) (code : Code) → kind < 2
         → ((u : State) → timed (loadOf plan (q / 8)) (q / 8) code (put u (registerAt (q / 8)) (marked kind (register u (q / 8)) k)) ≡ mark plan kind (q / 8) k u)
         → ((u : State) → forwarded (plan .core .permissions) q code u ≡ queueAllAt (plan .core .permissions) kind k (q / 8) q u)
-        → Follow (accepted isRouter runs permissions a kind k code) (accepted isRouter runs permissions b kind k code)
+        → Follow (accepted side a kind k code) (accepted side b kind k code)
     unfolding acted
-    taken-both isRouter runs permissions kind code g marks queues = by-role isRouter
+    taken-both side kind code g marks queues = by-role (side .router)
       where
         both : Both k (mark plan kind (q / 8) k (w .state)) (mark plan kind (q / 8) k (v .state))
         both = mark-both l p plan kind (q / 8) g (omega arith)
@@ -292,37 +274,37 @@ module _ {k : ℕ} (l : k < 32) (plan : Plan) (q : ℕ) (h : q < 256) where
             (queue-all-both l (plan .core .permissions) kind (q / 8) q g (omega arith) both)
         by-role false = rw (marks (w .state), marks (v .state)) both
 
-    reacts-both : (isRouter runs : Bool) (permissions byte kind : ℕ) → kind < 2 → byte ≡ 128 + 32 * kind + k → (code : Code) → Stands byte code
-        → Follow (reactsTo isRouter runs permissions a code) (reactsTo isRouter runs permissions b code)
+    reacts-both : (side : Side) (byte kind : ℕ) → kind < 2 → byte ≡ byteOf kind k → (code : Code) → Stands byte code
+        → Follow (reactsTo side a code) (reactsTo side b code)
     unfolding reactsTo acted timed forwarded mark
-    reacts-both isRouter runs permissions byte kind g e (Time n) c = unchanged
-    reacts-both isRouter runs permissions byte kind g e Reserved c = unchanged
-    reacts-both isRouter runs permissions byte kind g e (Interrupt j) (interrupt m o) =
+    reacts-both side byte kind g e (Time n) c = unchanged
+    reacts-both side byte kind g e Reserved c = unchanged
+    reacts-both side byte kind g e (Interrupt j) (interrupt m o) =
         let is : j ≡ k = omega arith in
         rw is
-        (ruled-both Follow isRouter runs permissions a b 0 k (Interrupt k) (p .like .marks (q / 8) (omega arith)) unchanged unchanged
-        (taken-both isRouter runs permissions 0 (Interrupt k) (omega arith) (λ u. refl) (λ u. refl)))
-    reacts-both isRouter runs permissions byte kind g e (Acknowledge j) (acknowledge m o) =
+        (ruled-both Follow side a b 0 k (Interrupt k) (p .like .marks (q / 8) (omega arith)) (λ n. unchanged) (λ n. unchanged)
+        (λ o. taken-both side 0 (Interrupt k) (omega arith) (λ u. refl) (λ u. refl)))
+    reacts-both side byte kind g e (Acknowledge j) (acknowledge m o) =
         let is : j ≡ k = omega arith in
         rw is
-        (ruled-both Follow isRouter runs permissions a b 1 k (Acknowledge k) (p .like .marks (q / 8) (omega arith)) unchanged unchanged
-        (taken-both isRouter runs permissions 1 (Acknowledge k) (omega arith) (λ u. refl) (λ u. refl)))
+        (ruled-both Follow side a b 1 k (Acknowledge k) (p .like .marks (q / 8) (omega arith)) (λ n. unchanged) (λ n. unchanged)
+        (λ o. taken-both side 1 (Acknowledge k) (omega arith) (λ u. refl) (λ u. refl)))
 
-    arrives-both : (sent other : List ℕ) (kind : ℕ) → kind < 2 → getD sent (peer plan q) 256 ≡ 128 + 32 * kind + k
-        → getD other (peer plan q) 256 ≡ 128 + 32 * kind + k
+    arrives-both : (sent other : List ℕ) (kind : ℕ) → kind < 2 → getD sent (peer plan q) 256 ≡ byteOf kind k
+        → getD other (peer plan q) 256 ≡ byteOf kind k
         → Both k (arrives plan sent q w .state) (arrives plan other q v .state)
     unfolding arrives arrived reacts
     arrives-both sent other kind g m n =
-        let byte = 128 + 32 * kind + k in
+        let byte = byteOf kind k in
         rw (m, n, lt-ltb byte 256 (omega arith), p .like .runs q h)
-        (reacts-both (router plan (q / 8)) (eqb (running (v .state) q) 1) (permissions plan q) byte kind g refl (reads byte) (stands byte))
+        (reacts-both (sideAt (router plan (q / 8)) (plan .core .permissions) q (v .state)) byte kind g refl (reads byte) (stands byte))
 
   -- no code of k arrives
-  pub arrives-aside : (sent : List ℕ) (w : World) {t : State} → Both k (w .state) t → ((kind : ℕ) → kind < 2 → getD sent (peer plan q) 256 ≢ 128 + 32 * kind + k)
+  pub arrives-aside : (sent : List ℕ) (w : World) {t : State} → Both k (w .state) t → ((kind : ℕ) → kind < 2 → getD sent (peer plan q) 256 ≢ byteOf kind k)
       → Both k (arrives plan sent q w .state) t
   arrives-aside sent w {t} p not-k =
-      let other : (kind j : ℕ) → kind < 2 → getD sent (peer plan q) 256 ≡ 128 + 32 * kind + j → j ≢ k = λ kind j g e o. not-k kind g (omega arith) in
-      let marks : (kind j : ℕ) → kind < 2 → j < 32 → getD sent (peer plan q) 256 ≡ 128 + 32 * kind + j → Both k (mark plan kind (q / 8) j (w .state)) t =
+      let other : (kind j : ℕ) → kind < 2 → getD sent (peer plan q) 256 ≡ byteOf kind j → j ≢ k = λ kind j g e o. not-k kind g (omega arith) in
+      let marks : (kind j : ℕ) → kind < 2 → j < 32 → getD sent (peer plan q) 256 ≡ byteOf kind j → Both k (mark plan kind (q / 8) j (w .state)) t =
       λ kind j g m e. mark-aside l p plan kind (q / 8) j (omega arith) m (other kind j g e) in
       arrives-cases plan sent q w (λ v. Both k (v .state) t) p
       (λ kind j g m e. queue-all-aside l (plan .core .permissions) kind (q / 8) q g (omega arith) (marks kind j g m e) j (other kind j g e))
@@ -331,12 +313,12 @@ module _ {k : ℕ} (l : k < 32) (plan : Plan) (q : ℕ) (h : q < 256) where
 -- ---- what is sent
 
 -- a byte is a code of k, or none
-pub about : (k b : ℕ) → ((kind : ℕ) × (kind < 2) × (b ≡ 128 + 32 * kind + k)) ⊎ ((kind : ℕ) → kind < 2 → b ≢ 128 + 32 * kind + k)
+pub about : (k b : ℕ) → ((kind : ℕ) × (kind < 2) × (b ≡ byteOf kind k)) ⊎ ((kind : ℕ) → kind < 2 → b ≢ byteOf kind k)
 about k b =
-    elim (ℕ-discrete b (128 + k)) [
+    elim (ℕ-discrete b (byteOf 0 k)) [
       | yes e ↦ inl (0, omega arith, omega arith)
       | no x ↦
-          elim (ℕ-discrete b (160 + k)) [
+          elim (ℕ-discrete b (byteOf 1 k)) [
             | yes e ↦ inl (1, omega arith, omega arith)
             | no y ↦ inr (λ kind g e. omega arith)
           ]

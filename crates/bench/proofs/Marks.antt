@@ -18,7 +18,7 @@ use Rattle.plan.specs.declared.Plan.{Plan}
 use Rattle.bench.specs.State.{State, word, put, registerAt, timerAt, register, timer}
 use Rattle.bench.specs.Network.{devices, router, loadOf}
 use Rattle.bench.specs.Sound.{Timed, Sound}
-use Rattle.bench.specs.Round.{World, toldWord, tick, ticked}
+use Rattle.bench.specs.Round.{World, ofTimeout, toldWord, tick, ticked}
 use Rattle.bench.specs.Calls.{mark, within, cleared, forgotten}
 use Rattle.bench.proofs.Words.{word-same, word-other, put-word}
 use Rattle.bench.proofs.Zeroed.{zeroed-zeroes}
@@ -40,7 +40,7 @@ module _ (isRouter : Bool) (d k : ℕ) (w : World) where
   ended =
       record {
         state = put (put (w .state) (registerAt d) (leave (register (w .state) d) k)) (timerAt d k) 0;
-        told = cond isRouter (w .told) (w .told ++ (toldWord 3 d k ∷ []));
+        told = cond isRouter (w .told) (w .told ++ (toldWord ofTimeout d k ∷ []));
       }
 
   -- what is so in each of these cases is so of the tick

@@ -6,7 +6,6 @@ use Prim.Native.Nat.{ℕ, zero, suc, _+_, _-_, _*_, _/_, _%_, _≤_, _<_}
 use native.Mathlib.Nat.{add-zero}
 use native.Mathlib.Omega.{arith}
 use lib.Bits.{bitOr}
-use lib.Dec.{eqb}
 use lib.ListN.{getD}
 use borrow.Author.Tests.{eq-eqb, ne-eqb, lt-ltb, le-ltb}
 use Rattle.bits.specs.Set.{bit, leave}
@@ -15,14 +14,15 @@ use Rattle.bits.specs.declared.Found.{Found}
 use Rattle.bits.specs.declared.Found.the-variants.{At, Nowhere}
 use Rattle.bits.proofs.Sets.{bit-zero}
 use Rattle.bits.proofs.Firsts.{first-unique, firstFrom-finds}
+use Rattle.codes.specs.Codes.{byteOf}
 use Rattle.codes.specs.declared.Code.{Code}
 use Rattle.device.specs.Reaction.{reacts}
 use Rattle.device.specs.declared.Reaction.{Reaction}
 use Rattle.device.specs.declared.Action.the-variants.{Forwarded, Told}
 use Rattle.plan.specs.declared.Plan.{Plan}
-use Rattle.bench.specs.State.{State, put, word, registerAt, timerAt, portAt, register, timer, waiting, next, running}
+use Rattle.bench.specs.State.{State, put, word, registerAt, timerAt, portAt, register, timer, waiting, next}
 use Rattle.bench.specs.Network.{role, router, peer, loadOf}
-use Rattle.bench.specs.Round.{World, toldWord, tick, chosen, sends, unqueued, timed, forwarded, tells, acted, arrived, arrives}
+use Rattle.bench.specs.Round.{World, ofTimeout, toldWord, tick, chosen, sends, unqueued, timed, forwarded, tells, sideAt, acted, arrived, arrives}
 use Rattle.bench.proofs.Words.{word-other}
 use Rattle.bench.proofs.Tellings.{world}
 
@@ -48,7 +48,7 @@ module _ (isRouter : Bool) (d k : ℕ) (s : State) (told : List ℕ) where
     unfolding tick
     tick-ends h = rw (e, h, is, tick)
 
-    pub tick-tells : isRouter ≡ false → tick isRouter d k (world s told) ≡ world (put (put s (registerAt d) r) (timerAt d k) 0) (told ++ (toldWord 3 d k ∷ []))
+    pub tick-tells : isRouter ≡ false → tick isRouter d k (world s told) ≡ world (put (put s (registerAt d) r) (timerAt d k) 0) (told ++ (toldWord ofTimeout d k ∷ []))
     unfolding tick
     tick-tells h = rw (e, h, is, tick)
 
@@ -81,11 +81,11 @@ module _ (old : State) (q : ℕ) where
   post-same s e = rw (e, unqueued)
 
   module _ {k : ℕ} (e : chosen old q ≡ At k) where
-    pub post-interrupt : bit (word old (1056 + 4 * q)) k ≡ 1 → sends old q ≡ 128 + k
+    pub post-interrupt : bit (word old (1056 + 4 * q)) k ≡ 1 → sends old q ≡ byteOf 0 k
     unfolding sends
     post-interrupt h = rw (e, add-zero, eq-eqb _ _ h, sends)
 
-    pub post-acknowledge : (bit (word old (1056 + 4 * q)) k ≡ 1 → ⊥) → sends old q ≡ 160 + k
+    pub post-acknowledge : (bit (word old (1056 + 4 * q)) k ≡ 1 → ⊥) → sends old q ≡ byteOf 1 k
     unfolding sends
     post-acknowledge h = rw (e, add-zero, ne-eqb _ _ h, sends)
 
@@ -111,7 +111,7 @@ module _ (load : ℕ → ℕ) (permissions : List ℕ) (q : ℕ) (s : State) whe
   acted-tells code t told e = rw e
 
   pub arrived-acts : (isRouter : Bool) (byte : ℕ) (r : Reaction) (told : List ℕ)
-      → r ≡ reacts isRouter (eqb (running s q) 1) (getD permissions q 0) (register s (q / 8)) byte
+      → r ≡ reacts (sideAt isRouter permissions q s) (register s (q / 8)) byte
       → arrived load permissions q isRouter byte (world s told) ≡ acted load permissions q (r .action) (world (put s (registerAt (q / 8)) (r .register)) told)
   unfolding arrived
   arrived-acts isRouter byte r told e = ap (λ (x : Reaction). acted load permissions q (x .action) (world (put s (registerAt (q / 8)) (x .register)) told)) (sym e)

@@ -14,6 +14,7 @@ use Rattle.bits.specs.Set.{bit, join, leave}
 use Rattle.bits.specs.declared.Found.{Found}
 use Rattle.bits.specs.declared.Found.the-variants.{At, Nowhere}
 use Rattle.bits.proofs.Sets.{bit-two}
+use Rattle.codes.specs.Codes.{byteOf}
 use Rattle.device.specs.Reaction.{marked}
 use Rattle.plan.specs.Reading.{Held}
 use Rattle.plan.specs.declared.Plan.{Plan}
@@ -23,7 +24,7 @@ use Rattle.bench.specs.Settling.{rounds}
 use Rattle.bench.specs.Sound.{Timed, Sound}
 use Rattle.bench.specs.Queue.{sendsAt, queueAt, queueBut, queueAllAt}
 use Rattle.bench.specs.Calls.{mark, called}
-use Rattle.bench.specs.Round.{World, toldWord, tick, chosen, unqueued, ticked, sentBytes, posted, arrives, reached, afterTimers, afterSending, afterArrivals, round}
+use Rattle.bench.specs.Round.{World, ofInterrupt, ofTimeout, toldWord, tick, chosen, unqueued, ticked, sentBytes, posted, arrives, reached, afterTimers, afterSending, afterArrivals, round}
 use Rattle.bench.proofs.Words.{length-put, word-same, word-other}
 use Rattle.bench.proofs.Plans.{few}
 use Rattle.bench.proofs.Marks.{tick-cases, tick-other, tick-step, ticked-sound}
@@ -84,25 +85,25 @@ module _ (isRouter : Bool) (d k : ℕ) (w : World) where
   tick-more : (v : ℕ) → List·Memᴰ v (w .told) → List·Memᴰ v (tick isRouter d k w .told)
   tick-more v m = tick-cases isRouter d k w (λ u. List·Memᴰ v (u .told)) (λ e. m) (λ e. by-role isRouter) (λ t e. m)
     where
-      by-role : (r : Bool) → List·Memᴰ v (cond r (w .told) (w .told ++ (toldWord 3 d k ∷ [])))
+      by-role : (r : Bool) → List·Memᴰ v (cond r (w .told) (w .told ++ (toldWord ofTimeout d k ∷ [])))
       by-role true = m
-      by-role false = Memᴰ·append-left (toldWord 3 d k ∷ []) m
+      by-role false = Memᴰ·append-left (toldWord ofTimeout d k ∷ []) m
 
   -- a node's timer that ends is told
-  tick-tells : isRouter ≡ false → timer (w .state) d k ≡ 1 → List·Memᴰ (toldWord 3 d k) (tick isRouter d k w .told)
+  tick-tells : isRouter ≡ false → timer (w .state) d k ≡ 1 → List·Memᴰ (toldWord ofTimeout d k) (tick isRouter d k w .told)
   tick-tells node o =
-      tick-cases isRouter d k w (λ u. List·Memᴰ (toldWord 3 d k) (u .told)) (λ e. absurd (omega arith))
+      tick-cases isRouter d k w (λ u. List·Memᴰ (toldWord ofTimeout d k) (u .told)) (λ e. absurd (omega arith))
       (λ e. rw node (Memᴰ·append-right (w .told) (List·Memᴰ·head refl))) (λ t e. absurd (omega arith))
 
   -- and nothing else
-  tick-came : (v : ℕ) → List·Memᴰ v (tick isRouter d k w .told) → List·Memᴰ v (w .told) ⊎ ((v ≡ toldWord 3 d k) × (timer (w .state) d k ≡ 1) × (isRouter ≡ false))
+  tick-came : (v : ℕ) → List·Memᴰ v (tick isRouter d k w .told) → List·Memᴰ v (w .told) ⊎ ((v ≡ toldWord ofTimeout d k) × (timer (w .state) d k ≡ 1) × (isRouter ≡ false))
   tick-came v =
       tick-cases isRouter d k w
-      (λ u. List·Memᴰ v (u .told) → List·Memᴰ v (w .told) ⊎ ((v ≡ toldWord 3 d k) × (timer (w .state) d k ≡ 1) × (isRouter ≡ false)))
+      (λ u. List·Memᴰ v (u .told) → List·Memᴰ v (w .told) ⊎ ((v ≡ toldWord ofTimeout d k) × (timer (w .state) d k ≡ 1) × (isRouter ≡ false)))
       (λ e m. inl m) (λ e. by-role e isRouter refl) (λ t e m. inl m)
     where
-      by-role : timer (w .state) d k ≡ 1 → (r : Bool) → isRouter ≡ r → List·Memᴰ v (cond r (w .told) (w .told ++ (toldWord 3 d k ∷ [])))
-          → List·Memᴰ v (w .told) ⊎ ((v ≡ toldWord 3 d k) × (timer (w .state) d k ≡ 1) × (isRouter ≡ false))
+      by-role : timer (w .state) d k ≡ 1 → (r : Bool) → isRouter ≡ r → List·Memᴰ v (cond r (w .told) (w .told ++ (toldWord ofTimeout d k ∷ [])))
+          → List·Memᴰ v (w .told) ⊎ ((v ≡ toldWord ofTimeout d k) × (timer (w .state) d k ≡ 1) × (isRouter ≡ false))
       by-role o true e m = inl m
       by-role o false e m = elim (List·Memᴰ·append-cases (w .told) m) [ inl a ↦ inl a | inr b ↦ inr (List·Memᴰ·eq-of-singleton b, o, e) ]
 
@@ -150,27 +151,27 @@ module _ (plan : Plan) (held : Held plan) (d k : ℕ) (h : d < devices plan) (l 
     before-turn : timer (upTo (turn plan) (32 * d + k) w .state) d k ≡ timer (w .state) d k
     before-turn = untouched (turn plan) (λ v. timer (v .state) d k) (32 * d + k) (λ i v b. turn-other i v (omega arith)) w
 
-    ticked-tells : router plan d ≡ false → timer (w .state) d k ≡ 1 → List·Memᴰ (toldWord 3 d k) (ticked plan w .told)
+    ticked-tells : router plan d ≡ false → timer (w .state) d k ≡ 1 → List·Memᴰ (toldWord ofTimeout d k) (ticked plan w .told)
     unfolding ticked upTo
     ticked-tells node o =
-        keeps-from (turn plan) (λ v. List·Memᴰ (toldWord 3 d k) (v .told)) (suc (32 * d + k)) (32 * devices plan) (omega arith)
-        (λ i v a b m. tick-more (router plan (i / 32)) (i / 32) (i % 32) v (toldWord 3 d k) m) w
-        (turn-here (λ e j. List·Memᴰ (toldWord 3 d k) (tick (router plan e) e j (upTo (turn plan) (32 * d + k) w) .told))
+        keeps-from (turn plan) (λ v. List·Memᴰ (toldWord ofTimeout d k) (v .told)) (suc (32 * d + k)) (32 * devices plan) (omega arith)
+        (λ i v a b m. tick-more (router plan (i / 32)) (i / 32) (i % 32) v (toldWord ofTimeout d k) m) w
+        (turn-here (λ e j. List·Memᴰ (toldWord ofTimeout d k) (tick (router plan e) e j (upTo (turn plan) (32 * d + k) w) .told))
         (tick-tells (router plan d) d k (upTo (turn plan) (32 * d + k) w) node (before-turn ∙ o)))
 
-    ticked-came : List·Memᴰ (toldWord 3 d k) (ticked plan w .told) → List·Memᴰ (toldWord 3 d k) (w .told) ⊎ ((timer (w .state) d k ≡ 1) × (router plan d ≡ false))
+    ticked-came : List·Memᴰ (toldWord ofTimeout d k) (ticked plan w .told) → List·Memᴰ (toldWord ofTimeout d k) (w .told) ⊎ ((timer (w .state) d k ≡ 1) × (router plan d ≡ false))
     unfolding ticked
     ticked-came m =
-        elim (came (turn plan) (λ v. Sound plan (v .state)) (32 * devices plan) turn-sound (λ v. List·Memᴰ (toldWord 3 d k) (v .told))
+        elim (came (turn plan) (λ v. Sound plan (v .state)) (32 * devices plan) turn-sound (λ v. List·Memᴰ (toldWord ofTimeout d k) (v .told))
         (λ i v. (i ≡ 32 * d + k) × (timer (v .state) d k ≡ 1) × (router plan d ≡ false)) by-turn w x m) [
           | inl a ↦ inl a
           | inr b ↦ inr (sym before-turn ∙ ap (λ i. timer (upTo (turn plan) i w .state) d k) (sym (b .2 .0)) ∙ b .2 .1, b .2 .2)
         ]
       where
-        by-turn : (i : ℕ) (v : World) → i < 32 * devices plan → Sound plan (v .state) → List·Memᴰ (toldWord 3 d k) (turn plan i v .told)
-            → List·Memᴰ (toldWord 3 d k) (v .told) ⊎ ((i ≡ 32 * d + k) × (timer (v .state) d k ≡ 1) × (router plan d ≡ false))
+        by-turn : (i : ℕ) (v : World) → i < 32 * devices plan → Sound plan (v .state) → List·Memᴰ (toldWord ofTimeout d k) (turn plan i v .told)
+            → List·Memᴰ (toldWord ofTimeout d k) (v .told) ⊎ ((i ≡ 32 * d + k) × (timer (v .state) d k ≡ 1) × (router plan d ≡ false))
         by-turn i v b y m =
-            elim (tick-came (router plan (i / 32)) (i / 32) (i % 32) v (toldWord 3 d k) m) [
+            elim (tick-came (router plan (i / 32)) (i / 32) (i % 32) v (toldWord ofTimeout d k) m) [
               | inl a ↦ inl a
               | inr c ↦
                   let e = c .0 in
@@ -183,13 +184,13 @@ module _ (plan : Plan) (held : Held plan) (d k : ℕ) (h : d < devices plan) (l 
 
 -- no port of device d is sent an interrupt or an acknowledge of identifier k
 abbrev pub Unsent : Plan → State → ℕ → ℕ → Type 0
-Unsent plan s d k = (p kind : ℕ) → p < 8 → kind < 2 → getD (sentBytes plan s) (peer plan (8 * d + p)) 256 ≢ 128 + 32 * kind + k
+Unsent plan s d k = (p kind : ℕ) → p < 8 → kind < 2 → getD (sentBytes plan s) (peer plan (8 * d + p)) 256 ≢ byteOf kind k
 
 module _ (plan : Plan) (sent : List ℕ) (q : ℕ) (w : World) where
-  arrives-timer : (d k : ℕ) → d < 32 → k < 32 → ((kind : ℕ) → kind < 2 → q / 8 ≡ d → getD sent (peer plan q) 256 ≢ 128 + 32 * kind + k)
+  arrives-timer : (d k : ℕ) → d < 32 → k < 32 → ((kind : ℕ) → kind < 2 → q / 8 ≡ d → getD sent (peer plan q) 256 ≢ byteOf kind k)
       → timer (arrives plan sent q w .state) d k ≡ timer (w .state) d k
   arrives-timer d k h l quiet =
-      let marks : (kind j : ℕ) → kind < 2 → j < 32 → getD sent (peer plan q) 256 ≡ 128 + 32 * kind + j
+      let marks : (kind j : ℕ) → kind < 2 → j < 32 → getD sent (peer plan q) 256 ≡ byteOf kind j
       → timer (mark plan kind (q / 8) j (w .state)) d k ≡ timer (w .state) d k =
       λ kind j g m b. mark-other plan kind (q / 8) j (timerAt d k) (w .state) (omega arith)
       (λ e. let here : q / 8 ≡ d = omega arith in quiet kind g here (omega arith)) in
@@ -199,12 +200,12 @@ module _ (plan : Plan) (sent : List ℕ) (q : ℕ) (w : World) where
 
   arrives-more : (v : ℕ) → List·Memᴰ v (w .told) → List·Memᴰ v (arrives plan sent q w .told)
   arrives-more v m =
-      arrives-cases plan sent q w (λ u. List·Memᴰ v (u .told)) m (λ kind k g l b. m) (λ kind k g l b. Memᴰ·append-left (toldWord (1 + kind) (q / 8) k ∷ []) m)
+      arrives-cases plan sent q w (λ u. List·Memᴰ v (u .told)) m (λ kind k g l b. m) (λ kind k g l b. Memᴰ·append-left (toldWord (ofInterrupt + kind) (q / 8) k ∷ []) m)
 
   -- no timeout is told
-  arrives-came : q / 8 < 32 → (d k : ℕ) → List·Memᴰ (toldWord 3 d k) (arrives plan sent q w .told) → List·Memᴰ (toldWord 3 d k) (w .told)
+  arrives-came : q / 8 < 32 → (d k : ℕ) → List·Memᴰ (toldWord ofTimeout d k) (arrives plan sent q w .told) → List·Memᴰ (toldWord ofTimeout d k) (w .told)
   arrives-came h d k =
-      arrives-cases plan sent q w (λ u. List·Memᴰ (toldWord 3 d k) (u .told) → List·Memᴰ (toldWord 3 d k) (w .told)) (λ m. m) (λ kind j g l b m. m)
+      arrives-cases plan sent q w (λ u. List·Memᴰ (toldWord ofTimeout d k) (u .told) → List·Memᴰ (toldWord ofTimeout d k) (w .told)) (λ m. m) (λ kind j g l b m. m)
       (λ kind j g l b m. elim (List·Memᴰ·append-cases (w .told) m) [ inl a ↦ a | inr c ↦ let e = List·Memᴰ·eq-of-singleton c in absurd (omega arith) ])
 
 -- at all ports
@@ -219,16 +220,16 @@ module _ (plan : Plan) (held : Held plan) (w : World) (d k : ℕ) where
       (λ kind g here. let is : 8 * d + q % 8 ≡ q = omega arith in rw is at (quiet (q % 8) kind (omega arith) g)))
       w
 
-  reached-more : (sent : List ℕ) → List·Memᴰ (toldWord 3 d k) (w .told) → List·Memᴰ (toldWord 3 d k) (reached plan sent w .told)
+  reached-more : (sent : List ℕ) → List·Memᴰ (toldWord ofTimeout d k) (w .told) → List·Memᴰ (toldWord ofTimeout d k) (reached plan sent w .told)
   unfolding reached
   reached-more sent m =
-      keeps (arrives plan sent) (λ v. List·Memᴰ (toldWord 3 d k) (v .told)) (8 * devices plan) (λ q v b. arrives-more plan sent q v (toldWord 3 d k)) w m
+      keeps (arrives plan sent) (λ v. List·Memᴰ (toldWord ofTimeout d k) (v .told)) (8 * devices plan) (λ q v b. arrives-more plan sent q v (toldWord ofTimeout d k)) w m
 
-  reached-came : (sent : List ℕ) → List·Memᴰ (toldWord 3 d k) (reached plan sent w .told) → List·Memᴰ (toldWord 3 d k) (w .told)
+  reached-came : (sent : List ℕ) → List·Memᴰ (toldWord ofTimeout d k) (reached plan sent w .told) → List·Memᴰ (toldWord ofTimeout d k) (w .told)
   unfolding reached
   reached-came sent =
       let n = few plan held in
-      keeps (arrives plan sent) (λ v. List·Memᴰ (toldWord 3 d k) (v .told) → List·Memᴰ (toldWord 3 d k) (w .told)) (8 * devices plan)
+      keeps (arrives plan sent) (λ v. List·Memᴰ (toldWord ofTimeout d k) (v .told) → List·Memᴰ (toldWord ofTimeout d k) (w .told)) (8 * devices plan)
       (λ q v b p m. p (arrives-came plan sent q v (omega arith) d k m)) w (λ m. m)
 
 -- ---- a round
@@ -238,8 +239,8 @@ pub record Fell (plan : Plan) (w : World) (d k t : ℕ) : Type 0 where
   pub now : timer (w .state) d k ≡ t
   pub runs : 1 ≤ t → bit (register (w .state) d) k ≡ 1
   pub ends : t ≡ 0 → bit (register (w .state) d) k ≡ 0
-  pub tells : t ≡ 0 → router plan d ≡ false → List·Memᴰ (toldWord 3 d k) (w .told)
-  pub only : List·Memᴰ (toldWord 3 d k) (w .told) → (t ≡ 0) × (router plan d ≡ false)
+  pub tells : t ≡ 0 → router plan d ≡ false → List·Memᴰ (toldWord ofTimeout d k) (w .told)
+  pub only : List·Memᴰ (toldWord ofTimeout d k) (w .told) → (t ≡ 0) × (router plan d ≡ false)
 
 module _ (plan : Plan) (held : Held plan) (s : State) (x : Sound plan s) (d k : ℕ) (h : d < devices plan) (l : k < 32) where
   -- step 1: the timers fall

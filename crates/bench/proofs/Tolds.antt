@@ -14,11 +14,11 @@ use Rattle.areas.proofs.Tables.{length-table}
 use Rattle.areas.proofs.Tests.{and-left}
 use Rattle.codes.specs.declared.Code.{Code}
 use Rattle.codes.specs.declared.Code.the-variants.{Time, Interrupt, Acknowledge, Reserved}
-use Rattle.device.specs.Permissions.{mayReceive}
-use Rattle.device.specs.Reaction.{accepted, kept, ruled, reactsTo, reacts}
+use Rattle.device.specs.Reaction.{ruled, reactsTo, reacts}
 use Rattle.device.specs.declared.Action.{Action}
 use Rattle.device.specs.declared.Action.the-variants.{Named, LinkError, Ignored, Forwarded, Told}
-use Rattle.bits.specs.Set.{bit}
+use Rattle.device.specs.declared.Side.{Side}
+use Rattle.device.proofs.Rule.{ruled-cases}
 use Rattle.plan.specs.Fields.{portsFit, nobody}
 use Rattle.plan.specs.Reading.{Held}
 use Rattle.plan.specs.Steps.Memory.{portRight, deviceRight, rowRight}
@@ -27,7 +27,7 @@ use Rattle.plan.proofs.Round.{held-right, held-devices}
 use Rattle.plan.proofs.There.{right-says}
 use Rattle.bench.specs.State.{State, timer}
 use Rattle.bench.specs.Network.{devices, role, router, peer}
-use Rattle.bench.specs.Round.{World, toldWord, tick, tells, acted, arrived, ticked, sentBytes, arrives, reached, afterTimers, afterSending, round}
+use Rattle.bench.specs.Round.{World, ofTimeout, toldWord, tick, tells, acted, arrived, ticked, sentBytes, arrives, reached, afterTimers, afterSending, round}
 use Rattle.bench.proofs.Stepped.{tick-idle, tick-falls, tick-ends, tick-tells, arrives-nothing, arrives-byte}
 
 -- ---- a node has one port, and nobody is the peer of a port that does not exist
@@ -68,19 +68,13 @@ most load permissions q (LinkError code) w = omega arith
 most load permissions q (Ignored code) w = omega arith
 
 -- a router tells nobody
-module _ (load : ℕ → ℕ) (permissions : List ℕ) (q : ℕ) (running : Bool) (own register : ℕ) (w : World) where
-  ruled-silent : (kind k : ℕ) (code : Code) → acted load permissions q (ruled true running own register kind k code .action) w .told ≡ w .told
-  unfolding acted ruled
-  ruled-silent kind k code = by-tests running (mayReceive kind own) (eqb (bit register k) kind)
-    where
-      by-tests : (a b c : Bool)
-          → acted load permissions q (cond a (cond b (cond c (accepted true running own register kind k code) (kept true running own register (Ignored code))) (kept true running own register (Ignored code))) (kept true running own register (LinkError code)) .action) w .told ≡ w .told
-      by-tests true true true = refl
-      by-tests true true false = refl
-      by-tests true false c = refl
-      by-tests false b c = refl
+module _ (load : ℕ → ℕ) (permissions : List ℕ) (q : ℕ) (side : Side) (hands : side .router ≡ true) (register : ℕ) (w : World) where
+  ruled-silent : (kind k : ℕ) (code : Code) → acted load permissions q (ruled side register kind k code .action) w .told ≡ w .told
+  unfolding acted
+  ruled-silent kind k code =
+      ruled-cases (λ r. acted load permissions q (r .action) w .told ≡ w .told) side register kind k code (λ n. refl) (λ n. refl) (λ o. rw hands refl)
 
-  reacts-silent : (code : Code) → acted load permissions q (reactsTo true running own register code .action) w .told ≡ w .told
+  reacts-silent : (code : Code) → acted load permissions q (reactsTo side register code .action) w .told ≡ w .told
   unfolding acted reactsTo
   reacts-silent (Time v) = refl
   reacts-silent Reserved = refl
@@ -100,7 +94,7 @@ tick-most isRouter d k w =
   where
     by-role : (b : Bool) → timer (w .state) d k ≡ 1 → length (tick b d k w .told) ≤ length (w .told) + 1
     by-role true o = omega (arith, ap (λ (x : World). length (x .told)) (tick-ends true d k (w .state) (w .told) _ o refl refl))
-    by-role false o = omega (arith, ap (λ (x : World). length (x .told)) (tick-tells false d k (w .state) (w .told) _ o refl refl), length-append (w .told) (toldWord 3 d k ∷ []))
+    by-role false o = omega (arith, ap (λ (x : World). length (x .told)) (tick-tells false d k (w .state) (w .told) _ o refl refl), length-append (w .told) (toldWord ofTimeout d k ∷ []))
 
 -- ---- what the loops tell
 
@@ -126,7 +120,7 @@ module _ (plan : Plan) (held : Held plan) (sent : List ℕ) (none : getD sent no
   arrives-none q w l m = by-role (router plan (q / 8)) refl
     where
       by-byte : router plan (q / 8) ≡ true → (b : Bool) → ltb (getD sent (peer plan q) 256) 256 ≡ b → arrives plan sent q w .told ≡ w .told
-      by-byte r true e = rw (arrives-byte plan sent q _ refl w _ (ltb-true _ _ e) refl, r) (reacts-silent _ _ q _ _ _ _ _)
+      by-byte r true e = rw (arrives-byte plan sent q _ refl w _ (ltb-true _ _ e) refl) (reacts-silent _ _ q _ r _ _ _)
       by-byte r false e = rw (arrives-nothing plan sent q _ refl w (ltb-false _ _ e))
 
       by-role : (b : Bool) → router plan (q / 8) ≡ b → arrives plan sent q w .told ≡ w .told

@@ -1,8 +1,9 @@
 -- RULES, "Rounds": identifiers share links, and only that way affect each other.
 use mathlib.Core.Path.{_≡_}
-use Prim.Native.Nat.{ℕ, _+_, _*_, _<_}
+use Prim.Native.Nat.{ℕ, _<_}
 use lib.ListN.{getD}
 use Rattle.bits.specs.Set.{bit}
+use Rattle.codes.specs.Codes.{byteOf}
 use Rattle.plan.specs.declared.Plan.{Plan}
 use Rattle.bench.specs.State.{State, register, timer, waiting, running}
 use Rattle.bench.specs.Round.{sentBytes}
@@ -16,7 +17,7 @@ pub record Alike (k : ℕ) (s t : State) : Type 0 where
 
 -- port q sends identifier k, as a code of a kind
 abbrev pub SendsIt : Plan → ℕ → State → ℕ → ℕ → Type 0
-SendsIt plan k s kind q = getD (sentBytes plan s) q 256 ≡ 128 + 32 * kind + k
+SendsIt plan k s kind q = getD (sentBytes plan s) q 256 ≡ byteOf kind k
 
 -- the same ports send k in both
 abbrev pub SendAlike : Plan → ℕ → State → State → Type 0

@@ -11,11 +11,13 @@ use Rattle.bits.specs.Set.{bit, leave}
 use Rattle.bits.specs.First.{firstFrom, following}
 use Rattle.bits.specs.declared.Found.{Found}
 use Rattle.bits.specs.declared.Found.the-variants.{At, Nowhere}
+use Rattle.codes.specs.Codes.{byteOf}
 use Rattle.codes.specs.declared.Code.{Code}
 use Rattle.codes.specs.declared.Code.the-variants.{Time, Interrupt, Acknowledge, Reserved}
 use Rattle.device.specs.Reaction.{reacts}
 use Rattle.device.specs.declared.Action.{Action}
 use Rattle.device.specs.declared.Action.the-variants.{Named, LinkError, Ignored, Forwarded, Told}
+use Rattle.device.specs.declared.Side.{Side}
 use Rattle.plan.specs.declared.Plan.{Plan}
 use Rattle.bench.specs.State.{State, put, registerAt, timerAt, portAt, register, timer, waiting, next, running}
 use Rattle.bench.specs.Network.{devices, router, peer, loadOf}
@@ -26,7 +28,17 @@ pub record World : Type 0 where
   pub state : State
   pub told : List ℕ
 
--- a word told: kind x 65,536 + device x 256 + identifier; kinds 1 interrupt, 2 acknowledge, 3 timeout
+-- what a host is told of
+abbrev pub ofInterrupt : ℕ
+ofInterrupt = 1
+
+abbrev pub ofAcknowledge : ℕ
+ofAcknowledge = 2
+
+abbrev pub ofTimeout : ℕ
+ofTimeout = 3
+
+-- a word told: kind x 65,536 + device x 256 + identifier
 abbrev pub toldWord : ℕ → ℕ → ℕ → ℕ
 toldWord kind d k = 65536 * kind + 256 * d + k
 
@@ -40,7 +52,7 @@ tick isRouter d k w =
           cond (eqb t 0)
           (record {
             state = put (put (w .state) (registerAt d) (leave (register (w .state) d) k)) (timerAt d k) 0;
-            told = cond isRouter (w .told) (w .told ++ (toldWord 3 d k ∷ []));
+            told = cond isRouter (w .told) (w .told ++ (toldWord ofTimeout d k ∷ []));
           })
           (record { state = put (w .state) (timerAt d k) t; told = w .told })
     ]
@@ -51,9 +63,9 @@ tick isRouter d k w =
 unfoldable pub chosen : State → ℕ → Found
 chosen old q = firstFrom (bitOr (waiting old 0 q) (waiting old 1 q)) (next old q)
 
--- its byte: 128 + identifier for an interrupt, 160 + identifier for an acknowledge; 256 for none
+-- its byte, as an interrupt or an acknowledge; 256 for none
 unfoldable pub sends : State → ℕ → ℕ
-sends old q = elim (chosen old q) [ At k ↦ cond (eqb (bit (waiting old 0 q) k) 1) (128 + k) (160 + k) | Nowhere ↦ 256 ]
+sends old q = elim (chosen old q) [ At k ↦ cond (eqb (bit (waiting old 0 q) k) 1) (byteOf 0 k) (byteOf 1 k) | Nowhere ↦ 256 ]
 
 -- it leaves its set, and next moves behind it
 unfoldable pub unqueued : State → ℕ → State → State
@@ -81,10 +93,14 @@ forwarded permissions q Reserved s = s
 
 -- what a host is told of a code
 unfoldable pub tells : ℕ → Code → List ℕ
-tells d (Interrupt k) = toldWord 1 d k ∷ []
-tells d (Acknowledge k) = toldWord 2 d k ∷ []
+tells d (Interrupt k) = toldWord ofInterrupt d k ∷ []
+tells d (Acknowledge k) = toldWord ofAcknowledge d k ∷ []
 tells d (Time v) = []
 tells d Reserved = []
+
+-- port q's side of a reaction
+abbrev pub sideAt : Bool → List ℕ → ℕ → State → Side
+sideAt isRouter permissions q s = record { router = isRouter; running = eqb (running s q) 1; permissions = getD permissions q 0 }
 
 module _ (load : ℕ → ℕ) (permissions : List ℕ) (q : ℕ) where
   -- what becomes of the code
@@ -98,7 +114,7 @@ module _ (load : ℕ → ℕ) (permissions : List ℕ) (q : ℕ) where
   -- a byte arrives at port q, and its device reacts
   unfoldable pub arrived : Bool → ℕ → World → World
   arrived isRouter byte w =
-      let r = reacts isRouter (eqb (running (w .state) q) 1) (getD permissions q 0) (register (w .state) (q / 8)) byte in
+      let r = reacts (sideAt isRouter permissions q (w .state)) (register (w .state) (q / 8)) byte in
       acted (r .action) (record { state = put (w .state) (registerAt (q / 8)) (r .register); told = w .told })
 
 -- ---- the round of a plan

@@ -8,7 +8,7 @@ ghost use lib.Dec.{eqb, ltb};
 ghost use lib.ListN.{length, getD};
 ghost use Rattle.areas.specs.Loop.{upTo};
 ghost use Rattle.areas.specs.Table.{table};
-ghost use Rattle.bench.specs.Round.{tick, chosen, sends, unqueued, timed, forwarded, tells, acted, arrived, reached};
+ghost use Rattle.bench.specs.Round.{toldWord, tick, chosen, sends, unqueued, timed, forwarded, tells, acted, arrived, reached};
 ghost use Rattle.bench.specs.Playing.{Plays};
 ghost use Rattle.bench.specs.Idle.{Rests, Unused, Laid, Idles, bare};
 ghost use Rattle.bench.specs.Telling.{Notes, areas, seen, Follows, Played};
@@ -22,14 +22,31 @@ use crate::state;
 use bits::Found;
 use codes::Code;
 use device::Action;
+use device::Side;
 use plan::Plan;
 
-// A word told to a host, where there is room for it. It counts all the same, so that a caller who
-// reads no words lends no room.
-fn tell(told: &mut [u32], count: usize, word: u32) -> usize
-    requires { ⌜ count < 4096 ⌝ }
-    ensures { λ r. ⌜ Notes (word ∷ []) (now (told .entry)) count (now (told .exit)) r × (r ≡ count + 1) ⌝ }
+// What a host is told of.
+const OF_INTERRUPT: u32 = 1;
+
+const OF_ACKNOWLEDGE: u32 = 2;
+
+const OF_TIMEOUT: u32 = 3;
+
+// A word told to the host of device d.
+fn told_word(kind: u32, d: usize, k: u32) -> u32
+    requires { ⌜ (kind < 4) × (d < 32) × (k < 256) ⌝ }
+    ensures { λ r. ⌜ r ≡ toldWord kind d k ⌝ }
 {
+    65536 * kind + 256 * d as u32 + k
+}
+
+// It is told, where there is room for it. It counts all the same, so that a caller who reads no words
+// lends no room.
+fn tell(told: &mut [u32], count: usize, kind: u32, d: usize, k: u32) -> usize
+    requires { ⌜ (count < 4096) × (kind < 4) × (d < 32) × (k < 256) ⌝ }
+    ensures { λ r. ⌜ Notes (toldWord kind d k ∷ []) (now (told .entry)) count (now (told .exit)) r × (r ≡ count + 1) ⌝ }
+{
+    let word = told_word(kind, d, k);
     if count < told.len() {
         told[count] = word;
     }
@@ -65,7 +82,7 @@ fn tick_one(
     if router {
         return count;
     }
-    tell(told, count, 196608 + 256 * d as u32 + k)
+    tell(told, count, OF_TIMEOUT, d, k)
 }
 
 // The timers of device d, in the order of their identifiers. One whose bit is clear does not run, and
@@ -107,6 +124,11 @@ fn choice(q: usize, old: &[u32]) -> Found
     bits::first(old[at] | old[at + 1], old[at + 2])
 }
 
+// The byte of interrupt 0, and how far behind an interrupt's byte the acknowledge's is.
+const INTERRUPTS: u32 = codes::INTERRUPTS as u32;
+
+const APART: u32 = codes::ACKNOWLEDGES as u32 - INTERRUPTS;
+
 // What port q sends, chosen from the old state; in the next one it leaves its set, and next moves.
 fn post_one(q: usize, old: &[u32], next: &mut [u32]) -> u32
     requires { ⌜ (length (now old) ≡ 2080) × (length (now next) ≡ 2080) × (q < 256) ⌝ }
@@ -120,8 +142,9 @@ fn post_one(q: usize, old: &[u32], next: &mut [u32]) -> u32
     next[at] = bits::leave(next[at], k);
     next[at + 1] = bits::leave(next[at + 1], k);
     next[at + 2] = (k + 1) % 32;
-    // An interrupt's byte is 32 below: of two kinds as likely a branch would guess wrong half the time.
-    160 + k - 32 * bits::get(old[at], k)
+    // The kind is counted: of two kinds as likely a branch would guess wrong half the time.
+    let kind = 1 - bits::get(old[at], k);
+    INTERRUPTS + APART * kind + k
 }
 
 // The number of a device's ports, widened. That it fits is known of a parameter, and not of an element
@@ -182,8 +205,8 @@ fn inform(code: Code, d: usize, told: &mut [u32], count: usize) -> usize
     ensures { λ r. ⌜ Notes (tells d code) (now (told .entry)) count (now (told .exit)) r × (r ≤ count + 1) ⌝ }
 {
     match code {
-        Code::Interrupt(k) => tell(told, count, 65536 + 256 * d as u32 + k as u32),
-        Code::Acknowledge(k) => tell(told, count, 131072 + 256 * d as u32 + k as u32),
+        Code::Interrupt(k) => tell(told, count, OF_INTERRUPT, d, k as u32),
+        Code::Acknowledge(k) => tell(told, count, OF_ACKNOWLEDGE, d, k as u32),
         Code::Time(_) => count,
         Code::Reserved => count,
     }
@@ -242,8 +265,12 @@ fn arrive_one(
 {
     let home = DEVICE * (q / 8);
     let running = state[PORTS + PORT * q + RUNNING] == 1;
-    let own = widened(permissions[q]);
-    let reaction = device::react(router, running, own, state[home], byte);
+    let side = Side {
+        router: router,
+        running: running,
+        permissions: widened(permissions[q]),
+    };
+    let reaction = device::react(side, state[home], byte);
     state[home] = reaction.register;
     let action = reaction.action;
     act(action, load, permissions, q, state, told, count)

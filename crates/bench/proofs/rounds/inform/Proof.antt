@@ -11,38 +11,14 @@ enum-known-code c = search needs
 cast-tell : tie.Need-cast-tell
 cast-tell c = search needs
 
-mul-tell : tie.Need-mul-tell
-mul-tell c = search needs
-
-add-tell : tie.Need-add-tell
-add-tell c = search needs
-
-cast-tell-2 : tie.Need-cast-tell-2
-cast-tell-2 c = search needs
-
-add-tell-2 : tie.Need-add-tell-2
-add-tell-2 c = search needs
-
 tell-requires : tie.Need-tell-requires
 tell-requires c κs = search needs
 
 enum-known-code-2 : tie.Need-enum-known-code-2
 enum-known-code-2 c = search needs
 
-cast-tell-3 : tie.Need-cast-tell-3
-cast-tell-3 c = search needs
-
-mul-tell-2 : tie.Need-mul-tell-2
-mul-tell-2 c = search needs
-
-add-tell-3 : tie.Need-add-tell-3
-add-tell-3 c = search needs
-
-cast-tell-4 : tie.Need-cast-tell-4
-cast-tell-4 c = search needs
-
-add-tell-4 : tie.Need-add-tell-4
-add-tell-4 c = search needs
+cast-tell-2 : tie.Need-cast-tell-2
+cast-tell-2 c = search needs
 
 tell-requires-2 : tie.Need-tell-requires-2
 tell-requires-2 c κs = search needs
@@ -81,17 +57,9 @@ inform-spec =
     (tie.spec
     enum-known-code
     cast-tell
-    mul-tell
-    add-tell
-    cast-tell-2
-    add-tell-2
     tell-requires
     enum-known-code-2
-    cast-tell-3
-    mul-tell-2
-    add-tell-3
-    cast-tell-4
-    add-tell-4
+    cast-tell-2
     tell-requires-2
     enum-told
     enum-told-2

@@ -7,6 +7,7 @@ use lib.ListN.{length-set}
 use Rattle.bits.specs.Set.{bit}
 use Rattle.bits.proofs.Sets.{bit-two}
 use Rattle.bits.specs.declared.Found.the-variants.{At, Nowhere}
+use Rattle.codes.specs.Codes.{byteOf}
 use Rattle.bench.specs.State.{State, word, put}
 use Rattle.bench.specs.Round.{chosen, sends, unqueued}
 use Rattle.bench.proofs.Stepped.{chosen-place, post-nothing, post-same, post-interrupt, post-acknowledge, post-leaves}
@@ -25,8 +26,8 @@ module _ (old : State) (q : ℕ) (r : Found) (e : r ≡ chosen old q) where
 small : (x k : ℕ) {b : ℕ} → b ≡ bit x k → b < 2
 small x k e = omega (arith, e, bit-two x k)
 
--- an interrupt's byte is 32 below an acknowledge's
-byte-sent : (old : State) (q : ℕ) {k b : ℕ} → chosen old q ≡ At k → b ≡ bit (word old (1056 + 4 * q)) k → 160 + k - 32 * b ≡ sends old q
+-- an interrupt's bit is 1, and its kind 0
+byte-sent : (old : State) (q : ℕ) {k b : ℕ} → chosen old q ≡ At k → b ≡ bit (word old (1056 + 4 * q)) k → byteOf (1 - b) k ≡ sends old q
 byte-sent old q {k} e f =
     let two = bit-two (word old (1056 + 4 * q)) k in
     elim (ℕ-discrete (bit (word old (1056 + 4 * q)) k) 1) [
@@ -103,9 +104,6 @@ mul-next-3 c = search needs
 slice-write-next-3 : tie.Need-slice-write-next-3
 slice-write-next-3 c = simp length-set (omega arith)
 
-add-result : tie.Need-add-result
-add-result c = omega (arith, chosen-place _ _ (found (c .before .before .before .before .before)))
-
 mul-get : tie.Need-mul-get
 mul-get c = search needs
 
@@ -115,11 +113,17 @@ shared-slice-read-get c = search needs
 get-requires : tie.Need-get-requires
 get-requires c κs = search needs
 
-mul-result : tie.Need-mul-result
-mul-result c = omega (arith, small _ _ (c .get .ensures))
+sub-kind : tie.Need-sub-kind
+sub-kind c = omega (arith, small _ _ (c .get .ensures))
 
-sub-result : tie.Need-sub-result
-sub-result c = omega (arith, small _ _ (c .get .ensures))
+mul-result : tie.Need-mul-result
+mul-result c = search needs
+
+add-result : tie.Need-add-result
+add-result c = search needs
+
+add-result-2 : tie.Need-add-result-2
+add-result-2 c = omega (arith, chosen-place _ _ (found (c .before .before .before .before .before .before .before)))
 
 same-length : tie.Need-same-length
 same-length c = simp length-set
@@ -159,11 +163,12 @@ post-one-spec =
     add-next-3
     mul-next-3
     slice-write-next-3
-    add-result
     mul-get
     shared-slice-read-get
     get-requires
+    sub-kind
     mul-result
-    sub-result
+    add-result
+    add-result-2
     same-length
     returns-2)

@@ -2,14 +2,20 @@ use mathlib.Core.Path.{_≡_, refl, sym, ap, _∙_}
 use mathlib.Core.Logic.{⊎-elim}
 use lib.ListN.{length, set, length-set}
 use lib.Seq.{set-out}
+use Rattle.bench.specs.Round.{toldWord}
 use Rattle.bench.proofs.Tellings.{note-one}
 use borrow.Author.Needs.{needs}
 use Rattle.bench.proofs.rounds.tell.Statement.{statement}
 use Rattle.bench.proofs.rounds.tell.Tie as tie
 
 -- where there is no room, storing is nothing
-stored : (c : tie.Joined1) → c .if1 .told ≡ set (c .before .args .told .now) (c .before .args .count) (c .before .args .word)
-stored c = ⊎-elim (λ w. w .1) (λ w. w .1 ∙ sym (set-out _ _ _ (w .0 .left))) (c .if1 .came)
+stored : (c : tie.Joined1) → let a = c .before .before .before .args in c .if1 .told ≡ set (a .told .now) (a .count) (toldWord (a .kind) (a .d) (a .k))
+stored c =
+    let a = c .before .before .before .args in
+    ⊎-elim (λ w. w .1) (λ w. w .1 ∙ sym (set-out _ _ _ (w .0 .left))) (c .if1 .came) ∙ ap (set (a .told .now) (a .count)) (c .before .told-word .ensures)
+
+told-word-requires : tie.Need-told-word-requires
+told-word-requires c κs = search needs
 
 mul-told : tie.Need-mul-told
 mul-told c = search needs
@@ -21,10 +27,10 @@ add-result : tie.Need-add-result
 add-result c = search needs
 
 same-length : tie.Need-same-length
-same-length c = ap length (stored c) ∙ length-set (c .before .args .told .now) _ _
+same-length c = ap length (stored c) ∙ length-set (c .before .before .before .args .told .now) _ _
 
 returns : tie.Need-returns
 returns c = (note-one (stored c) refl, refl)
 
 pub tell-spec : {M : Type 1} → statement M
-tell-spec = tie.close (tie.spec mul-told slice-write-told add-result same-length returns)
+tell-spec = tie.close (tie.spec told-word-requires mul-told slice-write-told add-result same-length returns)

@@ -79,18 +79,6 @@ returns-3 c =
     let a = c .before .before .before .before .before .before .before .before .args in
     (silent (λ told. tick-ends (a .router) (a .d) (a .k) (a .state .now) told (c .before .leave .result) (c .before .before .before .if2 .left) (c .before .leave .ensures) (c .if3 .taken)), omega arith)
 
-cast-tell : tie.Need-cast-tell
-cast-tell c = search needs
-
-mul-tell : tie.Need-mul-tell
-mul-tell c = search needs
-
-add-tell : tie.Need-add-tell
-add-tell c = search needs
-
-add-tell-2 : tie.Need-add-tell-2
-add-tell-2 c = search needs
-
 tell-requires : tie.Need-tell-requires
 tell-requires c κs = search needs
 
@@ -131,10 +119,6 @@ tick-one-spec =
     slice-write-state-3
     same-length-2
     returns-3
-    cast-tell
-    mul-tell
-    add-tell
-    add-tell-2
     tell-requires
     same-length-3
     same-length-4
