@@ -19,7 +19,7 @@ use Rattle.reach.proofs.Unique.{reach-unique}
 use Rattle.report.specs.Report.{Areas as Texts}
 use Rattle.report.specs.Steps.{lent}
 use Rattle.report.proofs.Unique.{report-unique}
-use Rattle.door.specs.Numbers.{kindOf, valueOf, codeOf, actionOf, yes, planIn}
+use Rattle.door.specs.Numbers.{kindOf, valueOf, codeOf, actionOf, sideOf, planIn}
 use Rattle.door.specs.Own.{own, SettlesOwn, ReportsOwn}
 
 -- two numbers that a definition gives
@@ -41,7 +41,7 @@ bench-for-header-code-write-unique kind value r s v w p q =
 
 module _ (role running permissions register byte : ℕ) where
   abbrev reaction : Reaction
-  reaction = reacts (yes role) (yes running) permissions register byte
+  reaction = reacts (sideOf role running permissions) register byte
 
   pub bench-for-header-react-unique : Two (actionOf (reaction .action)) (reaction .register)
   bench-for-header-react-unique = two (actionOf (reaction .action)) (reaction .register)

@@ -7,6 +7,7 @@ use Rattle.codes.specs.declared.Code.{Code}
 use Rattle.codes.specs.declared.Code.the-variants.{Time, Interrupt, Acknowledge, Reserved}
 use Rattle.device.specs.declared.Action.{Action}
 use Rattle.device.specs.declared.Action.the-variants.{Named, LinkError, Ignored, Forwarded, Told}
+use Rattle.device.specs.declared.Side.{Side}
 use Rattle.plan.specs.Reading.{reads}
 use Rattle.plan.specs.declared.Plan.{Plan}
 
@@ -39,6 +40,10 @@ actionOf (Told code) = 4
 -- 0 is no, and any other number yes
 abbrev pub yes : ℕ → Bool
 yes n = not (eqb n 0)
+
+-- the port's side of a reaction
+abbrev pub sideOf : ℕ → ℕ → ℕ → Side
+sideOf role running permissions = record { router = yes role; running = yes running; permissions = permissions }
 
 -- the plan that the file holds; all zeros where it is not accepted
 abbrev pub planIn : List ℕ → Plan

@@ -12,11 +12,12 @@ ghost use Rattle.bench.specs.Calls.{started, startAsks, called, callAsks, unlin
 ghost use Rattle.bench.specs.Playing.{Plays};
 ghost use Rattle.bench.specs.Telling.{areas};
 ghost use Rattle.reach.specs.Reach.{Reaches};
-ghost use Rattle.door.specs.Numbers.{kindOf, valueOf, codeOf, actionOf, yes, planIn};
+ghost use Rattle.door.specs.Numbers.{kindOf, valueOf, codeOf, actionOf, sideOf, planIn};
 ghost use Rattle.door.specs.Own.{SettlesOwn, ReportsOwn};
 use codes::Code;
 use codes::Written;
 use device::Action;
+use device::Side;
 use plan::Plan;
 
 // ---- numbers for cases
@@ -111,9 +112,14 @@ pub extern "C" fn bench_for_header_react(
     bits: &mut u32,
     byte: u8,
 ) -> u32
-    ensures { λ r. ⌜ (r ≡ actionOf (reacts (yes role) (yes running) permissions (now (bits .entry)) byte .action)) × (now (bits .exit) ≡ reacts (yes role) (yes running) permissions (now (bits .entry)) byte .register) ⌝ }
+    ensures { λ r. ⌜ (r ≡ actionOf (reacts (sideOf role running permissions) (now (bits .entry)) byte .action)) × (now (bits .exit) ≡ reacts (sideOf role running permissions) (now (bits .entry)) byte .register) ⌝ }
 {
-    let reaction = device::react(role != 0, running != 0, permissions, *bits, byte);
+    let side = Side {
+        router: role != 0,
+        running: running != 0,
+        permissions: permissions,
+    };
+    let reaction = device::react(side, *bits, byte);
     *bits = reaction.register;
     let action = reaction.action;
     action_of(action)
