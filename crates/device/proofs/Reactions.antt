@@ -107,8 +107,7 @@ module _ (side : Side) (register : ℕ) where
       (λ o a. record { accepts = o; next = refl; same = carries (side .router) code of a })
 
   ruled-twice : (kind k : ℕ) (code of : Code) → kind < 2 → k < 32 → Accepted (ruled side register kind k code .action) of
-      → ruled side (ruled side register kind k code .register) kind k code
-      ≡ kept (ruled side register kind k code .register) (Ignored of)
+      → ruled side (ruled side register kind k code .register) kind k code ≡ kept (ruled side register kind k code .register) (Ignored of)
   ruled-twice kind k code of h g a =
       let w = saw kind k code of a in
       rw (w .next)
@@ -116,14 +115,12 @@ module _ (side : Side) (register : ℕ) where
       ∙ ap (λ (c : Code). kept (marked kind register k) (Ignored c)) (w .same))
 
   pub accepted-twice : (byte : ℕ) (code : Code) → Accepted (reacts side register byte .action) code
-      → reacts side (reacts side register byte .register) byte
-      ≡ kept (reacts side register byte .register) (Ignored code)
+      → reacts side (reacts side register byte .register) byte ≡ kept (reacts side register byte .register) (Ignored code)
   unfolding reacts reactsTo rank
   accepted-twice byte code a = by-code (reads byte) (stands byte) a
     where
       by-code : (c : Code) → Stands byte c → Accepted (reactsTo side register c .action) code
-          → reactsTo side (reactsTo side register c .register) c
-          ≡ kept (reactsTo side register c .register) (Ignored code)
+          → reactsTo side (reactsTo side register c .register) c ≡ kept (reactsTo side register c .register) (Ignored code)
       by-code (Time v) s a = absurd (not-accepted (Named (Time v)) code (omega arith) a)
       by-code Reserved s a = absurd (not-accepted (Named Reserved) code (omega arith) a)
       by-code (Interrupt k) (interrupt l e) a = ruled-twice 0 k (Interrupt k) code (omega arith) (omega arith) a

@@ -20,6 +20,7 @@ marked kind register k = cond (eqb kind 0) (join register k) (leave register k)
 abbrev pub kept : ℕ → Action → Reaction
 kept register action = record { register = register; action = action }
 
+-- a port's side: whether its device is a router, whether it runs, its permissions
 module _ (side : Side) (register : ℕ) where
   -- accepted: the bit changes, a router forwards, a node tells its host
   abbrev pub accepted : ℕ → ℕ → Code → Reaction
