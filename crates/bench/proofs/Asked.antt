@@ -8,7 +8,7 @@ use lib.ListN.{length, getD, drop}
 use Rattle.answers.specs.Ordered.{Condition, Ordered}
 use Rattle.answers.proofs.Outcomes.{Holds, holds, Past, passed, stopped}
 use Rattle.plan.specs.declared.Plan.{Plan}
-use Rattle.plan.proofs.Round.{held-devices, held-few}
+use Rattle.plan.proofs.BothWays.{held-devices, held-few}
 use Rattle.bench.specs.State.{State}
 use Rattle.bench.specs.Network.{role, peer}
 use Rattle.bench.specs.Calls.{owns, callAsks, linkAsks, resetAsks}

@@ -12,7 +12,7 @@ use Rattle.bits.specs.Set.{bit}
 use Rattle.plan.specs.Fields.{nobody}
 use Rattle.plan.specs.Reading.{Held}
 use Rattle.plan.specs.declared.Plan.{Plan}
-use Rattle.plan.proofs.Round.{held-few}
+use Rattle.plan.proofs.BothWays.{held-few}
 use Rattle.bench.specs.State.{State, word, registerAt, timerAt, timer}
 use Rattle.bench.specs.Network.{devices, peer}
 use Rattle.bench.specs.Sound.{Sound}

@@ -13,11 +13,11 @@ use Rattle.plan.specs.Block.{byte}
 use Rattle.plan.specs.Fields.{nobody, loadsFit, portsFit, joins}
 use Rattle.plan.specs.Reading.{Held}
 use Rattle.plan.specs.declared.Plan.{Plan}
-use Rattle.plan.specs.Steps.Memory.{at, deviceRight, rowRight}
+use Rattle.plan.specs.Memory.{at, deviceRight, rowRight}
 use Rattle.plan.proofs.Entries.{no-port}
 use Rattle.plan.proofs.Rows.{entryOf, right-ports, right-absent}
 use Rattle.plan.proofs.There.{Right, right-says}
-use Rattle.plan.proofs.Round.{held-right, held-shaped, held-devices}
+use Rattle.plan.proofs.BothWays.{held-right, held-shaped, held-devices}
 use Rattle.bench.specs.Network.{devices, role, exists, peer, loadOf}
 
 -- the far end of a connected port: it exists, its own far end is the port, and it is another port

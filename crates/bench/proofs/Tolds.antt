@@ -21,9 +21,9 @@ use Rattle.device.specs.declared.Side.{Side}
 use Rattle.device.proofs.Rule.{ruled-cases}
 use Rattle.plan.specs.Fields.{portsFit, nobody}
 use Rattle.plan.specs.Reading.{Held}
-use Rattle.plan.specs.Steps.Memory.{portRight, deviceRight, rowRight}
+use Rattle.plan.specs.Memory.{portRight, deviceRight, rowRight}
 use Rattle.plan.specs.declared.Plan.{Plan}
-use Rattle.plan.proofs.Round.{held-right, held-devices}
+use Rattle.plan.proofs.BothWays.{held-right, held-devices}
 use Rattle.plan.proofs.There.{right-says}
 use Rattle.bench.specs.State.{State, timer}
 use Rattle.bench.specs.Network.{devices, role, router, peer}

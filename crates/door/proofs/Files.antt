@@ -8,7 +8,7 @@ use borrow.Author.Tests.{ne-eqb}
 use Rattle.answers.specs.Ordered.{Condition, ask, Ordered}
 use Rattle.plan.specs.Refusals.{verdict}
 use Rattle.plan.specs.Reading.{planOf, Held, reads}
-use Rattle.plan.proofs.Round.{zeros-not-held, read-held}
+use Rattle.plan.proofs.BothWays.{zeros-not-held, read-held}
 use Rattle.door.specs.Numbers.{planIn}
 
 module _ (file : List ℕ) where

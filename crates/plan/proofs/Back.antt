@@ -14,8 +14,8 @@ use Rattle.plan.specs.Block.{block, byte}
 use Rattle.plan.specs.Fields.{entry, nobody, peerIn}
 use Rattle.plan.specs.Refusals.{deviceBlock, countIn, peerOf, verdict, accepts}
 use Rattle.plan.specs.Reading.{column, planOf}
-use Rattle.plan.specs.Steps.Memory.{at, right}
-use Rattle.plan.specs.Steps.File.{fileOf}
+use Rattle.plan.specs.Memory.{at, right}
+use Rattle.plan.specs.File.{fileOf}
 use Rattle.plan.proofs.Shape.{Numbers, Shaped}
 use Rattle.plan.proofs.Good.{Good, good}
 use Rattle.plan.proofs.Runs.{block-bytes}

@@ -11,8 +11,8 @@ use borrow.Author.Tests.{ltb-true, lt-ltb, le-ltb, ne-eqb}
 use Rattle.areas.proofs.Tests.{or-cases, or-left, or-right}
 use Rattle.plan.specs.Block.{byte}
 use Rattle.plan.specs.Fields.{portsIn, entry, unconnected, connected, entryFits, nobody, peerIn}
-use Rattle.plan.specs.Steps.Memory.{portRight}
-use Rattle.plan.specs.Steps.File.{entryBytes}
+use Rattle.plan.specs.Memory.{portRight}
+use Rattle.plan.specs.File.{entryBytes}
 use Rattle.areas.proofs.Facts.{facts}
 
 -- port p of a device with so many ports, of n devices: the four bytes e of its entry, its peer and its permissions

@@ -1,4 +1,5 @@
 pub mod Back
+pub mod BothWays
 pub mod Entries
 pub mod Firsts
 pub mod Good
@@ -6,7 +7,6 @@ pub mod Joined
 pub mod Match
 pub mod Owned
 pub mod Peers
-pub mod Round
 pub mod Rows
 pub mod Runs
 pub mod Sealed

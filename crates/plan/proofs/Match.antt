@@ -16,8 +16,8 @@ use Rattle.plan.specs.Fields.{roleIn, portsIn, sourceIn, handlerIn, entr
 use Rattle.plan.specs.Refusals.{deviceBlock, countIn, portsOf, peerOf}
 use Rattle.plan.specs.Reading.{column, planOf}
 use Rattle.plan.specs.declared.Plan.{Plan}
-use Rattle.plan.specs.Steps.Memory.{at, peerAt, rowRight, right}
-use Rattle.plan.specs.Steps.File.{fileOf}
+use Rattle.plan.specs.Memory.{at, peerAt, rowRight, right}
+use Rattle.plan.specs.File.{fileOf}
 use Rattle.areas.proofs.Facts.{facts}
 use Rattle.plan.proofs.Shape.{Shaped}
 use Rattle.plan.proofs.Good.{Good, GoodDevice, devices-fit}

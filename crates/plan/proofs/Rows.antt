@@ -13,8 +13,8 @@ use Rattle.areas.proofs.Tables.{length-joined, getD-joined, same-joined}
 use Rattle.plan.specs.Block.{byte, two, four}
 use Rattle.plan.specs.Fields.{devicesIn, routerLoadIn, nodeLoadIn, devicesFit, loadsFit, roleIn, portsIn, sourceIn, handlerIn, entry, nobody, peerIn}
 use Rattle.plan.specs.declared.Core.{Core}
-use Rattle.plan.specs.Steps.Memory.{at, peerAt, deviceRight, rowRight}
-use Rattle.plan.specs.Steps.File.{twoBytes, fourBytes, entryBytes, headerBytes, numberBytes, deviceBytes, sealed}
+use Rattle.plan.specs.Memory.{at, peerAt, deviceRight, rowRight}
+use Rattle.plan.specs.File.{twoBytes, fourBytes, entryBytes, headerBytes, numberBytes, deviceBytes, sealed}
 use Rattle.areas.proofs.Facts.{facts}
 use Rattle.plan.proofs.Good.{GoodHeader, GoodDevice}
 use Rattle.plan.proofs.Sealed.{sealed-byte, sealed-checked, sealed-zeros, is-sealed}

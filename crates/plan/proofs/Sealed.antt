@@ -10,7 +10,7 @@ use lib.ListN.{length, take, replicate, length-append, length-replicate, List·g
 use lib.Seq.{ext-getD, getD-append-add, getD-take}
 use Rattle.plan.specs.Block.{byte, two, weighted, check}
 use Rattle.plan.specs.Fields.{checked, zerosFrom}
-use Rattle.plan.specs.Steps.File.{twoBytes, padded, sealed}
+use Rattle.plan.specs.File.{twoBytes, padded, sealed}
 use Rattle.areas.proofs.Facts.{facts}
 
 -- ---- the check

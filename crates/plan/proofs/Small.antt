@@ -8,8 +8,8 @@ use lib.ListN.{length, replicate}
 use Rattle.areas.specs.Table.{joined}
 use Rattle.plan.specs.Block.{byte, check}
 use Rattle.plan.specs.declared.Core.{Core}
-use Rattle.plan.specs.Steps.Memory.{at, rowRight}
-use Rattle.plan.specs.Steps.File.{twoBytes, headerBytes, numberBytes, deviceBytes, padded, sealed}
+use Rattle.plan.specs.Memory.{at, rowRight}
+use Rattle.plan.specs.File.{twoBytes, headerBytes, numberBytes, deviceBytes, padded, sealed}
 use Rattle.plan.proofs.Sealed.{check-small}
 use Rattle.plan.proofs.Rows.{numbers, entryOf, right-ports}
 use Rattle.plan.proofs.Entries.{Port, leads, nowhere, port-bytes}

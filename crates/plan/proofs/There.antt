@@ -15,8 +15,8 @@ use Rattle.plan.specs.Fields.{devicesFit, loadsFit, joins}
 use Rattle.plan.specs.Refusals.{deviceBlock}
 use Rattle.plan.specs.Reading.{Accepted}
 use Rattle.plan.specs.declared.Plan.{Plan}
-use Rattle.plan.specs.Steps.Memory.{at, peerAt, rowRight, right}
-use Rattle.plan.specs.Steps.File.{headerBytes, deviceBytes, sealed, fileOf}
+use Rattle.plan.specs.Memory.{at, peerAt, rowRight, right}
+use Rattle.plan.specs.File.{headerBytes, deviceBytes, sealed, fileOf}
 use Rattle.areas.proofs.Facts.{facts}
 use Rattle.plan.proofs.Shape.{Shaped}
 use Rattle.plan.proofs.Good.{Good, GoodDevice, devices-fit, accepted}

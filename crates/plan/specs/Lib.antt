@@ -3,4 +3,5 @@ pub mod Fields
 pub mod Refusals
 pub mod Reading
 pub mod Writing
-pub mod Steps
+pub mod Memory
+pub mod File

@@ -6,7 +6,7 @@ ghost use lib.ListN.{getD};
 ghost use Rattle.areas.specs.Table.{every};
 ghost use Rattle.answers.specs.Decides.{Decides};
 ghost use Rattle.plan.specs.Reading.{Held};
-ghost use Rattle.plan.specs.Steps.Memory.{portRight, deviceRight, rowRight};
+ghost use Rattle.plan.specs.Memory.{portRight, deviceRight, rowRight};
 use crate::Core;
 use crate::Plan;
 use crate::fields;

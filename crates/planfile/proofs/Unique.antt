@@ -8,7 +8,7 @@ use Rattle.plan.specs.Reading.{reads}
 use Rattle.plan.specs.Writing.{writeAsks, Writes}
 use Rattle.plan.specs.declared.Plan.{Plan}
 use Rattle.plan.specs.declared.Read.{Read}
-use Rattle.plan.proofs.Round.{one-file}
+use Rattle.plan.proofs.BothWays.{one-file}
 
 pub read-unique : (file : List ℕ) (r s : Read) → r ≡ reads file → s ≡ reads file → r ≡ s
 read-unique file r s p q = p ∙ sym q

@@ -15,8 +15,8 @@ use Rattle.areas.proofs.Puts.{put-whole, put-put, joined as puts-joined}
 use Rattle.areas.proofs.Tables.{length-joined}
 use Rattle.plan.specs.Block.{weighted, check}
 use Rattle.plan.specs.Fields.{nobody}
-use Rattle.plan.specs.Steps.File.{twoBytes, entryBytes, numberBytes, headerBytes, deviceBytes, padded, sealed, fileOf}
-use Rattle.plan.specs.Steps.Memory.{at, peerAt}
+use Rattle.plan.specs.File.{twoBytes, entryBytes, numberBytes, headerBytes, deviceBytes, padded, sealed, fileOf}
+use Rattle.plan.specs.Memory.{at, peerAt}
 use Rattle.plan.specs.declared.Core.{Core}
 
 -- ---- zeros

@@ -12,7 +12,7 @@ use Rattle.areas.proofs.Puts.{joined, same-size, next-place}
 use Rattle.bits.specs.Set.{bit}
 use Rattle.plan.specs.Reading.{Held}
 use Rattle.plan.specs.declared.Plan.{Plan}
-use Rattle.plan.proofs.Round.{held-devices}
+use Rattle.plan.proofs.BothWays.{held-devices}
 use Rattle.text.specs.Text.{ascii}
 use Rattle.text.proofs.Decimal.{decimal-short}
 use Rattle.bench.specs.State.{State}

@@ -13,7 +13,7 @@ use Rattle.plan.specs.Refusals.{verdict}
 use Rattle.plan.specs.Reading.{planOf, Held, reads}
 use Rattle.plan.specs.declared.Plan.{Plan}
 use Rattle.plan.specs.declared.Read.{Read}
-use Rattle.plan.proofs.Round.{read-held, held-devices}
+use Rattle.plan.proofs.BothWays.{read-held, held-devices}
 use Rattle.text.specs.Text.{ascii}
 use Rattle.text.proofs.Decimal.{decimal-short}
 use Rattle.bench.specs.Network.{devices}

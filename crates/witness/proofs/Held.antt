@@ -13,9 +13,9 @@ use Rattle.areas.specs.Table.{every}
 use Rattle.areas.proofs.Tests.{and-left, and-right, every-at}
 use Rattle.plan.specs.Fields.{devicesFit, loadsFit, portsFit, masksFit, joins}
 use Rattle.plan.specs.Reading.{Held}
-use Rattle.plan.specs.Steps.Memory.{at, portRight, deviceRight, rowRight, right}
+use Rattle.plan.specs.Memory.{at, portRight, deviceRight, rowRight, right}
 use Rattle.plan.proofs.Shape.{Numbers, Shaped}
-use Rattle.plan.proofs.Round.{right-held}
+use Rattle.plan.proofs.BothWays.{right-held}
 use Rattle.witness.specs.Line.{line}
 
 -- so many numbers, each below a bound

@@ -1,7 +1,7 @@
 use native.Mathlib.Omega.{arith}
 use Rattle.areas.proofs.Puts.{same-size, next-place}
 use Rattle.plan.specs.Reading.{Held}
-use Rattle.plan.proofs.Round.{held-devices}
+use Rattle.plan.proofs.BothWays.{held-devices}
 use Rattle.report.proofs.Texts.{heading-short, bad-short, plan-held, was-found, network-text, refused-text}
 use borrow.Author.Needs.{needs}
 use Rattle.report.proofs.put_text.Statement.{statement}

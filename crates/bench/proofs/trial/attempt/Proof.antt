@@ -1,6 +1,6 @@
 use mathlib.Core.Path.{refl}
 use native.Mathlib.Omega.{arith}
-use Rattle.plan.proofs.Round.{held-devices, held-few}
+use Rattle.plan.proofs.BothWays.{held-devices, held-few}
 use Rattle.bench.proofs.Started.{is-started}
 use Rattle.bench.proofs.Tried.{is-small, is-refused, is-sound, is-tried}
 use borrow.Author.Needs.{needs}

@@ -10,13 +10,13 @@ use borrow.Author.Tests.{leb-true, not-true, not-false}
 use Rattle.areas.specs.Table.{every}
 use Rattle.areas.proofs.Tests.{and-right}
 use Rattle.plan.specs.Fields.{devicesFit, loadsFit, joins}
-use Rattle.plan.specs.Steps.Memory.{at, peerAt, rowRight, right}
+use Rattle.plan.specs.Memory.{at, peerAt, rowRight, right}
 use Rattle.answers.specs.Decides.{Decides}
 use Rattle.plan.specs.Reading.{Held}
 use Rattle.plan.specs.declared.Plan.{Plan}
 use Rattle.plan.proofs.Joined.{block, block-every}
 use Rattle.plan.proofs.Owned.{owned}
-use Rattle.plan.proofs.Round.{right-held, held-right}
+use Rattle.plan.proofs.BothWays.{right-held, held-right}
 use Rattle.plan.proofs.Shape.{Shaped}
 use Rattle.plan.proofs.held.is_held.Statement.{statement}
 use Rattle.plan.proofs.held.is_held.Tie as tie

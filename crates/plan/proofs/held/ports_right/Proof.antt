@@ -8,7 +8,7 @@ use lib.ListN.{getD}
 use borrow.Author.Count.{below-none, below-more}
 use borrow.Author.Tests.{not-true, not-false}
 use Rattle.areas.proofs.Tests.{every-all, every-not}
-use Rattle.plan.specs.Steps.Memory.{portRight}
+use Rattle.plan.specs.Memory.{portRight}
 use borrow.Author.Needs.{needs}
 use Rattle.plan.proofs.held.ports_right.Statement.{statement}
 use Rattle.plan.proofs.held.ports_right.Tie as tie

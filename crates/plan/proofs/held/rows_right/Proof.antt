@@ -6,7 +6,7 @@ use native.Mathlib.Omega.{arith}
 use borrow.Author.Count.{below-none, below-more}
 use borrow.Author.Tests.{not-true, not-false}
 use Rattle.areas.proofs.Tests.{every-all, every-not}
-use Rattle.plan.specs.Steps.Memory.{rowRight}
+use Rattle.plan.specs.Memory.{rowRight}
 use borrow.Author.Needs.{needs}
 use Rattle.plan.proofs.held.rows_right.Statement.{statement}
 use Rattle.plan.proofs.held.rows_right.Tie as tie

@@ -1,6 +1,6 @@
 use borrow.Author.Tests.{eq-eqb, ne-eqb}
 use borrow.Author.Needs.{needs}
-use Rattle.plan.specs.Steps.File.{entryBytes}
+use Rattle.plan.specs.File.{entryBytes}
 use Rattle.planfile.proofs.writer.entry.Statement.{statement}
 use Rattle.planfile.proofs.writer.entry.Tie as tie
 

@@ -7,8 +7,8 @@ use borrow.Author.Needs.{needs}
 use Rattle.areas.specs.Put.{putAt, Puts}
 use Rattle.areas.specs.Table.{joined}
 use Rattle.areas.proofs.Puts.{length-put}
-use Rattle.plan.specs.Steps.File.{entryBytes}
-use Rattle.plan.specs.Steps.Memory.{at, peerAt}
+use Rattle.plan.specs.File.{entryBytes}
+use Rattle.plan.specs.Memory.{at, peerAt}
 use Rattle.planfile.specs.Peers.{Peers}
 use Rattle.planfile.proofs.Written.{length-entry, one-more, put-nothing}
 use Rattle.planfile.proofs.writer.put_entries.Statement.{statement}

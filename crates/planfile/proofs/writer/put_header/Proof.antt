@@ -1,6 +1,6 @@
 use native.Mathlib.Omega.{arith}
 use borrow.Author.Needs.{needs}
-use Rattle.plan.specs.Steps.File.{headerBytes}
+use Rattle.plan.specs.File.{headerBytes}
 use Rattle.planfile.proofs.Written.{three-put, sealed-after, length-clean}
 use Rattle.planfile.proofs.writer.put_header.Statement.{statement}
 use Rattle.planfile.proofs.writer.put_header.Tie as tie

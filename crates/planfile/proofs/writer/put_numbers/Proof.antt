@@ -1,6 +1,6 @@
 use native.Mathlib.Omega.{arith}
 use borrow.Author.Needs.{needs}
-use Rattle.plan.specs.Steps.File.{numberBytes}
+use Rattle.plan.specs.File.{numberBytes}
 use Rattle.planfile.proofs.Written.{three-put}
 use Rattle.planfile.proofs.writer.put_numbers.Statement.{statement}
 use Rattle.planfile.proofs.writer.put_numbers.Tie as tie

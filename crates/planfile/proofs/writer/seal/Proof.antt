@@ -1,7 +1,7 @@
 use mathlib.Core.Path.{ap, _∙_}
 use lib.ListN.{length}
 use borrow.Author.Needs.{needs}
-use Rattle.plan.specs.Steps.File.{twoBytes}
+use Rattle.plan.specs.File.{twoBytes}
 use Rattle.planfile.proofs.Written.{put-last}
 use Rattle.planfile.proofs.writer.seal.Statement.{statement}
 use Rattle.planfile.proofs.writer.seal.Tie as tie

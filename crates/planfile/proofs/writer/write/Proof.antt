@@ -4,8 +4,8 @@ use Prim.Native.Nat.{ℕ}
 use native.Mathlib.Omega.{arith}
 use borrow.Author.Needs.{needs}
 use borrow.Author.Tests.{not-true, not-false}
-use Rattle.plan.specs.Steps.File.{fileOf}
-use Rattle.plan.proofs.Round.{written-and-read, held-devices, held-peers}
+use Rattle.plan.specs.File.{fileOf}
+use Rattle.plan.proofs.BothWays.{written-and-read, held-devices, held-peers}
 use Rattle.planfile.specs.Peers.{Peers}
 use Rattle.planfile.proofs.Writes.{refused, misfit, done}
 use Rattle.planfile.proofs.writer.write.Statement.{statement}

@@ -7,7 +7,7 @@ use lib.ListN.{length}
 use Rattle.areas.proofs.Puts.{same-size}
 use Rattle.plan.specs.Reading.{Held}
 use Rattle.plan.specs.declared.Plan.{Plan}
-use Rattle.plan.proofs.Round.{held-devices}
+use Rattle.plan.proofs.BothWays.{held-devices}
 use Rattle.bench.specs.Trials.{Finds}
 use Rattle.report.specs.Steps.{PutsLines}
 use Rattle.report.proofs.Short.{line-short, place-passed, place-put, lines-none, lines-more, lines-room, lines-done}

@@ -1,4 +1,5 @@
--- What a plan looks like in memory that some accepted file holds, as one computed test.
+-- No rule: what a right plan looks like in memory, as one computed test. Nothing here has to be believed; `BothWays` proves that it is true
+-- exactly of the plans that some accepted file holds.
 use mathlib.Core.Bool.{Bool, cond, _&&_}
 use mathlib.Core.List.{List, []}
 use Prim.Native.Nat.{ℕ, _+_, _*_}

@@ -1,4 +1,5 @@
--- The file of a plan, byte by byte: what the writer writes.
+-- No rule: the file of a plan, byte by byte, as the writer writes it. Nothing here has to be believed; `BothWays` proves that it is the one
+-- accepted file of the plan.
 use mathlib.Core.Bool.{cond}
 use mathlib.Core.List.{List, [], _∷_, _++_}
 use Prim.Native.Nat.{ℕ, _+_, _-_, _*_, _/_, _%_}
@@ -9,7 +10,7 @@ use Rattle.plan.specs.Block.{check}
 use Rattle.plan.specs.Fields.{nobody}
 use Rattle.plan.specs.declared.Core.{Core}
 use Rattle.plan.specs.declared.Plan.{Plan}
-use Rattle.plan.specs.Steps.Memory.{at, peerAt}
+use Rattle.plan.specs.Memory.{at, peerAt}
 
 -- numbers of two and of four bytes, the low one first
 abbrev pub twoBytes : ℕ → List ℕ

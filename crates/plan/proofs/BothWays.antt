@@ -15,8 +15,8 @@ use Rattle.plan.specs.Fields.{portsFit, masksFit, nobody}
 use Rattle.plan.specs.Refusals.{Test, test, Verdict, accepts, first, tests, verdict}
 use Rattle.plan.specs.Reading.{planOf, Accepted, Held, zeros}
 use Rattle.plan.specs.declared.Plan.{Plan}
-use Rattle.plan.specs.Steps.Memory.{portRight, deviceRight, rowRight, right}
-use Rattle.plan.specs.Steps.File.{fileOf}
+use Rattle.plan.specs.Memory.{portRight, deviceRight, rowRight, right}
+use Rattle.plan.specs.File.{fileOf}
 use Rattle.plan.proofs.Firsts.{fails}
 use Rattle.plan.proofs.Shape.{Shaped}
 use Rattle.plan.proofs.Good.{devices-fit, zero-accepts}
