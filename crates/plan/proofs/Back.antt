@@ -7,10 +7,10 @@ use Prim.Native.Nat.{ℕ, zero, suc, _+_, _*_, _/_, _%_, _<_}
 use native.Mathlib.Decide.{decLt}
 use native.Mathlib.Omega.{arith}
 use lib.Dec.{eqb, ltb}
-use lib.ListN.{getD, List·getD-eq-default}
+use lib.ListN.{List·getD-eq-default}
 use Rattle.areas.specs.Table.{table}
 use Rattle.areas.proofs.Tables.{length-table, getD-table}
-use Rattle.plan.specs.Block.{block, byte}
+use Rattle.plan.specs.Block.{block}
 use Rattle.plan.specs.Fields.{entry, nobody, peerIn}
 use Rattle.plan.specs.Refusals.{deviceBlock, countIn, peerOf, verdict, accepts}
 use Rattle.plan.specs.Reading.{column, planOf}
@@ -19,7 +19,7 @@ use Rattle.plan.specs.File.{fileOf}
 use Rattle.plan.proofs.Shape.{Numbers, Shaped}
 use Rattle.plan.proofs.Good.{Good, good}
 use Rattle.plan.proofs.Runs.{block-bytes}
-use Rattle.plan.proofs.Rows.{two-small, four-small}
+use Rattle.plan.proofs.Numbers.{Bytes, number-small}
 use Rattle.plan.proofs.Match.{match-of, match-right, match-file}
 
 -- ---- tables of small numbers
@@ -49,25 +49,25 @@ numbers-column : (n : ℕ) (f : ℕ → ℕ) (k : ℕ) → 0 < k → ((i : ℕ) 
 unfolding column
 numbers-column n f k h l = numbers-table 32 _ k h (λ d. small-either (ltb d n) (f d) 0 (l d) h)
 
-small-peer : (s : List ℕ) → ((i : ℕ) → byte s i < 256) → (p : ℕ) → peerIn s p < 65536
+small-peer : (s : List ℕ) → Bytes s → (p : ℕ) → peerIn s p < 65536
 unfolding peerIn
 small-peer s h p =
     small-either (eqb (entry s p 0) 255) nobody (8 * entry s p 0 + entry s p 1) (omega arith) (omega (arith, h (12 + 4 * p + 0), h (12 + 4 * p + 1)))
 
 -- ---- the plan of a file of bytes
 
-module _ (file : List ℕ) (small : (i : ℕ) → getD file i 0 < 256) where
+module _ (file : List ℕ) (small : Bytes file) where
   pub shaped : Shaped (planOf file)
   unfolding planOf
   shaped =
       let head = block-bytes file 0 small in
-      let row : (d i : ℕ) → byte (deviceBlock file d) i < 256 = λ d. block-bytes file (1 + d) small in
+      let row : (d : ℕ) → Bytes (deviceBlock file d) = λ d. block-bytes file (1 + d) small in
       record {
-        loads = numbers-two _ _ 65536 (two-small (block file 0) 4 head) (two-small (block file 0) 2 head);
+        loads = numbers-two _ _ 65536 (number-small (block file 0) 4 2 head) (number-small (block file 0) 2 2 head);
         role = numbers-column _ _ 256 (omega arith) (λ d. row d 2);
         ports = numbers-column _ _ 256 (omega arith) (λ d. row d 3);
-        source = numbers-column _ _ 4294967296 (omega arith) (λ d. four-small (deviceBlock file d) 4 (row d));
-        handler = numbers-column _ _ 4294967296 (omega arith) (λ d. four-small (deviceBlock file d) 8 (row d));
+        source = numbers-column _ _ 4294967296 (omega arith) (λ d. number-small (deviceBlock file d) 4 4 (row d));
+        handler = numbers-column _ _ 4294967296 (omega arith) (λ d. number-small (deviceBlock file d) 8 4 (row d));
         permissions = numbers-table 256 _ 256 (omega arith) (λ q. small-either (ltb (q / 8) (countIn file)) _ 0 (row (q / 8) (12 + 4 * (q % 8) + 2)) (omega arith));
         rows = length-table 32 _;
         row = λ d h. rw (getD-table 32 (λ e. table 8 (λ p. cond (ltb e (countIn file)) (peerOf file e p) nobody)) d [] h)

@@ -12,6 +12,7 @@ use borrow.Author.Tests.{ltb-true, eqb-true, eq-eqb, ne-eqb}
 use Rattle.areas.proofs.Facts.{facts}
 use Rattle.areas.proofs.Tests.{and-left, and-right}
 use Rattle.plan.specs.Fields.{portsFit, masksFit, nobody}
+use Rattle.plan.specs.Header.{headerOf}
 use Rattle.plan.specs.Refusals.{Test, test, Verdict, accepts, first, tests, verdict}
 use Rattle.plan.specs.Reading.{planOf, Accepted, Held, zeros}
 use Rattle.plan.specs.declared.Plan.{Plan}
@@ -19,7 +20,7 @@ use Rattle.plan.specs.Memory.{portRight, deviceRight, rowRight, right}
 use Rattle.plan.specs.File.{fileOf}
 use Rattle.plan.proofs.Firsts.{fails}
 use Rattle.plan.proofs.Shape.{Shaped}
-use Rattle.plan.proofs.Good.{devices-fit, zero-accepts}
+use Rattle.plan.proofs.Good.{devices-fit, header-says, zero-accepts}
 pub use Rattle.plan.proofs.There.{length-file}
 use Rattle.plan.proofs.There.{right-says, right-good}
 use Rattle.plan.proofs.Back.{shaped, read-right, read-file}
@@ -67,7 +68,7 @@ module _ (plan : Plan) where
   written-and-read h = right-accepted (held-shaped h) (held-right h)
 
   pub held-devices : Held plan → (1 ≤ plan .core .devices) × (plan .core .devices ≤ 32)
-  held-devices h = devices-fit (plan .core .devices) (right-says plan (held-right h) .devices)
+  held-devices h = devices-fit (plan .core .devices) (header-says (headerOf (plan .core)) (right-says plan (held-right h) .header) .0)
 
 -- a device is a node or a router, and has few ports
 few-ports : (role ports : ℕ) → portsFit role ports ≡ true → (role < 2) × (ports ≤ 8)

@@ -1,18 +1,17 @@
 -- The entry of a port, in a file and in memory: both say the same two things that a port can be.
-use mathlib.Core.Path.{_≡_, refl, sym, _∙_}
+use mathlib.Core.Path.{_≡_, refl, sym, ap, _∙_}
 use mathlib.Core.Bool.{Bool, true, false, cond, _&&_, _||_}
 use mathlib.Core.List.{List, [], _∷_}
 use mathlib.Core.Logic.{_⊎_, inl, inr}
 use Prim.Native.Nat.{ℕ, _+_, _*_, _/_, _%_, _≤_, _<_}
 use native.Mathlib.Omega.{arith}
 use lib.Dec.{eqb, ltb, leb}
-use lib.ListN.{length}
 use borrow.Author.Tests.{ltb-true, lt-ltb, le-ltb, ne-eqb}
 use Rattle.areas.proofs.Tests.{or-cases, or-left, or-right}
 use Rattle.plan.specs.Block.{byte}
 use Rattle.plan.specs.Fields.{portsIn, entry, unconnected, connected, entryFits, nobody, peerIn}
 use Rattle.plan.specs.Memory.{portRight}
-use Rattle.plan.specs.File.{entryBytes}
+use Rattle.plan.specs.File.{entryNumbers}
 use Rattle.areas.proofs.Facts.{facts}
 
 -- port p of a device with so many ports, of n devices: the four bytes e of its entry, its peer and its permissions
@@ -35,23 +34,13 @@ module _ {n ports p : ℕ} {e : ℕ → ℕ} {peer permissions : ℕ} where
   port-range (leads h a b c z q r) = inr (omega arith)
   port-range (nowhere a b c z q r) = inl q
 
--- ---- the bytes
+-- ---- the numbers that are written of it
 
-nobody-bytes : (peer permissions : ℕ) → peer ≡ nobody → entryBytes peer permissions ≡ 255 ∷ 255 ∷ 0 ∷ 0 ∷ []
-unfolding entryBytes
-nobody-bytes peer permissions e = rw e
+nobody-numbers : (peer permissions : ℕ) → peer ≡ nobody → entryNumbers peer permissions ≡ 255 ∷ 255 ∷ permissions ∷ 0 ∷ []
+nobody-numbers peer permissions e = rw e
 
-peer-bytes : (peer permissions : ℕ) → peer < 256 → entryBytes peer permissions ≡ peer / 8 ∷ peer % 8 ∷ permissions ∷ 0 ∷ []
-unfolding entryBytes
-peer-bytes peer permissions h = rw (ne-eqb peer nobody (omega arith))
-
-pub length-entry : (peer permissions : ℕ) → length (entryBytes peer permissions) ≡ 4
-unfolding entryBytes
-length-entry peer permissions = by-test (eqb peer nobody)
-  where
-    by-test : (t : Bool) → length (cond t (255 ∷ 255 ∷ 0 ∷ 0 ∷ []) (peer / 8 ∷ peer % 8 ∷ permissions ∷ 0 ∷ [])) ≡ 4
-    by-test true = refl
-    by-test false = refl
+peer-numbers : (peer permissions : ℕ) → peer < 256 → entryNumbers peer permissions ≡ peer / 8 ∷ peer % 8 ∷ permissions ∷ 0 ∷ []
+peer-numbers peer permissions h = rw (ne-eqb peer nobody (omega arith))
 
 -- ---- in the file: the tests say that it is such a port
 
@@ -107,17 +96,22 @@ module _ {n ports p : ℕ} {e : ℕ → ℕ} {peer permissions : ℕ} (few : n �
       by-test true = simp facts (q, r)
       by-test false = simp facts (q, r)
 
-  -- written again, it has the same bytes
-  pub port-bytes : Port n ports p e peer permissions → entryBytes peer permissions ≡ e 0 ∷ e 1 ∷ e 2 ∷ e 3 ∷ []
-  port-bytes (leads h a b c z q r) =
+  -- written again, it has the same numbers
+  pub port-numbers : Port n ports p e peer permissions → entryNumbers peer permissions ≡ e 0 ∷ e 1 ∷ e 2 ∷ e 3 ∷ []
+  port-numbers (leads h a b c z q r) =
       let x : e 0 ≡ peer / 8 = omega arith in
       let y : e 1 ≡ peer % 8 = omega arith in
-      rw (peer-bytes peer permissions (omega arith), x, y, z, r)
-  port-bytes (nowhere a b c z q r) = rw (nobody-bytes peer permissions q, a, b, c, z)
+      rw (peer-numbers peer permissions (omega arith), x, y, z, r)
+  port-numbers (nowhere a b c z q r) = rw (nobody-numbers peer permissions q, a, b, c, z, r)
 
--- so it is one that has the bytes which are written of it
+  -- which are bytes
+  pub port-small : Port n ports p e peer permissions → (e 0 < 256) × (e 1 < 256) × (e 2 < 256) × (e 3 < 256)
+  port-small (leads h a b c z q r) = omega arith
+  port-small (nowhere a b c z q r) = omega arith
+
+-- so it is one that has the numbers which are written of it
 module _ (n : ℕ) (few : n ≤ 32) (ports p : ℕ) (e : ℕ → ℕ) (peer permissions : ℕ) where
-  pub right-port : ((j : ℕ) → j < 4 → e j ≡ byte (entryBytes peer permissions) j) → portRight n ports p peer permissions ≡ true → Port n ports p e peer permissions
+  pub right-port : ((j : ℕ) → j < 4 → e j ≡ byte (entryNumbers peer permissions) j) → portRight n ports p peer permissions ≡ true → Port n ports p e peer permissions
   unfolding portRight
   right-port i = by-test (ltb p ports && ltb peer (8 * n)) refl
     where
@@ -126,10 +120,10 @@ module _ (n : ℕ) (few : n ≤ 32) (ports p : ℕ) (e : ℕ → ℕ) (peer perm
       by-test true q r =
           let f = simp facts at q in
           let g : permissions ≤ 15 = simp facts at r in
-          let k = simp (peer-bytes peer permissions (omega arith)) at i in
+          let k : (j : ℕ) → j < 4 → e j ≡ byte (peer / 8 ∷ peer % 8 ∷ permissions ∷ 0 ∷ []) j = λ j l. i j l ∙ ap (λ ns. byte ns j) (peer-numbers peer permissions (omega arith)) in
           leads (f .0) (omega (arith, k 0 (omega arith))) (omega (arith, k 1 (omega arith))) (omega (arith, k 2 (omega arith))) (k 3 (omega arith))
           (omega (arith, k 0 (omega arith), k 1 (omega arith))) (sym (k 2 (omega arith)))
       by-test false q r =
           let f = simp facts at r in
-          let k = simp (nobody-bytes peer permissions (f .0)) at i in
-          nowhere (k 0 (omega arith)) (k 1 (omega arith)) (k 2 (omega arith)) (k 3 (omega arith)) (f .0) (f .1)
+          let k : (j : ℕ) → j < 4 → e j ≡ byte (255 ∷ 255 ∷ permissions ∷ 0 ∷ []) j = λ j l. i j l ∙ ap (λ ns. byte ns j) (nobody-numbers peer permissions (f .0)) in
+          nowhere (k 0 (omega arith)) (k 1 (omega arith)) (k 2 (omega arith) ∙ f .1) (k 3 (omega arith)) (f .0) (f .1)

@@ -4,11 +4,13 @@ use mathlib.Core.Bool.{true}
 use mathlib.Core.List.{List, _++_}
 use Prim.Native.Nat.{ℕ, _+_, _*_, _≤_, _<_}
 use native.Mathlib.Omega.{arith}
-use lib.ListN.{length}
+use lib.ListN.{length, getD}
 use Rattle.areas.specs.Table.{joined}
-use Rattle.plan.specs.Block.{block, byte}
-use Rattle.plan.specs.Fields.{checked, zerosFrom, devicesIn, routerLoadIn, nodeLoadIn, devicesFit, loadsFit, headerFits, roleIn, portsIn, sourceIn, handlerIn, portsFit, masksFit, entryFits, deviceFits, joins}
+use Rattle.plan.specs.Block.{block, numberIn, restZero, checked, kindField}
+use Rattle.plan.specs.Fields.{devicesFit, loadsFit, numberField, deviceFields, roleIn, portsIn, sourceIn, handlerIn, portsFit, masksFit, entryFits, deviceFits, joins}
+use Rattle.plan.specs.Header.{headerFields, headerIn, headerFits}
 use Rattle.plan.specs.Refusals.{Test, test, accepts, lengthFits, headerTests, deviceTests, joinTests, deviceBlock, countIn, portsOf, peerOf, tests, verdict}
+use Rattle.plan.specs.declared.Header.{Header}
 use Rattle.areas.proofs.Facts.{facts}
 use Rattle.plan.proofs.Firsts.{AllPass, Numbered, first-accepts, accepts-all, all-append, all-front, all-back, all-joined, all-at, all-table, all-table-at, numbered-append, numbered-joined, numbered-table}
 
@@ -16,19 +18,18 @@ use Rattle.plan.proofs.Firsts.{AllPass, Numbered, first-accepts, accept
 
 pub record GoodHeader (s : List ℕ) : Type 0 where
   pub check : checked s ≡ true
-  pub mark : byte s 0 ≡ 1
-  pub devices : devicesFit (devicesIn s) ≡ true
-  pub loads : loadsFit (routerLoadIn s) (nodeLoadIn s) ≡ true
-  pub zeros : zerosFrom 6 s ≡ true
+  pub mark : numberIn s kindField ≡ 1
+  pub fits : headerFits (headerIn s) ≡ true
+  pub zeros : restZero headerFields s ≡ true
 
 pub record GoodDevice (n d : ℕ) (s : List ℕ) : Type 0 where
   pub check : checked s ≡ true
-  pub mark : byte s 0 ≡ 2
-  pub number : byte s 1 ≡ d
+  pub mark : numberIn s kindField ≡ 2
+  pub number : numberIn s numberField ≡ d
   pub ports : portsFit (roleIn s) (portsIn s) ≡ true
   pub masks : masksFit (roleIn s) (sourceIn s) (handlerIn s) ≡ true
   pub entries : (p : ℕ) → p < 8 → entryFits n s p ≡ true
-  pub zeros : zerosFrom 44 s ≡ true
+  pub zeros : restZero deviceFields s ≡ true
 
 pub record Good (file : List ℕ) : Type 0 where
   pub long : length file ≡ 512 * (1 + countIn file)
@@ -40,6 +41,10 @@ pub record Good (file : List ℕ) : Type 0 where
 pub devices-fit : (n : ℕ) → devicesFit n ≡ true → (1 ≤ n) × (n ≤ 32)
 unfolding devicesFit
 devices-fit n e = simp facts at e
+
+-- two of the rules of block 0
+pub header-says : (h : Header) → headerFits h ≡ true → (devicesFit (h .devices) ≡ true) × (loadsFit (getD (h .loads) 1 0) (getD (h .loads) 0 0) ≡ true)
+header-says h e = let f = simp facts at e in (search, search)
 
 -- ---- the tests of one block
 
@@ -94,20 +99,20 @@ module _ (file : List ℕ) where
   zero-accepts e = first-accepts (tests file) (accepts-all (tests file) numbered e)
 
   pub good : verdict file ≡ accepts → Good file
-  unfolding verdict tests headerTests headerFits joinTests
+  unfolding verdict tests headerTests joinTests
   good e =
       let p : AllPass (tests file) = accepts-all (tests file) numbered (ap (λ v. v .number) e) in
       let f = simp facts at p in
       let r : AllPass (blocks ++ connections) = p .1 .1 .1 .1 .1 .1 in
       record {
         long = f .1 .1 .1 .1 .1 .0;
-        header = record { check = f .1 .0; mark = f .1 .1 .0; devices = f .1 .1 .1 .0 .0; loads = f .1 .1 .1 .0 .1; zeros = f .1 .1 .1 .1 .0 };
+        header = record { check = f .1 .0; mark = f .1 .1 .0; fits = p .1 .1 .1 .0; zeros = f .1 .1 .1 .1 .0 };
         device = λ d h. device-good (deviceBlock file d) (countIn file) d (all-at _ (countIn file) (all-front blocks connections r) d h);
         joined = λ d h. all-table-at 8 _ (all-at _ (countIn file) (all-back blocks connections r) d h);
       }
 
   pub accepted : Good file → verdict file ≡ accepts
-  unfolding verdict tests headerTests headerFits joinTests
+  unfolding verdict tests headerTests joinTests
   accepted g =
       let devices : AllPass (blocks ++ connections) =
       all-append blocks connections
@@ -116,6 +121,6 @@ module _ (file : List ℕ) where
       let h : GoodHeader (block file 0) = g .header in
       first-accepts (tests file)
       (simp facts (
-        fitting file (countIn file) (devices-fit (countIn file) (h .devices) .1) (g .long),
-        (h .check, (h .mark, ((h .devices, h .loads), (h .zeros, (g .long, devices))))),
+        fitting file (countIn file) (devices-fit (countIn file) (header-says (headerIn (block file 0)) (h .fits) .0) .1) (g .long),
+        (h .check, (h .mark, (simp facts at (h .fits), (h .zeros, (g .long, devices))))),
       ))

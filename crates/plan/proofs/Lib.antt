@@ -3,14 +3,14 @@ pub mod BothWays
 pub mod Entries
 pub mod Firsts
 pub mod Good
+pub mod Holdings
 pub mod Joined
 pub mod Match
+pub mod Numbers
 pub mod Owned
 pub mod Peers
 pub mod Rows
 pub mod Runs
-pub mod Sealed
 pub mod Shape
-pub mod Small
 pub mod There
 pub mod Unique

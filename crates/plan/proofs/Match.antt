@@ -1,7 +1,7 @@
 -- A plan beside a file, block by block: that the file says what the plan says, and what follows.
-use mathlib.Core.Path.{_≡_, refl, sym, ap, ap₂, _∙_}
+use mathlib.Core.Path.{_≡_, refl, sym, subst, ap, ap₂, _∙_}
 use mathlib.Core.Bool.{true, cond}
-use mathlib.Core.List.{List, [], _∷_, _++_}
+use mathlib.Core.List.{List, [], _++_}
 use mathlib.Core.Logic.{_⊎_, inl, inr, dite}
 use Prim.Native.Nat.{ℕ, _+_, _*_, _/_, _%_, _≤_, _<_}
 use native.Mathlib.Decide.{decLt}
@@ -14,14 +14,16 @@ use Rattle.areas.proofs.Tables.{getD-table, is-table, same-joined}
 use Rattle.plan.specs.Block.{block}
 use Rattle.plan.specs.Fields.{roleIn, portsIn, sourceIn, handlerIn, entry, nobody, peerIn, joins}
 use Rattle.plan.specs.Refusals.{deviceBlock, countIn, portsOf, peerOf}
+use Rattle.plan.specs.Header.{headerIn, headerOf, headerFits, coreWith}
 use Rattle.plan.specs.Reading.{column, planOf}
+use Rattle.plan.specs.declared.Header.{Header}
 use Rattle.plan.specs.declared.Plan.{Plan}
 use Rattle.plan.specs.Memory.{at, peerAt, rowRight, right}
 use Rattle.plan.specs.File.{fileOf}
 use Rattle.areas.proofs.Facts.{facts}
 use Rattle.plan.proofs.Shape.{Shaped}
-use Rattle.plan.proofs.Good.{Good, GoodDevice, devices-fit}
-use Rattle.plan.proofs.Rows.{Head, Says, Row, absent-right, row-right, read-header, read-device}
+use Rattle.plan.proofs.Good.{Good, GoodDevice, devices-fit, header-says}
+use Rattle.plan.proofs.Rows.{Says, Row, absent-right, row-right, read-header, read-device}
 use Rattle.plan.proofs.Entries.{entry-port, port-range}
 use Rattle.plan.proofs.Runs.{whole-file, length-block, block-bytes}
 
@@ -31,10 +33,10 @@ ofDevice n d here gone = cond (ltb d n) here gone
 
 -- block 0 says what the plan says, and so does the block of each device, or nothing does where the device is absent
 pub record Match (plan : Plan) (file : List ℕ) : Type 0 where
-  pub head : Head (plan .core) (block file 0)
+  pub header : headerOf (plan .core) ≡ headerIn (block file 0)
   pub says : (d : ℕ) → d < 32 →
       let s = deviceBlock file d in
-      let of = ofDevice (plan .core .devices) d in
+      let of = ofDevice (countIn file) d in
       Says (plan .core) (plan .peers) d (of (roleIn s) 0) (of (portsIn s) 0) (of (sourceIn s) 0) (of (handlerIn s) 0) (λ p. of (peerIn s p) nobody) (λ p. of (entry s p 2) 0)
 
 -- ---- the plan that is read from a file matches it
@@ -57,7 +59,7 @@ pub match-of : (file : List ℕ) → Match (planOf file) file
 unfolding planOf
 match-of file =
     record {
-      head = record { devices = refl; router = refl; node = refl };
+      header = refl;
       says = λ d h.
           record {
             role = column-at (countIn file) (λ e. roleIn (deviceBlock file e)) d h;
@@ -82,10 +84,6 @@ module _ (n : ℕ) (ports others : ℕ → ℕ) (peer other : ℕ → ℕ → �
 
 -- ---- a plan that matches a file
 
-two-loads : (l : List ℕ) → length l ≡ 2 → l ≡ at l 0 ∷ at l 1 ∷ []
-unfolding table
-two-loads l e = is-table 2 (at l) l 0 e (λ i h. refl)
-
 is-column : (n : ℕ) (f : ℕ → ℕ) (l : List ℕ) → length l ≡ 32 → ((d : ℕ) → d < 32 → at l d ≡ ofDevice n d (f d) 0) → l ≡ column n f
 unfolding column
 is-column n f l e h = is-table 32 _ l 0 e h
@@ -94,8 +92,11 @@ module _ (plan : Plan) (file : List ℕ) (m : Match plan file) where
   abbrev devices : ℕ
   devices = plan .core .devices
 
+  pub same-count : devices ≡ countIn file
+  same-count = ap (λ (h : Header). h .devices) (m .header)
+
   is-permissions : length (plan .core .permissions) ≡ 256
-      → plan .core .permissions ≡ table 256 (λ q. ofDevice devices (q / 8) (entry (deviceBlock file (q / 8)) (q % 8) 2) 0)
+      → plan .core .permissions ≡ table 256 (λ q. ofDevice (countIn file) (q / 8) (entry (deviceBlock file (q / 8)) (q % 8) 2) 0)
   is-permissions e =
       is-table 256 _ (plan .core .permissions) 0 e
       (λ q h.
@@ -106,24 +107,19 @@ module _ (plan : Plan) (file : List ℕ) (m : Match plan file) where
   pub is-plan : Shaped plan → plan ≡ planOf file
   unfolding planOf
   is-plan s =
-      let n : countIn file ≡ devices = sym (m .head .devices) in
-      let loads = two-loads (plan .core .loads) (s .loads .long) ∙ ap₂ (λ a b. a ∷ b ∷ []) (m .head .node) (m .head .router) in
-      let role = is-column devices _ (plan .core .role) (s .role .long) (λ d h. m .says d h .role) in
-      let ports = is-column devices _ (plan .core .ports) (s .ports .long) (λ d h. m .says d h .ports) in
-      let source = is-column devices _ (plan .core .source) (s .source .long) (λ d h. m .says d h .source) in
-      let handler = is-column devices _ (plan .core .handler) (s .handler .long) (λ d h. m .says d h .handler) in
+      let n = countIn file in
+      let header = m .header in
+      let role = is-column n _ (plan .core .role) (s .role .long) (λ d h. m .says d h .role) in
+      let ports = is-column n _ (plan .core .ports) (s .ports .long) (λ d h. m .says d h .ports) in
+      let source = is-column n _ (plan .core .source) (s .source .long) (λ d h. m .says d h .source) in
+      let handler = is-column n _ (plan .core .handler) (s .handler .long) (λ d h. m .says d h .handler) in
       let permissions = is-permissions (s .permissions .long) in
       let peers = is-table 32 _ (plan .peers) [] (s .rows) (λ d h. is-table 8 _ (getD (plan .peers) d []) 0 (s .row d h .long) (m .says d h .peer)) in
-      rw n
-      (λ i.
-      record {
-        core = record { devices = devices; loads = loads i; role = role i; ports = ports i; source = source i; handler = handler i; permissions = permissions i };
-        peers = peers i;
-      })
+      λ i. record { core = coreWith (header i) (role i) (ports i) (source i) (handler i) (permissions i); peers = peers i }
 
   module _ (few : devices ≤ 32) where
     match-row : (d : ℕ) → d < devices → Row (plan .core) (plan .peers) d (deviceBlock file d)
-    match-row d h = rw (lt-ltb d devices h) at (m .says d (omega arith))
+    match-row d h = rw (lt-ltb d (countIn file) (omega (arith, same-count))) at (m .says d (omega arith))
 
     -- its connections are good where those of the file are
     pub match-joins : ((d : ℕ) → d < devices → GoodDevice devices d (deviceBlock file d)) → (d : ℕ) → d < devices → (p : ℕ) → p < 8
@@ -137,33 +133,33 @@ module _ (plan : Plan) (file : List ℕ) (m : Match plan file) where
 
   module _ (g : Good file) where
     few-devices : devices ≤ 32
-    few-devices = rw (m .head .devices) (devices-fit (countIn file) (g .header .devices) .1)
+    few-devices = rw same-count (devices-fit (countIn file) (header-says (headerIn (block file 0)) (g .header .fits) .0) .1)
 
     device-good : (d : ℕ) → d < devices → GoodDevice devices d (deviceBlock file d)
-    device-good = rw (m .head .devices) (g .device)
+    device-good = rw same-count (g .device)
 
     row-good : (d : ℕ) → d < 32 → rowRight (plan .core) (plan .peers) d ≡ true
     row-good d k =
         dite (decLt d devices)
         (λ h. row-right (plan .core) (plan .peers) d few-devices (deviceBlock file d) h (match-row few-devices d h) (device-good d h))
-        (λ h. absent-right (plan .core) (plan .peers) d few-devices (omega arith) (rw (le-ltb d devices (omega arith)) at (m .says d k)))
+        (λ h. absent-right (plan .core) (plan .peers) d few-devices (omega arith) (rw (le-ltb d (countIn file) (omega (arith, same-count))) at (m .says d k)))
 
     -- the plan is right in memory
     pub match-right : right plan ≡ true
     unfolding right
     match-right =
         simp facts (
-          ((rw (m .head .devices) (g .header .devices), rw (m .head .router, m .head .node) (g .header .loads)), row-good),
-          λ d h p l. sym (match-joins few-devices device-good d h p l) ∙ g .joined d (omega (arith, m .head .devices)) p l,
+          (simp facts at (subst (λ (h : Header). headerFits h ≡ true) (sym (m .header)) (g .header .fits)), row-good),
+          λ d h p l. sym (match-joins few-devices device-good d h p l) ∙ g .joined d (omega (arith, same-count)) p l,
         )
 
     -- and the file is the one that is written of it
     pub match-file : ((i : ℕ) → getD file i 0 < 256) → fileOf plan ≡ file
     unfolding fileOf
     match-file small =
-        let n : length file ≡ 512 * (1 + devices) = rw (m .head .devices) (g .long) in
+        let n : length file ≡ 512 * (1 + devices) = rw same-count (g .long) in
         ap₂ (λ a b. a ++ b)
-        (read-header (plan .core) (block file 0) (length-block file 0 (omega arith)) (block-bytes file 0 small) (m .head) (g .header))
+        (read-header (plan .core) (block file 0) (length-block file 0 (omega arith)) (block-bytes file 0 small) (m .header) (g .header))
         (same-joined devices _ (deviceBlock file)
         (λ d h. read-device (plan .core) (plan .peers) d few-devices (deviceBlock file d) h (length-block file (1 + d) (omega arith))
         (block-bytes file (1 + d) small) (match-row few-devices d h) (device-good d h)))

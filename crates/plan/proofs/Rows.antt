@@ -1,126 +1,78 @@
 -- Block 0 and the block of a device, beside the parts of a plan that they hold: what each says of the other.
-use mathlib.Core.Path.{_≡_, refl, sym, ap, ap₂, _∙_}
+use mathlib.Core.Path.{_≡_, refl, sym, subst, ap, ap₂, _∙_}
 use mathlib.Core.Bool.{true}
 use mathlib.Core.List.{List, [], _∷_, _++_}
-use Prim.Native.Nat.{ℕ, _+_, _*_, _/_, _%_, _≤_, _<_}
-use native.Mathlib.Nat.{add-assoc}
+use Prim.Native.Nat.{ℕ, zero, suc, _+_, _*_, _≤_, _<_}
 use native.Mathlib.Omega.{arith}
-use lib.ListN.{length, take, drop, length-append}
-use lib.Seq.{take-add, drop-drop, getD-append-add}
+use lib.ListN.{length}
 use borrow.Author.Tests.{lt-ltb, le-ltb}
 use Rattle.areas.specs.Table.{table, joined}
-use Rattle.areas.proofs.Tables.{length-joined, getD-joined, same-joined}
-use Rattle.plan.specs.Block.{byte, two, four}
-use Rattle.plan.specs.Fields.{devicesIn, routerLoadIn, nodeLoadIn, devicesFit, loadsFit, roleIn, portsIn, sourceIn, handlerIn, entry, nobody, peerIn}
+use Rattle.areas.proofs.Tables.{is-table}
+use Rattle.plan.specs.Block.{byte}
+use Rattle.plan.specs.Fields.{devicesFit, deviceFields, roleIn, portsIn, sourceIn, handlerIn, entryFields, entry, nobody, peerIn}
+use Rattle.plan.specs.Header.{headerFields, headerIn, headerOf, headerFits}
 use Rattle.plan.specs.declared.Core.{Core}
+use Rattle.plan.specs.declared.Header.{Header}
 use Rattle.plan.specs.Memory.{at, peerAt, deviceRight, rowRight}
-use Rattle.plan.specs.File.{twoBytes, fourBytes, entryBytes, headerBytes, numberBytes, deviceBytes, sealed}
+use Rattle.plan.specs.File.{Holding, holdings, blockOf, headerHoldings, entryNumbers, ownHoldings, entryHoldings, deviceHoldings}
 use Rattle.areas.proofs.Facts.{facts}
+use Rattle.plan.proofs.Shape.{Numbers}
 use Rattle.plan.proofs.Good.{GoodHeader, GoodDevice}
-use Rattle.plan.proofs.Sealed.{sealed-byte, sealed-checked, sealed-zeros, is-sealed}
-use Rattle.plan.proofs.Runs.{run-table, take-runs}
-use Rattle.plan.proofs.Entries.{Port, nowhere, length-entry, entry-port, port-entry, port-peer, port-permissions, no-port, port-right, port-bytes, right-port}
-
--- ---- numbers of two and of four bytes
-
-low-byte : (n a b : ℕ) → a < 256 → n ≡ a + 256 * b → n % 256 ≡ a
-low-byte n a b h e = omega arith
-
-module _ (s : List ℕ) (i : ℕ) where
-  -- read from the bytes that were written
-  two-read : (n : ℕ) → byte s i ≡ n % 256 → byte s (i + 1) ≡ n / 256 → two s i ≡ n
-  unfolding two
-  two-read n a b = omega arith
-
-  four-read : (n : ℕ) → byte s i ≡ n % 256 → byte s (i + 1) ≡ n / 256 % 256 → byte s (i + 2) ≡ n / 65536 % 256 → byte s (i + 2 + 1) ≡ n / 16777216 → four s i ≡ n
-  unfolding two four
-  four-read n a b c d = omega arith
-
-  module _ (small : (j : ℕ) → byte s j < 256) where
-    -- small enough
-    pub two-small : two s i < 65536
-    unfolding two
-    two-small = omega (arith, small i, small (i + 1))
-
-    pub four-small : four s i < 4294967296
-    unfolding two four
-    four-small = omega (arith, small i, small (i + 1), small (i + 2), small (i + 2 + 1))
-
-    -- written as the bytes that were read
-    two-written : twoBytes (two s i) ≡ byte s i ∷ byte s (i + 1) ∷ []
-    unfolding two
-    two-written =
-        let l = small i in
-        let m = small (i + 1) in
-        let a : two s i % 256 ≡ byte s i = omega arith in
-        let b : two s i / 256 ≡ byte s (i + 1) = omega arith in
-        λ t. a t ∷ b t ∷ []
-
-    four-written : fourBytes (four s i) ≡ byte s i ∷ byte s (i + 1) ∷ byte s (i + 2) ∷ byte s (i + 2 + 1) ∷ []
-    unfolding two four
-    four-written =
-        let l = small i in
-        let m = small (i + 1) in
-        let k = small (i + 2) in
-        let j = small (i + 2 + 1) in
-        let q : four s i / 256 ≡ byte s (i + 1) + 256 * (byte s (i + 2) + 256 * byte s (i + 2 + 1)) = omega arith in
-        let r : four s i / 65536 ≡ byte s (i + 2) + 256 * byte s (i + 2 + 1) = omega arith in
-        let a : four s i % 256 ≡ byte s i = omega arith in
-        let b : four s i / 256 % 256 ≡ byte s (i + 1) = low-byte _ _ _ m q in
-        let c : four s i / 65536 % 256 ≡ byte s (i + 2) = low-byte _ _ _ k r in
-        let d : four s i / 16777216 ≡ byte s (i + 2 + 1) = omega arith in
-        λ t. a t ∷ b t ∷ c t ∷ d t ∷ []
+use Rattle.plan.proofs.Numbers.{Bytes}
+use Rattle.plan.proofs.Holdings.{fieldsOf, ascends, Ascends, ascending, Holds, Fit, holds-append, holds-parts, fit-append, holds-joined, holds-at, fit-joined, made-checked, made-rest, made-holds, is-made}
+use Rattle.plan.proofs.Entries.{Port, nowhere, entry-port, port-entry, port-peer, port-permissions, no-port, port-right, port-numbers, port-small, right-port}
 
 -- ---- block 0
 
--- what block 0 says, and what the plan
-pub record Head (core : Core) (s : List ℕ) : Type 0 where
-  pub devices : core .devices ≡ devicesIn s
-  pub router : at (core .loads) 1 ≡ routerLoadIn s
-  pub node : at (core .loads) 0 ≡ nodeLoadIn s
+header-ascends : Ascends 0 headerFields
+header-ascends = ascending 0 headerFields refl
+
+two-loads : (l : List ℕ) → length l ≡ 2 → l ≡ at l 0 ∷ at l 1 ∷ []
+unfolding table
+two-loads l e = is-table 2 (at l) l 0 e (λ i h. refl)
 
 module _ (core : Core) where
-  pub length-header : length (headerBytes core) ≡ 6
-  unfolding headerBytes
-  length-header = refl
-
   -- the block that is written of the plan
-  module _ (s : List ℕ) (e : s ≡ sealed (headerBytes core)) where
-    header-byte : (i : ℕ) → i < 510 → byte s i ≡ byte (headerBytes core) i
-    unfolding headerBytes
-    header-byte i h = rw e (sealed-byte (headerBytes core) (omega arith) i h)
+  module _ (loads : Numbers (core .loads) 2 65536) (fits : headerFits (headerOf core) ≡ true) (s : List ℕ) (e : s ≡ blockOf (headerHoldings (headerOf core))) where
+    header-fit : Fit (headerHoldings (headerOf core))
+    unfolding devicesFit
+    header-fit = let f = simp facts at fits in omega (arith, loads .small 0, loads .small 1)
 
-    pub written-head : Head core s
-    unfolding headerBytes
-    written-head =
-        record {
-          devices = sym (header-byte 1 (omega arith));
-          router = sym (two-read s 2 (at (core .loads) 1) (header-byte 2 (omega arith)) (header-byte 3 (omega arith)));
-          node = sym (two-read s 4 (at (core .loads) 0) (header-byte 4 (omega arith)) (header-byte 5 (omega arith)));
-        }
+    header-holds : Holds s (headerHoldings (headerOf core))
+    header-holds = subst (λ t. Holds t (headerHoldings (headerOf core))) (sym e) (made-holds (headerHoldings (headerOf core)) header-ascends header-fit)
 
-    pub written-header : devicesFit (core .devices) ≡ true → loadsFit (at (core .loads) 1) (at (core .loads) 0) ≡ true → GoodHeader s
-    unfolding headerBytes
-    written-header f g =
+    pub written-header : headerOf core ≡ headerIn s
+    written-header = let h = header-holds in cc (two-loads (core .loads) (loads .long))
+
+    pub good-header : GoodHeader s
+    good-header =
         record {
-          check = rw e (sealed-checked (headerBytes core) (omega arith));
-          mark = header-byte 0 (omega arith);
-          devices = rw (written-head .devices) at f;
-          loads = rw (written-head .router, written-head .node) at g;
-          zeros = rw e (sealed-zeros (headerBytes core) (omega arith));
+          check = rw e (made-checked (headerHoldings (headerOf core)));
+          mark = header-holds .0;
+          fits = subst (λ (h : Header). headerFits h ≡ true) written-header fits;
+          zeros = rw e (made-rest (headerHoldings (headerOf core)));
         }
 
   -- a block that was read
-  pub read-header : (s : List ℕ) → length s ≡ 512 → ((j : ℕ) → byte s j < 256) → Head core s → GoodHeader s → sealed (headerBytes core) ≡ s
-  unfolding headerBytes table
+  pub read-header : (s : List ℕ) → length s ≡ 512 → Bytes s → headerOf core ≡ headerIn s → GoodHeader s → blockOf (headerHoldings (headerOf core)) ≡ s
   read-header s e small h g =
-      let router = ap twoBytes (h .router) ∙ two-written s 2 small in
-      let node = ap twoBytes (h .node) ∙ two-written s 4 small in
-      is-sealed (headerBytes core) (omega arith) s e small
-      (run-table 6 0 s (omega arith) ∙ (λ t. g .mark t ∷ sym (h .devices) t ∷ sym router t ++ sym node t))
-      (g .zeros) (g .check)
+      let mark = g .mark in
+      is-made (headerHoldings (headerOf core)) header-ascends s e small
+      (subst (λ (k : Header). Holds s (headerHoldings k)) (sym h) (search)) (g .zeros) (g .check)
 
 -- ---- the block of a device
+
+fields-ascend : Ascends 0 deviceFields
+unfolding deviceFields joined
+fields-ascend = ascending 0 deviceFields refl
+
+-- the four numbers of an entry
+four : (f g : ℕ → ℕ) → (f 0 ≡ g 0) × (f 1 ≡ g 1) × (f 2 ≡ g 2) × (f 3 ≡ g 3) → (j : ℕ) → j < 4 → f j ≡ g j
+four f g e zero l = e .0
+four f g e (suc zero) l = e .1
+four f g e (suc (suc zero)) l = e .2
+four f g e (suc (suc (suc zero))) l = e .3
+four f g e (suc (suc (suc (suc j)))) l = absurd (omega arith)
 
 module _ (core : Core) (peers : List (List ℕ)) (d : ℕ) where
   -- what the plan says of device d
@@ -139,24 +91,21 @@ module _ (core : Core) (peers : List (List ℕ)) (d : ℕ) where
   abbrev pub Absent : Type 0
   Absent = Says 0 0 0 0 (λ p. nobody) (λ p. 0)
 
-  abbrev pub numbers : List ℕ
-  numbers = numberBytes d (at (core .role) d) (at (core .ports) d) (at (core .source) d) (at (core .handler) d)
-
   abbrev pub entryOf : ℕ → List ℕ
-  entryOf p = entryBytes (peerAt peers d p) (at (core .permissions) (8 * d + p))
+  entryOf p = entryNumbers (peerAt peers d p) (at (core .permissions) (8 * d + p))
 
-  entries-long : (p : ℕ) → p < 8 → length (entryOf p) ≡ 4
-  entries-long p h = length-entry (peerAt peers d p) (at (core .permissions) (8 * d + p))
+  abbrev own : List Holding
+  own = ownHoldings d (at (core .role) d) (at (core .ports) d) (at (core .source) d) (at (core .handler) d)
 
-  pub length-device : length (deviceBytes core peers d) ≡ 44
-  unfolding deviceBytes numberBytes
-  length-device = length-append numbers (joined 8 entryOf) ∙ ap (λ k. 12 + k) (length-joined 4 entryOf 8 entries-long)
+  abbrev entries : ℕ → List Holding
+  entries p = holdings (entryFields p) (entryOf p)
 
-  entry-byte : (p : ℕ) → p < 8 → (j : ℕ) → j < 4 → byte (deviceBytes core peers d) (12 + 4 * p + j) ≡ byte (entryOf p) j
-  unfolding deviceBytes numberBytes
-  entry-byte p h j l =
-      ap (byte (deviceBytes core peers d)) (add-assoc 12 (4 * p) j) ∙ getD-append-add numbers (joined 8 entryOf) (4 * p + j) 0
-      ∙ getD-joined 4 entryOf 8 entries-long p j 0 h l
+  device-fields : fieldsOf (deviceHoldings core peers d) ≡ deviceFields
+  unfolding deviceHoldings deviceFields joined
+  device-fields = refl
+
+  device-ascends : Ascends 0 (fieldsOf (deviceHoldings core peers d))
+  device-ascends = rw device-fields fields-ascend
 
   module _ (few : core .devices ≤ 32) where
     -- each port of a right row, with an entry that has its bytes
@@ -196,60 +145,64 @@ module _ (core : Core) (peers : List (List ℕ)) (d : ℕ) where
           (simp facts ((g .ports, g .masks), λ p l. rw (r .peer p l, r .permissions p l) (port-right few (entry-port (core .devices) few s p (g .entries p l)))))
 
       -- the block that is written of the plan
-      module _ (e : s ≡ sealed (deviceBytes core peers d)) (right : rowRight core peers d ≡ true) where
-        device-byte : (i : ℕ) → i < 510 → byte s i ≡ byte (deviceBytes core peers d) i
-        device-byte i l = rw e (sealed-byte (deviceBytes core peers d) (omega (arith, length-device)) i l)
+      module _ (right : rowRight core peers d ≡ true) (small : (at (core .role) d < 256) × (at (core .ports) d < 256) × (at (core .source) d < 4294967296) × (at (core .handler) d < 4294967296))
+          (e : s ≡ blockOf (deviceHoldings core peers d)) where
+        device-fit : Fit (deviceHoldings core peers d)
+        unfolding deviceHoldings
+        device-fit =
+            fit-append own (joined 8 entries) (omega arith)
+            (fit-joined entries 8 (λ p l. let f = port-small few (right-ports right p l (byte (entryOf p)) (λ j k. refl)) in (f .0, (f .1, (f .2, (f .3, tt))))))
+
+        device-holds : Holds s own × Holds s (joined 8 entries)
+        unfolding deviceHoldings
+        device-holds =
+            holds-parts s own (joined 8 entries)
+            (subst (λ t. Holds t (deviceHoldings core peers d)) (sym e) (made-holds (deviceHoldings core peers d) device-ascends device-fit))
 
         port-at : (p : ℕ) → p < 8 → Port (core .devices) (at (core .ports) d) p (entry s p) (peerAt peers d p) (at (core .permissions) (8 * d + p))
-        port-at p l = right-ports right p l (entry s p) (λ j k. device-byte (12 + 4 * p + j) (omega arith) ∙ entry-byte p l j k)
+        port-at p l =
+            let f = holds-at entries s 8 (device-holds .1) p l in
+            right-ports right p l (entry s p) (four (entry s p) (byte (entryOf p)) (f .0, f .1 .0, f .1 .1 .0, f .1 .1 .1 .0))
 
         pub written-row : Row s
-        unfolding deviceBytes numberBytes
         written-row =
+            let f = device-holds .0 .1 .1 in
             record {
-              role = sym (device-byte 2 (omega arith));
-              ports = sym (device-byte 3 (omega arith));
-              source = sym (four-read s 4 (at (core .source) d) (device-byte 4 (omega arith)) (device-byte 5 (omega arith)) (device-byte 6 (omega arith)) (device-byte 7 (omega arith)));
-              handler = sym (four-read s 8 (at (core .handler) d) (device-byte 8 (omega arith)) (device-byte 9 (omega arith)) (device-byte 10 (omega arith)) (device-byte 11 (omega arith)));
+              role = sym (f .0);
+              ports = sym (f .1 .0);
+              source = sym (f .1 .1 .0);
+              handler = sym (f .1 .1 .1 .0);
               peer = λ p l. sym (port-peer (core .devices) few s p (port-at p l));
               permissions = λ p l. port-permissions (port-at p l);
             }
 
         pub written-device : GoodDevice (core .devices) d s
-        unfolding deviceBytes numberBytes rowRight deviceRight
+        unfolding rowRight deviceRight
         written-device =
             let f = simp facts at (rw (lt-ltb d (core .devices) h) at right) in
             record {
-              check = rw e (sealed-checked (deviceBytes core peers d) (omega (arith, length-device)));
-              mark = device-byte 0 (omega arith);
-              number = device-byte 1 (omega arith);
+              check = rw e (made-checked (deviceHoldings core peers d));
+              mark = device-holds .0 .0;
+              number = device-holds .0 .1 .0;
               ports = rw (written-row .role, written-row .ports) at (f .0 .0);
               masks = rw (written-row .role, written-row .source, written-row .handler) at (f .0 .1);
               entries = λ p l. port-entry (core .devices) few s p (rw (written-row .ports) at (port-at p l));
-              zeros = rw (e, ← length-device) (sealed-zeros (deviceBytes core peers d) (omega (arith, length-device)));
+              zeros = rw (e, ← device-fields) (made-rest (deviceHoldings core peers d));
             }
 
       -- a block that was read
-      module _ (e : length s ≡ 512) (small : (j : ℕ) → byte s j < 256) (r : Row s) (g : GoodDevice (core .devices) d s) where
-        numbers-read : take 12 s ≡ numbers
-        unfolding numberBytes table
-        numbers-read =
-            let source = ap fourBytes (r .source) ∙ four-written s 4 small in
-            let handler = ap fourBytes (r .handler) ∙ four-written s 8 small in
-            run-table 12 0 s (omega arith) ∙ (λ t. g .mark t ∷ g .number t ∷ sym (r .role) t ∷ sym (r .ports) t ∷ sym source t ++ sym handler t)
-
-        entry-read : (p : ℕ) → p < 8 → take 4 (drop (4 * p) (drop 12 s)) ≡ entryOf p
-        unfolding table
+      module _ (e : length s ≡ 512) (small : Bytes s) (r : Row s) (g : GoodDevice (core .devices) d s) where
+        entry-read : (p : ℕ) → p < 8 → Holds s (entries p)
         entry-read p l =
-            ap (take 4) (drop-drop (4 * p) 12 s) ∙ run-table 4 (12 + 4 * p) s (omega arith)
-            ∙ sym (port-bytes few (entry-port (core .devices) few s p (g .entries p l)))
-            ∙ ap₂ entryBytes (sym (r .peer p l)) (sym (r .permissions p l))
+            let f : entryOf p ≡ entry s p 0 ∷ entry s p 1 ∷ entry s p 2 ∷ entry s p 3 ∷ [] =
+            ap₂ entryNumbers (r .peer p l) (r .permissions p l) ∙ port-numbers few (entry-port (core .devices) few s p (g .entries p l)) in
+            subst (λ (ns : List ℕ). Holds s (holdings (entryFields p) ns)) (sym f) (refl, (refl, (refl, (refl, tt))))
 
-        fields-read : take 44 s ≡ deviceBytes core peers d
-        unfolding deviceBytes
-        fields-read =
-            take-add 12 32 s ∙ ap₂ (λ a b. a ++ b) numbers-read (take-runs 4 8 (drop 12 s) ∙ same-joined 8 (λ p. take 4 (drop (4 * p) (drop 12 s))) entryOf entry-read)
-
-        pub read-device : sealed (deviceBytes core peers d) ≡ s
+        pub read-device : blockOf (deviceHoldings core peers d) ≡ s
+        unfolding deviceHoldings
         read-device =
-            is-sealed (deviceBytes core peers d) (omega (arith, length-device)) s e small (rw length-device fields-read) (rw length-device (g .zeros)) (g .check)
+            is-made (deviceHoldings core peers d) device-ascends s e small
+            (holds-append s own (joined 8 entries)
+            (g .mark, (g .number, (sym (r .role), (sym (r .ports), (sym (r .source), (sym (r .handler), tt))))))
+            (holds-joined entries s 8 entry-read))
+            (rw device-fields (g .zeros)) (g .check)

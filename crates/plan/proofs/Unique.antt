@@ -9,8 +9,10 @@ use Rattle.plan.specs.Fields.{devicesFit, loadsFit, portsFit, masksFit}
 use Rattle.plan.specs.Refusals.{first, joinTests}
 use Rattle.answers.specs.Decides.{Decides}
 use Rattle.answers.proofs.Unique.{decides-once}
-use Rattle.plan.specs.Reading.{Held}
+use Rattle.plan.specs.Header.{headerOf, headerFits, coreWith}
+use Rattle.plan.specs.Reading.{Held, zeros}
 use Rattle.plan.specs.declared.Core.{Core}
+use Rattle.plan.specs.declared.Header.{Header}
 use Rattle.plan.specs.declared.Plan.{Plan}
 
 pub whole-unique : (core : Core) (peers : List (List ℕ)) (r s : Plan)
@@ -20,6 +22,20 @@ whole-unique core peers r s p q =
 
 pub peers-of-unique : (plan : Plan) (r s : List (List ℕ)) → r ≡ plan .peers → s ≡ plan .peers → r ≡ s
 peers-of-unique plan r s p q = p ∙ sym q
+
+pub header-of-unique : (core : Core) (r s : Header) → r ≡ headerOf core → s ≡ headerOf core → r ≡ s
+header-of-unique core r s p q = p ∙ sym q
+
+module _ (header : Header) where
+  pub core-with-unique : (role ports source handler permissions : List ℕ) (r s : Core)
+      → r ≡ coreWith header role ports source handler permissions → s ≡ coreWith header role ports source handler permissions → r ≡ s
+  core-with-unique role ports source handler permissions r s p q = p ∙ sym q
+
+  pub header-fits-unique : (r s : Bool) → r ≡ headerFits header → s ≡ headerFits header → r ≡ s
+  header-fits-unique r s p q = p ∙ sym q
+
+pub blank-unique : (r s : Plan) → r ≡ zeros → s ≡ zeros → r ≡ s
+blank-unique r s p q = p ∙ sym q
 
 pub devices-fit-unique : (n : ℕ) (r s : Bool) → r ≡ devicesFit n → s ≡ devicesFit n → r ≡ s
 devices-fit-unique n r s p q = p ∙ sym q

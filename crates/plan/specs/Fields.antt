@@ -1,32 +1,13 @@
--- RULES, "Plan file": what each field of a block may hold.
+-- RULES, "Plan file": the fields of a device's block, and what the numbers of a plan may be.
 use mathlib.Core.Bool.{Bool, cond, not, _&&_, _||_}
-use mathlib.Core.List.{List}
-use Prim.Native.Nat.{ℕ, _+_, _-_, _*_, _/_, _%_}
+use mathlib.Core.List.{List, [], _∷_, _++_}
+use Prim.Native.Nat.{ℕ, _+_, _*_, _/_, _%_}
 use lib.Bits.{bitAnd}
 use lib.Dec.{eqb, ltb, leb}
-use Rattle.areas.specs.Table.{every}
-use Rattle.plan.specs.Block.{byte, two, four, check}
-
--- ---- any block
-
--- bytes 510 and 511 hold the check
-unfoldable pub checked : List ℕ → Bool
-checked s = eqb (two s 510) (check s)
-
--- the bytes from one on up to 509 are zero
-unfoldable pub zerosFrom : ℕ → List ℕ → Bool
-zerosFrom from s = every (510 - from) (λ i. eqb (byte s (from + i)) 0)
+use Rattle.areas.specs.Table.{every, joined}
+use Rattle.plan.specs.Block.{Field, field, numberIn, kindField}
 
 -- ---- block 0
-
-abbrev pub devicesIn : List ℕ → ℕ
-devicesIn s = byte s 1
-
-abbrev pub routerLoadIn : List ℕ → ℕ
-routerLoadIn s = two s 2
-
-abbrev pub nodeLoadIn : List ℕ → ℕ
-nodeLoadIn s = two s 4
 
 -- 1 to 32 devices; loads of at least 1, the routers' not above the nodes'
 unfoldable pub devicesFit : ℕ → Bool
@@ -35,22 +16,52 @@ devicesFit n = leb 1 n && leb n 32
 unfoldable pub loadsFit : ℕ → ℕ → Bool
 loadsFit router node = leb 1 router && leb 1 node && leb router node
 
-unfoldable pub headerFits : List ℕ → Bool
-headerFits s = devicesFit (devicesIn s) && loadsFit (routerLoadIn s) (nodeLoadIn s)
-
 -- ---- the block of a device
 
+abbrev pub numberField : Field
+numberField = field 1 1
+
+abbrev pub roleField : Field
+roleField = field 2 1
+
+abbrev pub portsField : Field
+portsField = field 3 1
+
+abbrev pub sourceField : Field
+sourceField = field 4 4
+
+abbrev pub handlerField : Field
+handlerField = field 8 4
+
+-- those of the entry of port p: the peer's device, the peer's port, the permissions, and one that has to be zero
+abbrev pub entryField : ℕ → ℕ → Field
+entryField p j = field (12 + 4 * p + j) 1
+
+abbrev pub entryFields : ℕ → List Field
+entryFields p = entryField p 0 ∷ entryField p 1 ∷ entryField p 2 ∷ entryField p 3 ∷ []
+
+-- all of them, by place
+abbrev pub ownFields : List Field
+ownFields = kindField ∷ numberField ∷ roleField ∷ portsField ∷ sourceField ∷ handlerField ∷ []
+
+unfoldable pub deviceFields : List Field
+deviceFields = ownFields ++ joined 8 entryFields
+
+-- what they hold
 abbrev pub roleIn : List ℕ → ℕ
-roleIn s = byte s 2
+roleIn s = numberIn s roleField
 
 abbrev pub portsIn : List ℕ → ℕ
-portsIn s = byte s 3
+portsIn s = numberIn s portsField
 
 abbrev pub sourceIn : List ℕ → ℕ
-sourceIn s = four s 4
+sourceIn s = numberIn s sourceField
 
 abbrev pub handlerIn : List ℕ → ℕ
-handlerIn s = four s 8
+handlerIn s = numberIn s handlerField
+
+abbrev pub entry : List ℕ → ℕ → ℕ → ℕ
+entry s p j = numberIn s (entryField p j)
 
 -- a node (0) has one port, a router (1) one to eight; there is no other role
 unfoldable pub portsFit : ℕ → ℕ → Bool
@@ -59,10 +70,6 @@ portsFit role ports = cond (eqb role 0) (eqb ports 1) (eqb role 1 && leb 1 ports
 -- a node's masks have no common bit, a router's are both 0
 unfoldable pub masksFit : ℕ → ℕ → ℕ → Bool
 masksFit role source handler = cond (eqb role 0) (eqb (bitAnd source handler) 0) (eqb source 0 && eqb handler 0)
-
--- byte j of the entry of port p
-abbrev pub entry : List ℕ → ℕ → ℕ → ℕ
-entry s p j = byte s (12 + 4 * p + j)
 
 -- 255, 255, 0, 0
 unfoldable pub unconnected : List ℕ → ℕ → Bool

@@ -1,47 +1,75 @@
--- No rule: the file of a plan, byte by byte, as the writer writes it. Nothing here has to be believed; `BothWays` proves that it is the one
+-- No rule: the file of a plan as the writer writes it, number by number. Nothing here has to be believed; `BothWays` proves that it is the one
 -- accepted file of the plan.
 use mathlib.Core.Bool.{cond}
 use mathlib.Core.List.{List, [], _∷_, _++_}
-use Prim.Native.Nat.{ℕ, _+_, _-_, _*_, _/_, _%_}
+use Prim.Native.Nat.{ℕ, zero, suc, _+_, _*_, _/_, _%_}
 use lib.Dec.{eqb}
-use lib.ListN.{length, replicate}
+use lib.ListN.{set, replicate}
 use Rattle.areas.specs.Table.{joined}
-use Rattle.plan.specs.Block.{check}
-use Rattle.plan.specs.Fields.{nobody}
+use Rattle.plan.specs.Block.{Field, check, checkField}
+use Rattle.plan.specs.Fields.{entryFields, ownFields, nobody}
+use Rattle.plan.specs.Header.{headerFields, headerOf, headerNumbers}
 use Rattle.plan.specs.declared.Core.{Core}
+use Rattle.plan.specs.declared.Header.{Header}
 use Rattle.plan.specs.declared.Plan.{Plan}
 use Rattle.plan.specs.Memory.{at, peerAt}
 
--- numbers of two and of four bytes, the low one first
-abbrev pub twoBytes : ℕ → List ℕ
-twoBytes n = n % 256 ∷ n / 256 ∷ []
+-- ---- numbers in a block
 
-abbrev pub fourBytes : ℕ → List ℕ
-fourBytes n = n % 256 ∷ n / 256 % 256 ∷ n / 65536 % 256 ∷ n / 16777216 ∷ []
+-- a number of so many bytes put from byte i on, the low one first
+unfoldable pub putNumber : List ℕ → ℕ → ℕ → ℕ → List ℕ
+putNumber s i zero n = s
+putNumber s i (suc w) n = putNumber (set s i (n % 256)) (i + 1) w (n / 256)
 
--- the entry of a port
-unfoldable pub entryBytes : ℕ → ℕ → List ℕ
-entryBytes peer permissions = cond (eqb peer nobody) (255 ∷ 255 ∷ 0 ∷ 0 ∷ []) (peer / 8 ∷ peer % 8 ∷ permissions ∷ 0 ∷ [])
+-- a field and the number that it is to hold
+pub record Holding : Type 0 where
+  pub into : Field
+  pub number : ℕ
 
--- the fields of block 0, and those of the block of device d: its numbers, then its entries
-unfoldable pub headerBytes : Core → List ℕ
-headerBytes core = 1 ∷ core .devices ∷ twoBytes (at (core .loads) 1) ++ twoBytes (at (core .loads) 0)
+abbrev pub holdings : List Field → List ℕ → List Holding
+holdings [] numbers = []
+holdings (f ∷ fields) [] = []
+holdings (f ∷ fields) (n ∷ numbers) = record { into = f; number = n } ∷ holdings fields numbers
 
-unfoldable pub numberBytes : ℕ → ℕ → ℕ → ℕ → ℕ → List ℕ
-numberBytes d role ports source handler = 2 ∷ d ∷ role ∷ ports ∷ fourBytes source ++ fourBytes handler
+-- each number is put at its field
+abbrev pub filled : List ℕ → List Holding → List ℕ
+filled s [] = s
+filled s (h ∷ hs) = filled (putNumber s (h .into .place) (h .into .width) (h .number)) hs
 
-unfoldable pub deviceBytes : Core → List (List ℕ) → ℕ → List ℕ
-deviceBytes core peers d =
-    numberBytes d (at (core .role) d) (at (core .ports) d) (at (core .source) d) (at (core .handler) d)
-    ++ joined 8 (λ p. entryBytes (peerAt peers d p) (at (core .permissions) (8 * d + p)))
+-- ---- blocks
 
--- a block: its fields, zeros up to byte 509, and the check
-unfoldable pub padded : List ℕ → List ℕ
-padded fields = fields ++ replicate (510 - length fields) 0
+unfoldable pub cleared : List ℕ
+cleared = replicate 512 0
 
 unfoldable pub sealed : List ℕ → List ℕ
-sealed fields = padded fields ++ twoBytes (check (padded fields))
+sealed s = putNumber s (checkField .place) (checkField .width) (check s)
 
--- the file
+-- a block that holds these numbers, zeros in all other bytes, and its check
+abbrev pub blockOf : List Holding → List ℕ
+blockOf hs = sealed (filled cleared hs)
+
+abbrev pub headerHoldings : Header → List Holding
+headerHoldings h = holdings headerFields (headerNumbers h)
+
+-- the entry of a port
+abbrev pub entryNumbers : ℕ → ℕ → List ℕ
+entryNumbers peer permissions = cond (eqb peer nobody) 255 (peer / 8) ∷ cond (eqb peer nobody) 255 (peer % 8) ∷ permissions ∷ 0 ∷ []
+
+-- the block of device d: its own numbers, then its entries
+abbrev pub ownHoldings : ℕ → ℕ → ℕ → ℕ → ℕ → List Holding
+ownHoldings d role ports source handler = holdings ownFields (2 ∷ d ∷ role ∷ ports ∷ source ∷ handler ∷ [])
+
+abbrev pub entryHoldings : ℕ → ℕ → ℕ → List Holding
+entryHoldings p peer permissions = holdings (entryFields p) (entryNumbers peer permissions)
+
+unfoldable pub deviceHoldings : Core → List (List ℕ) → ℕ → List Holding
+deviceHoldings core peers d =
+    ownHoldings d (at (core .role) d) (at (core .ports) d) (at (core .source) d) (at (core .handler) d)
+    ++ joined 8 (λ p. entryHoldings p (peerAt peers d p) (at (core .permissions) (8 * d + p)))
+
+-- ---- the file
+
 unfoldable pub fileOf : Plan → List ℕ
-fileOf plan = sealed (headerBytes (plan .core)) ++ joined (plan .core .devices) (λ d. sealed (deviceBytes (plan .core) (plan .peers) d))
+fileOf plan =
+    blockOf (headerHoldings (headerOf (plan .core)))
+    ++ joined (plan .core .devices) (λ d. blockOf (deviceHoldings (plan .core) (plan .peers) d))

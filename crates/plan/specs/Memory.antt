@@ -6,7 +6,8 @@ use Prim.Native.Nat.{ℕ, _+_, _*_}
 use lib.Dec.{eqb, ltb, leb}
 use lib.ListN.{getD}
 use Rattle.areas.specs.Table.{every}
-use Rattle.plan.specs.Fields.{devicesFit, loadsFit, portsFit, masksFit, nobody, joins}
+use Rattle.plan.specs.Fields.{portsFit, masksFit, nobody, joins}
+use Rattle.plan.specs.Header.{headerOf, headerFits}
 use Rattle.plan.specs.declared.Core.{Core}
 use Rattle.plan.specs.declared.Plan.{Plan}
 
@@ -36,7 +37,6 @@ rowRight core peers d =
 -- the whole plan
 unfoldable pub right : Plan → Bool
 right plan =
-    devicesFit (plan .core .devices)
-    && loadsFit (at (plan .core .loads) 1) (at (plan .core .loads) 0)
+    headerFits (headerOf (plan .core))
     && every 32 (rowRight (plan .core) (plan .peers))
     && every (plan .core .devices) (λ d. every 8 (joins (at (plan .core .ports)) (peerAt (plan .peers)) d))

@@ -1,13 +1,14 @@
 -- RULES, "Plan file": the plan that a file holds, and what the reader answers.
 use mathlib.Core.Path.{_≡_}
 use mathlib.Core.Bool.{cond}
-use mathlib.Core.List.{List, [], _∷_}
+use mathlib.Core.List.{List}
 use Prim.Native.Nat.{ℕ, _/_, _%_, _<_}
 use lib.Dec.{eqb, ltb}
 use lib.ListN.{getD, replicate}
 use Rattle.areas.specs.Table.{table}
 use Rattle.plan.specs.Block.{block}
-use Rattle.plan.specs.Fields.{routerLoadIn, nodeLoadIn, roleIn, sourceIn, handlerIn, entry, nobody}
+use Rattle.plan.specs.Fields.{roleIn, sourceIn, handlerIn, entry, nobody}
+use Rattle.plan.specs.Header.{headerIn, noHeader, coreWith}
 use Rattle.plan.specs.Refusals.{accepts, verdict, countIn, deviceBlock, portsOf, peerOf}
 use Rattle.plan.specs.declared.Plan.{Plan}
 use Rattle.plan.specs.declared.Read.{Read}
@@ -18,22 +19,18 @@ use Rattle.plan.specs.declared.Read.{Read}
 unfoldable pub column : ℕ → (ℕ → ℕ) → List ℕ
 column n f = table 32 (λ d. cond (ltb d n) (f d) 0)
 
--- loads stand by role, the node's first; permissions by port 8 x d + p; peers by device and port. Absent devices have 0 and no peers;
--- the entries of absent ports say the same
+-- permissions stand by port 8 x d + p; peers by device and port. Absent devices have 0 and no peers; the entries of absent ports say the same
 unfoldable pub planOf : List ℕ → Plan
 planOf file =
     let n = countIn file in
     record {
       core =
-          record {
-            devices = n;
-            loads = nodeLoadIn (block file 0) ∷ routerLoadIn (block file 0) ∷ [];
-            role = column n (λ d. roleIn (deviceBlock file d));
-            ports = column n (portsOf file);
-            source = column n (λ d. sourceIn (deviceBlock file d));
-            handler = column n (λ d. handlerIn (deviceBlock file d));
-            permissions = table 256 (λ q. cond (ltb (q / 8) n) (entry (deviceBlock file (q / 8)) (q % 8) 2) 0);
-          };
+          coreWith (headerIn (block file 0))
+          (column n (λ d. roleIn (deviceBlock file d)))
+          (column n (portsOf file))
+          (column n (λ d. sourceIn (deviceBlock file d)))
+          (column n (λ d. handlerIn (deviceBlock file d)))
+          (table 256 (λ q. cond (ltb (q / 8) n) (entry (deviceBlock file (q / 8)) (q % 8) 2) 0));
       peers = table 32 (λ d. table 8 (λ p. cond (ltb d n) (peerOf file d p) nobody));
     }
 
@@ -41,16 +38,7 @@ planOf file =
 unfoldable pub zeros : Plan
 zeros =
     record {
-      core =
-          record {
-            devices = 0;
-            loads = replicate 2 0;
-            role = replicate 32 0;
-            ports = replicate 32 0;
-            source = replicate 32 0;
-            handler = replicate 32 0;
-            permissions = replicate 256 0;
-          };
+      core = coreWith noHeader (replicate 32 0) (replicate 32 0) (replicate 32 0) (replicate 32 0) (replicate 256 0);
       peers = replicate 32 (replicate 8 0);
     }
 

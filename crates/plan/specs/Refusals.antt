@@ -5,8 +5,9 @@ use Prim.Native.Nat.{ℕ, _+_, _*_, _%_}
 use lib.Dec.{eqb, leb}
 use lib.ListN.{length}
 use Rattle.areas.specs.Table.{table, joined}
-use Rattle.plan.specs.Block.{block, byte}
-use Rattle.plan.specs.Fields.{checked, zerosFrom, devicesIn, headerFits, portsIn, deviceFits, peerIn, joins}
+use Rattle.plan.specs.Block.{block, numberIn, restZero, checked, kindField}
+use Rattle.plan.specs.Fields.{numberField, deviceFields, portsIn, deviceFits, peerIn, joins}
+use Rattle.plan.specs.Header.{devicesField, headerFields, headerIn, headerFits}
 
 -- a test: the number and the block that it is refused with, and whether the file passes
 pub record Test : Type 0 where
@@ -34,18 +35,22 @@ first (t ∷ ts) = cond (t .passes) (first ts) (record { number = t .number; at 
 unfoldable pub lengthFits : List ℕ → Bool
 lengthFits file = leb 512 (length file) && leb (length file) 16896 && eqb (length file % 512) 0
 
--- block 0: the check, byte 0, the fields, the zeros
+-- block 0: the check, the kind, the fields, the bytes in no field
 unfoldable pub headerTests : List ℕ → List Test
 headerTests s =
-    test 21 0 (checked s) ∷ test 22 0 (eqb (byte s 0) 1) ∷ test 23 0 (headerFits s) ∷ test 24 0 (zerosFrom 6 s) ∷ []
+    test 21 0 (checked s)
+    ∷ test 22 0 (eqb (numberIn s kindField) 1)
+    ∷ test 23 0 (headerFits (headerIn s))
+    ∷ test 24 0 (restZero headerFields s)
+    ∷ []
 
--- block 1 + d of n devices: the check, bytes 0 and 1, the fields, the zeros
+-- block 1 + d of n devices: the check, the kind and the number, the fields, the bytes in no field
 unfoldable pub deviceTests : ℕ → ℕ → List ℕ → List Test
 deviceTests n d s =
     test 21 (1 + d) (checked s)
-    ∷ test 22 (1 + d) (eqb (byte s 0) 2 && eqb (byte s 1) d)
+    ∷ test 22 (1 + d) (eqb (numberIn s kindField) 2 && eqb (numberIn s numberField) d)
     ∷ test 23 (1 + d) (deviceFits n s)
-    ∷ test 24 (1 + d) (zerosFrom 44 s)
+    ∷ test 24 (1 + d) (restZero deviceFields s)
     ∷ []
 
 -- the connections of device d, by port
@@ -58,7 +63,7 @@ module _ (file : List ℕ) where
   deviceBlock d = block file (1 + d)
 
   abbrev pub countIn : ℕ
-  countIn = devicesIn (block file 0)
+  countIn = numberIn (block file 0) devicesField
 
   abbrev pub portsOf : ℕ → ℕ
   portsOf d = portsIn (deviceBlock d)

@@ -17,11 +17,7 @@ pub fn is_held(plan: Plan) -> bool
     ensures { λ r. ⌜ Decides (Held plan) r ⌝ }
 {
     let core = plan.core;
-    if !fields::devices_fit(core.devices) {
-        return false;
-    }
-    let loads = core.loads;
-    if !fields::loads_fit(loads[1] as usize, loads[0] as usize) {
+    if !crate::header_fits(crate::header_of(core)) {
         return false;
     }
     let peers = crate::peers_of(plan);

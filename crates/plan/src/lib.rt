@@ -1,5 +1,7 @@
 // The plan of a network in memory: its parts, what its fields may hold, and whether a file holds it.
 ghost use mathlib.Core.Path.{_≡_};
+ghost use Rattle.plan.specs.Header.{headerOf, headerFits, coreWith};
+ghost use Rattle.plan.specs.Reading.{zeros};
 
 mod fields;
 mod held;
@@ -22,6 +24,12 @@ pub struct Core {
     pub source: [u32; 32],
     pub handler: [u32; 32],
     pub permissions: [u8; 256],
+}
+
+// The numbers of a plan that block 0 of its file holds, as they stand in Core.
+pub struct Header {
+    pub devices: usize,
+    pub loads: [u16; 2],
 }
 
 // The whole plan. A peer is 8 x its device + its port; 256 is no peer.
@@ -53,4 +61,61 @@ pub fn peers_of(plan: Plan) -> [[u16; 8]; 32]
     ensures { λ r. ⌜ r ≡ plan .peers ⌝ }
 {
     plan.peers
+}
+
+// ---- the numbers that block 0 holds: a number more is a line in each of these
+
+pub fn header_of(core: Core) -> Header
+    ensures { λ r. ⌜ r ≡ headerOf core ⌝ }
+{
+    let loads = core.loads;
+    Header {
+        devices: core.devices,
+        loads: loads,
+    }
+}
+
+pub fn core_with(
+    header: Header,
+    role: [u8; 32],
+    ports: [u8; 32],
+    source: [u32; 32],
+    handler: [u32; 32],
+    permissions: [u8; 256],
+) -> Core
+    ensures { λ r. ⌜ r ≡ coreWith header role ports source handler permissions ⌝ }
+{
+    let loads = header.loads;
+    Core {
+        devices: header.devices,
+        loads: loads,
+        role: role,
+        ports: ports,
+        source: source,
+        handler: handler,
+        permissions: permissions,
+    }
+}
+
+// The plan of all zeros, which stands beside a refusal.
+pub fn blank() -> Plan
+    ensures { λ r. ⌜ r ≡ zeros ⌝ }
+{
+    let header = Header {
+        devices: 0,
+        loads: [0; 2],
+    };
+    let core = core_with(header, [0; 32], [0; 32], [0; 32], [0; 32], [0; 256]);
+    whole(core, [[0; 8]; 32])
+}
+
+// May block 0 hold these?
+pub fn header_fits(header: Header) -> bool
+    ensures { λ r. ⌜ r ≡ headerFits header ⌝ }
+{
+    if !fields::devices_fit(header.devices) {
+        return false;
+    }
+    let loads = header.loads;
+    fields::loads_fit(loads[1] as usize, loads[0] as usize)
 }

@@ -1,4 +1,6 @@
 pub mod Answers
+pub mod Blocks
+pub mod Gaps
 pub mod Joins
 pub mod Marked
 pub mod Places
@@ -6,4 +8,3 @@ pub mod Plans
 pub mod Scans
 pub mod Unique
 pub mod Writes
-pub mod Written

@@ -2,42 +2,34 @@
 use mathlib.Core.Path.{_≡_, sym, ap, ap₂, _∙_}
 use mathlib.Core.Bool.{cond}
 use mathlib.Core.List.{List}
-use Prim.Native.Nat.{ℕ, _+_, _*_, _<_}
+use Prim.Native.Nat.{ℕ, _+_, _*_, _≤_, _<_}
 use native.Mathlib.Omega.{arith}
 use lib.Dec.{eqb}
 use lib.ListN.{drop}
 use lib.Seq.{getD-take, getD-drop}
-use Rattle.plan.specs.Block.{block, byte, two, four}
+use Rattle.plan.specs.Block.{block, byte, numberAt}
 use Rattle.plan.specs.Fields.{entry, nobody, peerIn}
 use Rattle.plan.specs.Refusals.{deviceBlock, countIn}
+use Rattle.plan.proofs.Numbers.{number-same}
 
 module _ (file : List ℕ) (b : ℕ) where
   pub byte-in : (i : ℕ) → i < 512 → byte (block file b) i ≡ byte file (512 * b + i)
   unfolding block
   byte-in i h = getD-take 512 (drop (512 * b) file) i 0 h ∙ getD-drop (512 * b) file i 0
 
-  -- a byte behind place i
-  behind : (i j : ℕ) → i + j < 512 → byte (block file b) (i + j) ≡ byte file (512 * b + i + j)
-  behind i j h = byte-in (i + j) h ∙ ap (byte file) (omega arith)
-
-  pub two-in : (i : ℕ) → i + 1 < 512 → two (block file b) i ≡ two file (512 * b + i)
-  unfolding two
-  two-in i h = ap₂ (λ (x y : ℕ). x + 256 * y) (byte-in i (omega arith)) (behind i 1 h)
-
-  pub four-in : (i : ℕ) → i + 3 < 512 → four (block file b) i ≡ four file (512 * b + i)
-  unfolding four
-  four-in i h = ap₂ (λ (x y : ℕ). x + 65536 * y) (two-in i (omega arith)) (two-in (i + 2) (omega arith) ∙ ap (two file) (omega arith))
+  pub number-in : (i w : ℕ) → i + w ≤ 512 → numberAt (block file b) i w ≡ numberAt file (512 * b + i) w
+  number-in i w h = number-same (block file b) file i (512 * b + i) w (λ k l. byte-in (i + k) (omega arith) ∙ ap (byte file) (omega arith))
 
   pub entry-in : (p j : ℕ) → p < 8 → j < 4 → entry (block file b) p j ≡ byte file (512 * b + 12 + 4 * p + j)
   entry-in p j h g = byte-in (12 + 4 * p + j) (omega arith) ∙ ap (byte file) (omega arith)
 
 -- the peer of port p of device d, of the two bytes that say it
-pub peer-in : (file : List ℕ) (d p x y : ℕ) → p < 8 → x ≡ byte file (512 * (1 + d) + 12 + 4 * p) → y ≡ byte file (512 * (1 + d) + 12 + 4 * p + 1)
+pub peer-in : (file : List ℕ) (d p x y : ℕ) → p < 8 → x ≡ byte file (512 * (1 + d) + 12 + 4 * p + 0) → y ≡ byte file (512 * (1 + d) + 12 + 4 * p + 1)
     → peerIn (deviceBlock file d) p ≡ cond (eqb x 255) nobody (8 * x + y)
 unfolding peerIn
 peer-in file d p x y h e g =
     ap₂ (λ (x y : ℕ). cond (eqb x 255) nobody (8 * x + y))
-    (entry-in file (1 + d) p 0 h (omega arith) ∙ ap (byte file) (omega arith) ∙ sym e)
+    (entry-in file (1 + d) p 0 h (omega arith) ∙ sym e)
     (entry-in file (1 + d) p 1 h (omega arith) ∙ sym g)
 
 -- the number of devices

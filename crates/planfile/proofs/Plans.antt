@@ -1,5 +1,5 @@
 -- The parts of a plan, as the loops make them.
-use mathlib.Core.Path.{_≡_, refl, sym, ap₂, _∙_}
+use mathlib.Core.Path.{_≡_, refl, sym, ap, ap₂, _∙_}
 use mathlib.Core.Bool.{Bool, true, false, cond}
 use mathlib.Core.List.{List}
 use mathlib.Core.Logic.{dite}
@@ -11,9 +11,13 @@ use lib.ListN.{replicate, length-replicate, getD-replicate}
 use borrow.Author.Tests.{lt-ltb, le-ltb}
 use Rattle.areas.specs.Table.{table}
 use Rattle.areas.proofs.Tables.{is-table, same-table}
-use Rattle.plan.specs.Fields.{entry, nobody, peerIn}
-use Rattle.plan.specs.Refusals.{countIn, deviceBlock}
-use Rattle.plan.specs.Reading.{planOf}
+use Rattle.plan.specs.Block.{block}
+use Rattle.plan.specs.Fields.{roleIn, sourceIn, handlerIn, entry, nobody, peerIn}
+use Rattle.plan.specs.Header.{headerIn, coreWith}
+use Rattle.plan.specs.Refusals.{countIn, deviceBlock, portsOf}
+use Rattle.plan.specs.Reading.{column, planOf}
+use Rattle.plan.specs.declared.Core.{Core}
+use Rattle.plan.specs.declared.Header.{Header}
 use Rattle.plan.specs.declared.Plan.{Plan}
 use Rattle.areas.proofs.Filled.{filling}
 
@@ -28,6 +32,17 @@ ports-below q n =
     (λ h. le-ltb q (8 * n) (omega arith) ∙ sym (le-ltb (q / 8) n (omega arith)))
 
 module _ (file : List ℕ) where
+  -- the numbers, of a header and of what was read for each device that it counts
+  pub core-of : {header : Header} {role ports source handler permissions : List ℕ} {core : Core} → header ≡ headerIn (block file 0)
+      → role ≡ column (header .devices) (λ d. roleIn (deviceBlock file d)) → ports ≡ column (header .devices) (portsOf file)
+      → source ≡ column (header .devices) (λ d. sourceIn (deviceBlock file d)) → handler ≡ column (header .devices) (λ d. handlerIn (deviceBlock file d))
+      → permissions ≡ planOf file .core .permissions → core ≡ coreWith header role ports source handler permissions → core ≡ planOf file .core
+  unfolding planOf
+  core-of {header} h role ports source handler permissions core =
+      let n : header .devices ≡ countIn file = ap (λ (k : Header). k .devices) h in
+      let same : (f : ℕ → ℕ) → column (header .devices) f ≡ column (countIn file) f = λ f. ap (λ k. column k f) n in
+      core ∙ (λ i. coreWith (h i) ((role ∙ same _) i) ((ports ∙ same _) i) ((source ∙ same _) i) ((handler ∙ same _) i) (permissions i))
+
   pub permissions-of : {n : ℕ} → n ≡ countIn file → table 256 (filling 0 (λ k. entry (deviceBlock file (k / 8)) (k % 8) 2) (8 * n)) ≡ planOf file .core .permissions
   unfolding planOf
   permissions-of {n} e = same-table 256 _ _ (λ q h. rw (ports-below q n, e))

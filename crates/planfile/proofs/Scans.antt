@@ -6,16 +6,17 @@ use mathlib.Core.Logic.{inl, inr}
 use Prim.Native.Nat.{ℕ, _+_, _-_, _*_, _/_, _≤_, _<_}
 use native.Mathlib.Numerals.{add-one}
 use native.Mathlib.Omega.{arith}
-use lib.Dec.{eqb, leb}
+use lib.Dec.{eqb}
 use lib.ListN.{length, take, drop}
 use borrow.Author.Count.{below-more}
 use borrow.Author.Tests.{lt-ltb, leb-true, eq-eqb, ne-eqb}
 use Rattle.areas.specs.Table.{joined}
-use Rattle.areas.proofs.Tests.{and-left, and-right}
-use Rattle.plan.specs.Block.{block, two}
-use Rattle.plan.specs.Fields.{headerFits, devicesFit, loadsFit}
+use Rattle.areas.proofs.Tests.{and-left}
+use Rattle.plan.specs.Block.{block}
+use Rattle.plan.specs.Header.{headerIn}
 use Rattle.plan.specs.Refusals.{Test, test, Verdict, first, lengthFits, headerTests, deviceTests, deviceBlock, countIn}
 use Rattle.plan.proofs.Firsts.{AllPass, Stops, here, Numbered, passes-or-stops, first-stops, first-accepts, accepts-all, stops-front, stops-back, all-append, all-joined, stops-joined}
+use Rattle.plan.proofs.Good.{devices-fit, header-says}
 use Rattle.planfile.specs.Scan.{ofDevice, blockTests, refusalIn, placeOf, deviceScan, scanTests, scanned}
 use Rattle.planfile.specs.declared.reader.Place.{Place}
 use Rattle.planfile.proofs.Marked.{Each, stops-each, first-behind}
@@ -139,11 +140,8 @@ module _ (file : List ℕ) where
 
     module _ (p : AllPass header) where
       pub few : countIn file ≤ 32
-      unfolding headerTests headerFits devicesFit
-      few =
-          let n = countIn file in
-          let s = block file 0 in
-          leb-true n 32 (and-right (leb 1 n) (leb n 32) (and-left (devicesFit n) (loadsFit (two s 2) (two s 4)) (p .1 .1 .0)))
+      unfolding headerTests
+      few = devices-fit (countIn file) (header-says (headerIn (block file 0)) (p .1 .1 .0) .0) .1
 
       pub stops-counted : (length file ≡ 512 * (1 + countIn file) → ⊥) → place 25 0 ≡ scanned file
       unfolding scanned scanTests

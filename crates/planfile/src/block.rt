@@ -1,11 +1,17 @@
-// One block of a plan file: its check, its fields, and the refusal that it gets by itself.
+// Any block of a plan file: its numbers, its check, its zeros, and how they are read and written.
 ghost use mathlib.Core.Path.{_≡_};
 ghost use Prim.Native.Nat.{_+_, _<_, _≤_};
 ghost use lib.ListN.{length};
-ghost use Rattle.plan.specs.Block.{two as Block·two, four as Block·four, check as Block·check};
-ghost use Rattle.plan.specs.Fields.{checked as Fields·checked, zerosFrom, headerFits, unconnected as Fields·unconnected, connected as Fields·connected, entryFits, deviceFits};
-ghost use Rattle.plan.specs.Refusals.{first, headerTests, deviceTests};
-ghost use Rattle.areas.specs.Table.{every};
+ghost use Rattle.plan.specs.Block.{numberAt, check as Block·check, checked as Block·checked};
+ghost use Rattle.plan.specs.File.{putNumber, cleared, sealed};
+ghost use Rattle.planfile.specs.Zeros.{zerosIn};
+
+// How long a block is, and where two of its fields stand: its kind, and its check, which is the last.
+pub(crate) const BLOCK: usize = 512;
+
+pub(crate) const KIND: usize = 0;
+
+pub(crate) const CHECK: usize = 510;
 
 // A byte as a number that can be counted with.
 pub(crate) fn wide(x: u8) -> usize
@@ -15,16 +21,18 @@ pub(crate) fn wide(x: u8) -> usize
 }
 
 // The same for the sum, which fits 32 bits: several at a time are then added.
-fn narrow(x: u8) -> u32
+pub(crate) fn narrow(x: u8) -> u32
     ensures { λ r. ⌜ (r ≡ x) × (r < 256) ⌝ }
 {
     x as u32
 }
 
-// The number of two bytes from i on, the low one first.
+// ---- numbers: the low byte stands first
+
+// The number of two bytes from i on.
 pub(crate) fn two(block: &[u8], i: usize) -> usize
     requires { ⌜ i + 1 < length (now block) ⌝ }
-    ensures { λ r. ⌜ (r ≡ Block·two (now (block .entry)) i) × (r < 65536) ⌝ }
+    ensures { λ r. ⌜ (r ≡ numberAt (now (block .entry)) i 2) × (r < 65536) ⌝ }
 {
     wide(block[i]) + 256 * wide(block[i + 1])
 }
@@ -32,167 +40,78 @@ pub(crate) fn two(block: &[u8], i: usize) -> usize
 // The number of four bytes from i on.
 pub(crate) fn four(block: &[u8], i: usize) -> u32
     requires { ⌜ i + 3 < length (now block) ⌝ }
-    ensures { λ r. ⌜ r ≡ Block·four (now (block .entry)) i ⌝ }
+    ensures { λ r. ⌜ r ≡ numberAt (now (block .entry)) i 4 ⌝ }
 {
     let low = two(block, i);
     let high = two(block, i + 2);
     (low + 65536 * high) as u32
 }
 
-// The weighted sum of the first 510 bytes, which 510 and 511 have to hold.
+// Puts a number of so many bytes from i on; of a larger one the lowest bytes.
+pub(crate) fn put(block: &mut [u8], i: usize, width: usize, number: u32)
+    requires { ⌜ i + width ≤ length (now block) ⌝ }
+    ensures { λ _. ⌜ now (block .exit) ≡ putNumber (now (block .entry)) i width number ⌝ }
+{
+    let mut left = number;
+    for j in 0..width {
+        block[i + j] = (left % 256) as u8;
+        left = left / 256;
+    }
+}
+
+// ---- the check
+
+// The weighted sum of the bytes before it, which the check has to be.
 pub(crate) fn check(block: &[u8]) -> usize
     requires { ⌜ 510 ≤ length (now block) ⌝ }
     ensures { λ r. ⌜ (r ≡ Block·check (now (block .entry))) × (r < 65521) ⌝ }
 {
     let mut sum: u32 = 0;
-    for i in 0..510 {
+    for i in 0..CHECK {
         sum += (i as u32 + 1) * narrow(block[i]);
     }
     (sum % 65521) as usize
 }
 
-fn checked(block: &[u8]) -> bool
+pub(crate) fn checked(block: &[u8]) -> bool
     requires { ⌜ length (now block) ≡ 512 ⌝ }
-    ensures { λ r. ⌜ r ≡ Fields·checked (now (block .entry)) ⌝ }
+    ensures { λ r. ⌜ r ≡ Block·checked (now (block .entry)) ⌝ }
 {
-    two(block, 510) == check(block)
+    two(block, CHECK) == check(block)
 }
 
-// Are the bytes from one on, up to 509, zero? Their sum is, and several at a time are added, where a
-// search for one that is not would look at each.
-fn zeros_from(from: usize, block: &[u8]) -> bool
-    requires { ⌜ from ≤ 510 ⌝ }
+// Puts the check behind all other bytes.
+pub(crate) fn seal(block: &mut [u8])
     requires { ⌜ length (now block) ≡ 512 ⌝ }
-    ensures { λ r. ⌜ r ≡ zerosFrom from (now (block .entry)) ⌝ }
+    ensures { λ _. ⌜ now (block .exit) ≡ sealed (now (block .entry)) ⌝ }
+{
+    let sum = check(block) as u32;
+    put(block, CHECK, 2, sum);
+}
+
+// ---- zeros
+
+// Are the bytes from one on up to another, which is not looked at, zero? Their sum is, and several at a
+// time are added, where a search for one that is not would look at each.
+pub(crate) fn zeros(from: usize, to: usize, block: &[u8]) -> bool
+    requires { ⌜ (from ≤ to) × (to ≤ 510) ⌝ }
+    requires { ⌜ length (now block) ≡ 512 ⌝ }
+    ensures { λ r. ⌜ r ≡ zerosIn from to (now (block .entry)) ⌝ }
 {
     let mut sum: u32 = 0;
-    for i in from..510 {
+    for i in from..to {
         sum += narrow(block[i]);
     }
     sum == 0
 }
 
-fn header_fits(block: &[u8]) -> bool
+pub(crate) fn clear(block: &mut [u8])
     requires { ⌜ length (now block) ≡ 512 ⌝ }
-    ensures { λ r. ⌜ r ≡ headerFits (now (block .entry)) ⌝ }
+    ensures { λ _. ⌜ now (block .exit) ≡ cleared ⌝ }
 {
-    if !plan::devices_fit(wide(block[1])) {
-        return false;
+    let mut i = 0;
+    while i < block.len() {
+        block[i] = 0;
+        i += 1;
     }
-    plan::loads_fit(two(block, 2), two(block, 4))
-}
-
-fn unconnected(block: &[u8], p: usize) -> bool
-    requires { ⌜ (p < 8) × (length (now block) ≡ 512) ⌝ }
-    ensures { λ r. ⌜ r ≡ Fields·unconnected (now (block .entry)) p ⌝ }
-{
-    let at = 12 + 4 * p;
-    if block[at] != 255 {
-        return false;
-    }
-    if block[at + 1] != 255 {
-        return false;
-    }
-    if block[at + 2] != 0 {
-        return false;
-    }
-    block[at + 3] == 0
-}
-
-fn connected(n: usize, block: &[u8], p: usize) -> bool
-    requires { ⌜ (p < 8) × (length (now block) ≡ 512) ⌝ }
-    ensures { λ r. ⌜ r ≡ Fields·connected n (now (block .entry)) p ⌝ }
-{
-    let at = 12 + 4 * p;
-    if n <= wide(block[at]) {
-        return false;
-    }
-    if 8 <= block[at + 1] {
-        return false;
-    }
-    if 15 < block[at + 2] {
-        return false;
-    }
-    block[at + 3] == 0
-}
-
-fn entry_fits(n: usize, block: &[u8], p: usize) -> bool
-    requires { ⌜ (p < 8) × (length (now block) ≡ 512) ⌝ }
-    ensures { λ r. ⌜ r ≡ entryFits n (now (block .entry)) p ⌝ }
-{
-    if wide(block[3]) <= p {
-        return unconnected(block, p);
-    }
-    if connected(n, block, p) {
-        return true;
-    }
-    unconnected(block, p)
-}
-
-fn entries_fit(n: usize, block: &[u8]) -> bool
-    requires { ⌜ length (now block) ≡ 512 ⌝ }
-    ensures { λ r. ⌜ r ≡ every 8 (entryFits n (now (block .entry))) ⌝ }
-{
-    for p in 0..8 {
-        if !entry_fits(n, block, p) {
-            return false;
-        }
-    }
-    true
-}
-
-fn device_fits(n: usize, block: &[u8]) -> bool
-    requires { ⌜ length (now block) ≡ 512 ⌝ }
-    ensures { λ r. ⌜ r ≡ deviceFits n (now (block .entry)) ⌝ }
-{
-    if !plan::ports_fit(block[2], block[3]) {
-        return false;
-    }
-    if !plan::masks_fit(block[2], four(block, 4), four(block, 8)) {
-        return false;
-    }
-    entries_fit(n, block)
-}
-
-// The refusal that block 0 gets by itself, or 0.
-pub(crate) fn header_refusal(block: &[u8]) -> u32
-    requires { ⌜ length (now block) ≡ 512 ⌝ }
-    ensures { λ r. ⌜ r ≡ first (headerTests (now (block .entry))) .number ⌝ }
-{
-    if !checked(block) {
-        return 21;
-    }
-    if block[0] != 1 {
-        return 22;
-    }
-    if !header_fits(block) {
-        return 23;
-    }
-    if !zeros_from(6, block) {
-        return 24;
-    }
-    0
-}
-
-// The refusal that the block of device d, of n, gets by itself, or 0.
-pub(crate) fn device_refusal(n: usize, d: usize, block: &[u8]) -> u32
-    requires { ⌜ length (now block) ≡ 512 ⌝ }
-    ensures { λ r. ⌜ r ≡ first (deviceTests n d (now (block .entry))) .number ⌝ }
-{
-    if !checked(block) {
-        return 21;
-    }
-    if block[0] != 2 {
-        return 22;
-    }
-    if wide(block[1]) != d {
-        return 22;
-    }
-    if !device_fits(n, block) {
-        return 23;
-    }
-    if !zeros_from(44, block) {
-        return 24;
-    }
-    0
 }

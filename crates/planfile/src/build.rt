@@ -3,38 +3,23 @@ ghost use mathlib.Core.Path.{_≡_};
 ghost use Prim.Native.Nat.{_+_, _*_, _<_, _≤_};
 ghost use lib.ListN.{length};
 ghost use Rattle.areas.specs.Table.{table};
-ghost use Rattle.plan.specs.Block.{byte, four};
+ghost use Rattle.plan.specs.Block.{numberAt};
 ghost use Rattle.plan.specs.Fields.{peerIn};
 ghost use Rattle.plan.specs.Refusals.{deviceBlock, countIn};
-ghost use Rattle.plan.specs.Reading.{column as Reading·column, planOf, zeros};
+ghost use Rattle.plan.specs.Reading.{column as Reading·column, planOf};
 use crate::block;
+use crate::device;
+use crate::header;
 use plan::Core;
-use plan::Plan;
-
-// The plan of all zeros, which stands beside a refusal.
-pub(crate) fn blank() -> Plan
-    ensures { λ r. ⌜ r ≡ zeros ⌝ }
-{
-    let core = Core {
-        devices: 0,
-        loads: [0; 2],
-        role: [0; 32],
-        ports: [0; 32],
-        source: [0; 32],
-        handler: [0; 32],
-        permissions: [0; 256],
-    };
-    plan::whole(core, [[0; 8]; 32])
-}
 
 // Byte i of each device's block.
 fn column(file: &[u8], n: usize, i: usize) -> [u8; 32]
     requires { ⌜ (n ≤ 32) × (i < 512) × (length (now file) ≡ 512 * (1 + n)) ⌝ }
-    ensures { λ r. ⌜ r ≡ Reading·column n (λ d. byte (deviceBlock (now (file .entry)) d) i) ⌝ }
+    ensures { λ r. ⌜ r ≡ Reading·column n (λ d. numberAt (deviceBlock (now (file .entry)) d) i 1) ⌝ }
 {
     let mut out = [0u8; 32];
     for d in 0..n {
-        out[d] = file[512 * (1 + d) + i];
+        out[d] = file[block::BLOCK * (1 + d) + i];
     }
     out
 }
@@ -42,11 +27,11 @@ fn column(file: &[u8], n: usize, i: usize) -> [u8; 32]
 // The number of four bytes from i on of each device's block.
 fn masks(file: &[u8], n: usize, i: usize) -> [u32; 32]
     requires { ⌜ (n ≤ 32) × (i + 3 < 512) × (length (now file) ≡ 512 * (1 + n)) ⌝ }
-    ensures { λ r. ⌜ r ≡ Reading·column n (λ d. four (deviceBlock (now (file .entry)) d) i) ⌝ }
+    ensures { λ r. ⌜ r ≡ Reading·column n (λ d. numberAt (deviceBlock (now (file .entry)) d) i 4) ⌝ }
 {
     let mut out = [0u32; 32];
     for d in 0..n {
-        out[d] = block::four(file, 512 * (1 + d) + i);
+        out[d] = block::four(file, block::BLOCK * (1 + d) + i);
     }
     out
 }
@@ -58,7 +43,10 @@ fn permissions(file: &[u8], n: usize) -> [u8; 256]
 {
     let mut out = [0u8; 256];
     for q in 0..8 * n {
-        out[q] = file[512 * (1 + q / 8) + 12 + 4 * (q % 8) + 2];
+        out[q] = file[block::BLOCK * (1 + q / 8)
+            + device::ENTRIES
+            + 4 * (q % 8)
+            + device::PERMISSIONS];
     }
     out
 }
@@ -68,21 +56,14 @@ pub(crate) fn core_of(file: &[u8]) -> Core
     requires { ⌜ (countIn (now file) ≤ 32) × (length (now file) ≡ 512 * (1 + countIn (now file))) ⌝ }
     ensures { λ r. ⌜ r ≡ planOf (now (file .entry)) .core ⌝ }
 {
-    let n = block::wide(file[1]);
-    let role = column(file, n, 2);
-    let ports = column(file, n, 3);
-    let source = masks(file, n, 4);
-    let handler = masks(file, n, 8);
+    let header = header::read(&file[0..512]);
+    let n = header.devices;
+    let role = column(file, n, device::ROLE);
+    let ports = column(file, n, device::PORTS);
+    let source = masks(file, n, device::SOURCE);
+    let handler = masks(file, n, device::HANDLER);
     let permissions = permissions(file, n);
-    Core {
-        devices: n,
-        loads: [block::two(file, 4) as u16, block::two(file, 2) as u16],
-        role: role,
-        ports: ports,
-        source: source,
-        handler: handler,
-        permissions: permissions,
-    }
+    plan::core_with(header, role, ports, source, handler, permissions)
 }
 
 // The peer of port p of device d: 8 x its device + its port, or 256.
@@ -90,12 +71,12 @@ fn peer(file: &[u8], d: usize, p: usize) -> u16
     requires { ⌜ (p < 8) × (512 * (2 + d) ≤ length (now file)) ⌝ }
     ensures { λ r. ⌜ r ≡ peerIn (deviceBlock (now (file .entry)) d) p ⌝ }
 {
-    let at = 512 * (1 + d) + 12 + 4 * p;
-    let device = block::wide(file[at]);
+    let at = block::BLOCK * (1 + d) + device::ENTRIES + 4 * p;
+    let device = block::wide(file[at + device::PEER_DEVICE]);
     if device == 255 {
         return 256;
     }
-    (8 * device + block::wide(file[at + 1])) as u16
+    (8 * device + block::wide(file[at + device::PEER_PORT])) as u16
 }
 
 // The peers of a device's ports.
@@ -115,7 +96,7 @@ pub(crate) fn peers_of(file: &[u8]) -> [[u16; 8]; 32]
     requires { ⌜ (countIn (now file) ≤ 32) × (length (now file) ≡ 512 * (1 + countIn (now file))) ⌝ }
     ensures { λ r. ⌜ r ≡ planOf (now (file .entry)) .peers ⌝ }
 {
-    let n = block::wide(file[1]);
+    let n = block::wide(file[header::DEVICES]);
     let mut out = [[256u16; 8]; 32];
     for d in 0..n {
         out[d] = peer_row(file, d);

@@ -7,7 +7,12 @@ ghost use Rattle.plan.specs.Reading.{reads};
 ghost use Rattle.planfile.specs.Scan.{refusalIn, scanned, deviceScan};
 use crate::block;
 use crate::build;
+use crate::device;
+use crate::header;
 use plan::Read;
+
+// The length of the longest file: block 0, and 32 devices.
+const MOST: usize = 16896;
 
 // The reader knows the file and the block that it has come to.
 pub struct Reader<'a> {
@@ -26,15 +31,15 @@ pub struct Place {
 fn refusal_in(file: &[u8], b: usize) -> u32
     ensures { λ r. ⌜ r ≡ refusalIn (now (file .entry)) b ⌝ }
 {
-    if file.len() / 512 <= b {
+    if file.len() / block::BLOCK <= b {
         return 20;
     }
-    let start = 512 * b;
-    let end = start + 512;
+    let start = block::BLOCK * b;
+    let end = start + block::BLOCK;
     if b == 0 {
-        return block::header_refusal(&file[start..end]);
+        return header::refusal(&file[start..end]);
     }
-    block::device_refusal(block::wide(file[1]), b - 1, &file[start..end])
+    device::refusal(block::wide(file[header::DEVICES]), b - 1, &file[start..end])
 }
 
 fn at<'a>(file: &'a [u8], block: usize) -> Reader<'a>
@@ -60,13 +65,13 @@ fn length_fits(file: &[u8]) -> bool
     ensures { λ r. ⌜ r ≡ lengthFits (now (file .entry)) ⌝ }
 {
     let n = file.len();
-    if n < 512 {
+    if n < block::BLOCK {
         return false;
     }
-    if 16896 < n {
+    if MOST < n {
         return false;
     }
-    n % 512 == 0
+    n % block::BLOCK == 0
 }
 
 // The first refusal among the blocks of n devices.
@@ -106,8 +111,8 @@ fn scan(file: &[u8]) -> Place
             block: 0,
         };
     }
-    let n = block::wide(file[1]);
-    if file.len() != 512 * (1 + n) {
+    let n = block::wide(file[header::DEVICES]);
+    if file.len() != block::BLOCK * (1 + n) {
         return Place {
             number: 25,
             block: 0,
@@ -115,13 +120,14 @@ fn scan(file: &[u8]) -> Place
     }
     scan_devices(file, n)
 }
+
 // Reads a plan file, of any length and any bytes.
 pub fn read(file: &[u8]) -> Read
     ensures { λ r. ⌜ r ≡ reads (now (file .entry)) ⌝ }
 {
     let place = scan(file);
     if place.number != 0 {
-        let plan = build::blank();
+        let plan = plan::blank();
         return Read {
             number: place.number,
             block: place.block,
@@ -133,7 +139,7 @@ pub fn read(file: &[u8]) -> Read
     let ports = core.ports;
     let bad = plan::bad_block(core.devices, ports, peers);
     if bad != 0 {
-        let plan = build::blank();
+        let plan = plan::blank();
         return Read {
             number: 26,
             block: bad,

@@ -1,5 +1,5 @@
 use borrow.Author.Needs.{needs}
-use Rattle.plan.specs.Fields.{checked}
+use Rattle.plan.specs.Block.{checked}
 use Rattle.planfile.proofs.block.checked.Statement.{statement}
 use Rattle.planfile.proofs.block.checked.Tie as tie
 

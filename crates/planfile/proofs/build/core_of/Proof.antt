@@ -1,21 +1,33 @@
-use mathlib.Core.Path.{_≡_, sym, _∙_}
+use mathlib.Core.Path.{_≡_, ap}
 use native.Mathlib.Omega.{arith}
 use borrow.Author.Needs.{needs}
-use Rattle.plan.specs.Reading.{planOf}
+use Rattle.plan.specs.Block.{block}
 use Rattle.plan.specs.Refusals.{countIn}
-use Rattle.planfile.proofs.Places.{count-in, two-in}
+use Rattle.plan.specs.Header.{headerIn, same-header}
+use Rattle.plan.specs.declared.Header.{Header}
+use Rattle.planfile.proofs.Plans.{core-of}
 use Rattle.planfile.proofs.build.core_of.Statement.{statement}
 use Rattle.planfile.proofs.build.core_of.Tie as tie
 
--- byte 1 is the number of devices
-counted : (c : tie.After-wide) → c .wide .result ≡ countIn (c .before .before .before .args .file .now)
-counted c = c .wide .ensures .0 ∙ sym (count-in (c .before .before .before .args .file .now))
+-- what was read of block 0
+header : (c : tie.After-read) → c .read .result ≡ headerIn (block (c .before .before .before .args .file .now) 0)
+unfolding block
+header c = same-header (c .read .ensures)
 
-shared-slice-read-wide : tie.Need-shared-slice-read-wide
-shared-slice-read-wide c = search needs
+counted : (c : tie.After-read) → c .read .result .devices ≡ countIn (c .before .before .before .args .file .now)
+counted c = ap (λ (h : Header). h .devices) (header c)
 
-wide-requires : tie.Need-wide-requires
-wide-requires c κs = search needs
+sub-read : tie.Need-sub-read
+sub-read c = search needs
+
+part-read-start : tie.Need-part-read-start
+part-read-start c = search needs
+
+part-read-end : tie.Need-part-read-end
+part-read-end c = search needs
+
+read-requires : tie.Need-read-requires
+read-requires c κs = search needs
 
 column-requires : tie.Need-column-requires
 column-requires c κs = let e = counted (c) in (omega arith, omega arith, omega arith)
@@ -32,35 +44,29 @@ masks-requires-2 c κs = let e = counted (c .before .before .before) in (omega a
 permissions-requires : tie.Need-permissions-requires
 permissions-requires c κs = let e = counted (c .before .before .before .before) in (omega arith, omega arith, e)
 
-two-requires : tie.Need-two-requires
-two-requires c κs = search needs
-
-cast-t11 : tie.Need-cast-t11
-cast-t11 c = search needs
-
-two-requires-2 : tie.Need-two-requires-2
-two-requires-2 c κs = search needs
-
-cast-t13 : tie.Need-cast-t13
-cast-t13 c = search needs
+core-with-requires : tie.Need-core-with-requires
+core-with-requires c κs = search needs
 
 returns : tie.Need-returns
-unfolding planOf
-returns c = let file = c .before .before .before .before .before .before .before .before .before .before .args .file .now in let e = counted (c .before .before .before .before .before .before .before) in cc (two-in file 0 4 (omega arith), two-in file 0 2 (omega arith))
+returns c =
+    let p = c .before in
+    let m = p .before in
+    let r = m .before .before .before in
+    core-of _ (header (r .before)) (r .column .ensures) (m .before .before .column2 .ensures) (m .before .masks .ensures) (m .masks2 .ensures) (p .permissions .ensures)
+    (c .core-with .ensures)
 
 pub core-of-spec : {M : Type 1} → statement M
 core-of-spec =
     tie.close
     (tie.spec
-    shared-slice-read-wide
-    wide-requires
+    sub-read
+    part-read-start
+    part-read-end
+    read-requires
     column-requires
     column-requires-2
     masks-requires
     masks-requires-2
     permissions-requires
-    two-requires
-    cast-t11
-    two-requires-2
-    cast-t13
+    core-with-requires
     returns)

@@ -4,14 +4,14 @@ use native.Mathlib.Omega.{arith}
 use borrow.Author.Needs.{needs}
 use Rattle.plan.specs.Reading.{column}
 use Rattle.plan.specs.Refusals.{deviceBlock}
-use Rattle.plan.specs.Block.{four}
-use Rattle.planfile.proofs.Places.{four-in}
+use Rattle.plan.specs.Block.{numberAt}
+use Rattle.planfile.proofs.Places.{number-in}
 use Rattle.areas.proofs.Filled.{Filled, filled-none, filled-more, filled-all}
 use Rattle.planfile.proofs.build.masks.Statement.{statement}
 use Rattle.planfile.proofs.build.masks.Tie as tie
 
 abbrev Inv-loop : tie.InvT-loop
-Inv-loop file n i out₀ d₀ out d = Filled 32 n 0 (λ e. four (deviceBlock file e) i) d out
+Inv-loop file n i out₀ d₀ out d = Filled 32 n 0 (λ e. numberAt (deviceBlock file e) i 4) d out
 
 abbrev μ-loop : tie.MeasureT-loop
 μ-loop file n i out₀ d₀ out d = n - d
@@ -44,7 +44,7 @@ loop-less : tie.Need-loop-less Inv-loop μ-loop
 loop-less c = search needs
 
 loop-again : tie.Need-loop-again Inv-loop μ-loop
-loop-again c = let a = c .before .before .before .before .args in filled-more (c .before .before .loop .inv) (c .before .loop-test .taken) (c .four .ensures ∙ sym (four-in (a .file .now) (1 + c .before .before .loop .d) (a .i) (omega arith)))
+loop-again c = let a = c .before .before .before .before .args in filled-more (c .before .before .loop .inv) (c .before .loop-test .taken) (c .four .ensures ∙ sym (number-in (a .file .now) (1 + c .before .before .loop .d) (a .i) 4 (omega arith)))
 
 returns : tie.Need-returns Inv-loop μ-loop
 unfolding column

@@ -21,6 +21,9 @@ mul-at-2 c = search needs
 add-at-3 : tie.Need-add-at-3
 add-at-3 c = search needs
 
+add-wide : tie.Need-add-wide
+add-wide c = search needs
+
 shared-slice-read-wide : tie.Need-shared-slice-read-wide
 shared-slice-read-wide c = search needs
 
@@ -33,8 +36,8 @@ returns c = let a = c .before .before .before .before .args in sym (peer-in (a .
 mul-result : tie.Need-mul-result
 mul-result c = search needs
 
-add-wide : tie.Need-add-wide
-add-wide c = search needs
+add-wide-2 : tie.Need-add-wide-2
+add-wide-2 c = search needs
 
 shared-slice-read-wide-2 : tie.Need-shared-slice-read-wide-2
 shared-slice-read-wide-2 c = search needs
@@ -60,11 +63,12 @@ peer-spec =
     add-at-2
     mul-at-2
     add-at-3
+    add-wide
     shared-slice-read-wide
     wide-requires
     returns
     mul-result
-    add-wide
+    add-wide-2
     shared-slice-read-wide-2
     wide-requires-2
     add-result

@@ -32,22 +32,22 @@ mul-start c = search needs
 add-end : tie.Need-add-end
 add-end c = search needs
 
-sub-header-refusal : tie.Need-sub-header-refusal
-sub-header-refusal c = search needs
+sub-refusal : tie.Need-sub-refusal
+sub-refusal c = search needs
 
-part-header-refusal-start : tie.Need-part-header-refusal-start
-part-header-refusal-start c = search needs
+part-refusal-start : tie.Need-part-refusal-start
+part-refusal-start c = search needs
 
-part-header-refusal-end : tie.Need-part-header-refusal-end
-part-header-refusal-end c = search needs
+part-refusal-end : tie.Need-part-refusal-end
+part-refusal-end c = search needs
 
-header-refusal-requires : tie.Need-header-refusal-requires
-header-refusal-requires c κs = search needs
+refusal-requires : tie.Need-refusal-requires
+refusal-requires c κs = search needs
 
 returns-2 : tie.Need-returns-2
 returns-2 c =
     let a = c .before .before .before .before .before .args in
-    c .header-refusal .ensures ∙ rw part-block (of-header (a .file .now) (a .b) (c .before .before .if2 .taken) (omega arith))
+    c .refusal .ensures ∙ rw part-block (of-header (a .file .now) (a .b) (c .before .before .if2 .taken) (omega arith))
 
 shared-slice-read-wide : tie.Need-shared-slice-read-wide
 shared-slice-read-wide c = search needs
@@ -55,25 +55,25 @@ shared-slice-read-wide c = search needs
 wide-requires : tie.Need-wide-requires
 wide-requires c κs = search needs
 
-sub-device-refusal : tie.Need-sub-device-refusal
-sub-device-refusal c = search needs
+sub-refusal-2 : tie.Need-sub-refusal-2
+sub-refusal-2 c = search needs
 
-sub-device-refusal-2 : tie.Need-sub-device-refusal-2
-sub-device-refusal-2 c = search needs
+sub-refusal-3 : tie.Need-sub-refusal-3
+sub-refusal-3 c = search needs
 
-part-device-refusal-start : tie.Need-part-device-refusal-start
-part-device-refusal-start c = search needs
+part-refusal-start-2 : tie.Need-part-refusal-start-2
+part-refusal-start-2 c = search needs
 
-part-device-refusal-end : tie.Need-part-device-refusal-end
-part-device-refusal-end c = search needs
+part-refusal-end-2 : tie.Need-part-refusal-end-2
+part-refusal-end-2 c = search needs
 
-device-refusal-requires : tie.Need-device-refusal-requires
-device-refusal-requires c κs = search needs
+refusal-requires-2 : tie.Need-refusal-requires-2
+refusal-requires-2 c κs = search needs
 
 returns-3 : tie.Need-returns-3
 returns-3 c =
     let a = c .before .before .before .before .before .before .before .args in
-    c .device-refusal .ensures
+    c .refusal2 .ensures
     ∙ rw (part-block, c .before .before .wide .ensures .0) (of-device (a .file .now) (a .b) (c .before .before .before .before .if2 .left) (omega arith))
 
 pub refusal-in-spec : {M : Type 1} → statement M
@@ -83,16 +83,16 @@ refusal-in-spec =
     returns
     mul-start
     add-end
-    sub-header-refusal
-    part-header-refusal-start
-    part-header-refusal-end
-    header-refusal-requires
+    sub-refusal
+    part-refusal-start
+    part-refusal-end
+    refusal-requires
     returns-2
     shared-slice-read-wide
     wide-requires
-    sub-device-refusal
-    sub-device-refusal-2
-    part-device-refusal-start
-    part-device-refusal-end
-    device-refusal-requires
+    sub-refusal-2
+    sub-refusal-3
+    part-refusal-start-2
+    part-refusal-end-2
+    refusal-requires-2
     returns-3)

@@ -1,9 +1,11 @@
-use mathlib.Core.Path.{refl}
+use mathlib.Core.Path.{refl, ap, _∙_}
 use Prim.Native.Nat.{_-_}
 use native.Mathlib.Omega.{arith}
 use lib.ListN.{length-take, length-drop}
 use borrow.Author.Needs.{needs}
-use Rattle.planfile.proofs.Written.{Blocks, first-block, next-block, whole-file}
+use Rattle.plan.specs.File.{blockOf, headerHoldings}
+use Rattle.plan.specs.declared.Header.{Header}
+use Rattle.planfile.proofs.Blocks.{Blocks, first-block, next-block, whole-file}
 use Rattle.planfile.proofs.writer.put_file.Statement.{statement}
 use Rattle.planfile.proofs.writer.put_file.Tie as tie
 
@@ -13,20 +15,25 @@ Inv-loop core area₀ peers d₀ d-end area d = Blocks core peers area d
 abbrev μ-loop : tie.MeasureT-loop
 μ-loop core area₀ peers d₀ d-end area d = core .devices - d
 
-sub-put-header : tie.Need-sub-put-header Inv-loop μ-loop
-sub-put-header c = search needs
+header-of-requires : tie.Need-header-of-requires Inv-loop μ-loop
+header-of-requires c κs = search needs
 
-part-put-header-start : tie.Need-part-put-header-start Inv-loop μ-loop
-part-put-header-start c = search needs
+sub-put : tie.Need-sub-put Inv-loop μ-loop
+sub-put c = search needs
 
-part-put-header-end : tie.Need-part-put-header-end Inv-loop μ-loop
-part-put-header-end c = search needs
+part-put-start : tie.Need-part-put-start Inv-loop μ-loop
+part-put-start c = search needs
 
-put-header-requires : tie.Need-put-header-requires Inv-loop μ-loop
-put-header-requires c κs = search needs
+part-put-end : tie.Need-part-put-end Inv-loop μ-loop
+part-put-end c = search needs
+
+put-requires : tie.Need-put-requires Inv-loop μ-loop
+put-requires c κs = let e = ap (λ (h : Header). h .devices) (c .before .header-of .ensures) in (omega arith, search needs)
 
 loop-holds : tie.Need-loop-holds Inv-loop μ-loop
-loop-holds c = first-block _ _ (search needs) (c .before .before .put-header .ensures) refl
+loop-holds c =
+    let p = c .before .before in
+    first-block _ _ (search needs) (p .put .ensures ∙ ap (λ (h : Header). blockOf (headerHoldings h)) (p .before .before .header-of .ensures)) refl
 
 add-start : tie.Need-add-start Inv-loop μ-loop
 add-start c = search needs
@@ -37,19 +44,18 @@ mul-start c = search needs
 add-end : tie.Need-add-end Inv-loop μ-loop
 add-end c = search needs
 
-sub-put-device : tie.Need-sub-put-device Inv-loop μ-loop
-sub-put-device c = search needs
+sub-put-2 : tie.Need-sub-put-2 Inv-loop μ-loop
+sub-put-2 c = search needs
 
-part-put-device-start : tie.Need-part-put-device-start Inv-loop μ-loop
-part-put-device-start c = search needs
+part-put-start-2 : tie.Need-part-put-start-2 Inv-loop μ-loop
+part-put-start-2 c = search needs
 
-part-put-device-end : tie.Need-part-put-device-end Inv-loop μ-loop
-part-put-device-end c = search needs
+part-put-end-2 : tie.Need-part-put-end-2 Inv-loop μ-loop
+part-put-end-2 c = search needs
 
-put-device-requires : tie.Need-put-device-requires Inv-loop μ-loop
-put-device-requires c κs =
-    let s = c .before .before .before .before .before .before .before .before .before in
-    (omega arith, s .pre .1, simp (length-take, length-drop) (omega arith))
+put-requires-2 : tie.Need-put-requires-2 Inv-loop μ-loop
+put-requires-2 c κs =
+    (omega arith, simp (length-take, length-drop) (omega arith))
 
 add-d : tie.Need-add-d Inv-loop μ-loop
 add-d c = search needs
@@ -61,7 +67,7 @@ loop-again : tie.Need-loop-again Inv-loop μ-loop
 loop-again c =
     let p = c .before .before in
     let l = p .before .before .before .before in
-    next-block _ _ (l .loop .inv) (omega arith) (p .put-device .ensures) (search needs) refl
+    next-block _ _ (l .loop .inv) (omega arith) (p .put2 .ensures) (search needs) refl
 
 same-length : tie.Need-same-length Inv-loop μ-loop
 same-length c = search needs
@@ -75,18 +81,19 @@ put-file-spec =
     (tie.spec
     Inv-loop
     μ-loop
-    sub-put-header
-    part-put-header-start
-    part-put-header-end
-    put-header-requires
+    header-of-requires
+    sub-put
+    part-put-start
+    part-put-end
+    put-requires
     loop-holds
     add-start
     mul-start
     add-end
-    sub-put-device
-    part-put-device-start
-    part-put-device-end
-    put-device-requires
+    sub-put-2
+    part-put-start-2
+    part-put-end-2
+    put-requires-2
     add-d
     loop-less
     loop-again

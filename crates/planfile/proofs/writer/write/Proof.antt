@@ -5,8 +5,7 @@ use native.Mathlib.Omega.{arith}
 use borrow.Author.Needs.{needs}
 use borrow.Author.Tests.{not-true, not-false}
 use Rattle.plan.specs.File.{fileOf}
-use Rattle.plan.proofs.BothWays.{written-and-read, held-devices, held-peers}
-use Rattle.planfile.specs.Peers.{Peers}
+use Rattle.plan.proofs.BothWays.{written-and-read, held-devices}
 use Rattle.planfile.proofs.Writes.{refused, misfit, done}
 use Rattle.planfile.proofs.writer.write.Statement.{statement}
 use Rattle.planfile.proofs.writer.write.Tie as tie
@@ -38,11 +37,10 @@ peers-of-requires : tie.Need-peers-of-requires
 peers-of-requires c κs = search needs
 
 put-file-requires : tie.Need-put-file-requires
-unfolding Peers
 put-file-requires c κs =
     let t = c .before .before .before .before .before in
     let held = t .before .is-held .ensures .only (not-false _ (t .if1 .left)) in
-    (held-devices _ held .1, rw (c .before .peers-of .ensures) (held-peers _ held), omega arith)
+    (held-devices _ held .1, omega arith)
 
 same-length : tie.Need-same-length
 same-length c = search needs

@@ -1,0 +1,67 @@
+use mathlib.Core.Bool.{true}
+use mathlib.Core.Path.{_≡_}
+use lib.Dec.{eqb}
+use borrow.Author.Tests.{eq-eqb, ne-eqb}
+use borrow.Author.Needs.{needs}
+use Rattle.plan.specs.Block.{byte, checked}
+use Rattle.plan.specs.Header.{headerIn, headerFits}
+use Rattle.plan.specs.Refusals.{first, headerTests}
+use Rattle.areas.proofs.Turns.{failed, passed}
+use Rattle.planfile.proofs.header.refusal.Statement.{statement}
+use Rattle.planfile.proofs.header.refusal.Tie as tie
+
+-- what is known behind each test
+right-check : (c : tie.Else1) → checked (c .before .before .before .args .block .now) ≡ true
+right-check c = passed (c .before .checked .ensures) (c .if1 .left)
+
+right-kind : (c : tie.Else2) → eqb (byte (c .before .before .before .before .before .args .block .now) 0) 1 ≡ true
+right-kind c = eq-eqb _ _ (c .if2 .left)
+
+right-fields : (c : tie.Else3) → headerFits (headerIn (c .before .before .before .before .before .before .before .args .block .now)) ≡ true
+right-fields c = passed (c .before .fields-fit .ensures) (c .if3 .left)
+
+checked-requires : tie.Need-checked-requires
+checked-requires c κs = search needs
+
+returns : tie.Need-returns
+unfolding first headerTests
+returns c = simp (failed (c .before .checked .ensures) (c .if1 .taken))
+
+shared-slice-read-if2 : tie.Need-shared-slice-read-if2
+shared-slice-read-if2 c = search needs
+
+returns-2 : tie.Need-returns-2
+unfolding first headerTests
+returns-2 c = simp (right-check (c .before .before), ne-eqb _ _ (c .if2 .taken))
+
+fields-fit-requires : tie.Need-fields-fit-requires
+fields-fit-requires c κs = search needs
+
+returns-3 : tie.Need-returns-3
+unfolding first headerTests
+returns-3 c = simp (right-check (c .before .before .before .before), right-kind (c .before .before), failed (c .before .fields-fit .ensures) (c .if3 .taken))
+
+rest-zero-requires : tie.Need-rest-zero-requires
+rest-zero-requires c κs = search needs
+
+returns-4 : tie.Need-returns-4
+unfolding first headerTests
+returns-4 c = simp (right-check (c .before .before .before .before .before .before), right-kind (c .before .before .before .before), right-fields (c .before .before), failed (c .before .rest-zero .ensures) (c .if4 .taken))
+
+returns-5 : tie.Need-returns-5
+unfolding first headerTests
+returns-5 c = simp (right-check (c .before .before .before .before .before .before), right-kind (c .before .before .before .before), right-fields (c .before .before), passed (c .before .rest-zero .ensures) (c .if4 .left))
+
+pub refusal-spec : {M : Type 1} → statement M
+refusal-spec =
+    tie.close
+    (tie.spec
+    checked-requires
+    returns
+    shared-slice-read-if2
+    returns-2
+    fields-fit-requires
+    returns-3
+    rest-zero-requires
+    returns-4
+    returns-5)

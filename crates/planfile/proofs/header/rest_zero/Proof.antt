@@ -1,0 +1,16 @@
+-- `planfile::header::rest_zero` meets its contract: what is tested are the gaps between the fields. Assumes nothing.
+use mathlib.Core.Path.{refl, _∙_}
+use borrow.Author.Needs.{needs}
+use Rattle.plan.specs.Header.{headerFields}
+use Rattle.planfile.proofs.Gaps.{gaps}
+use Rattle.planfile.proofs.header.rest_zero.Statement.{statement}
+use Rattle.planfile.proofs.header.rest_zero.Tie as tie
+
+zeros-requires : tie.Need-zeros-requires
+zeros-requires c κs = search needs
+
+returns : tie.Need-returns
+returns c = c .zeros .ensures ∙ gaps _ headerFields refl
+
+pub rest-zero-spec : {M : Type 1} → statement M
+rest-zero-spec = tie.close (tie.spec zeros-requires returns)

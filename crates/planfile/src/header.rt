@@ -1,0 +1,87 @@
+// Block 0: what it holds, the refusal that it gets by itself, and how it is written.
+ghost use mathlib.Core.Path.{_≡_};
+ghost use Prim.Native.Nat.{_≤_};
+ghost use lib.ListN.{length};
+ghost use Rattle.plan.specs.Block.{restZero};
+ghost use Rattle.plan.specs.Header.{headerFields, headerIn, SameHeader, headerFits};
+ghost use Rattle.plan.specs.Refusals.{first, headerTests};
+ghost use Rattle.plan.specs.File.{blockOf, headerHoldings};
+use crate::block;
+use plan::Header;
+
+// Where its fields stand, and where they end.
+pub(crate) const DEVICES: usize = 1;
+
+const ROUTER_LOAD: usize = 2;
+
+const NODE_LOAD: usize = 4;
+
+const END: usize = 6;
+
+pub(crate) fn read(block: &[u8]) -> Header
+    requires { ⌜ length (now block) ≡ 512 ⌝ }
+    ensures { λ r. ⌜ SameHeader r (headerIn (now (block .entry))) ⌝ }
+{
+    let devices = block::wide(block[DEVICES]);
+    let router = block::two(block, ROUTER_LOAD);
+    let node = block::two(block, NODE_LOAD);
+    Header {
+        devices: devices,
+        loads: [node as u16, router as u16],
+    }
+}
+
+fn fields_fit(block: &[u8]) -> bool
+    requires { ⌜ length (now block) ≡ 512 ⌝ }
+    ensures { λ r. ⌜ r ≡ headerFits (headerIn (now (block .entry))) ⌝ }
+{
+    plan::header_fits(read(block))
+}
+
+// Are all bytes zero that lie in no field?
+fn rest_zero(block: &[u8]) -> bool
+    requires { ⌜ length (now block) ≡ 512 ⌝ }
+    ensures { λ r. ⌜ r ≡ restZero headerFields (now (block .entry)) ⌝ }
+{
+    block::zeros(END, block::CHECK, block)
+}
+
+// The refusal that block 0 gets by itself, or 0.
+pub(crate) fn refusal(block: &[u8]) -> u32
+    requires { ⌜ length (now block) ≡ 512 ⌝ }
+    ensures { λ r. ⌜ r ≡ first (headerTests (now (block .entry))) .number ⌝ }
+{
+    if !block::checked(block) {
+        return 21;
+    }
+    if block[block::KIND] != 1 {
+        return 22;
+    }
+    if !fields_fit(block) {
+        return 23;
+    }
+    if !rest_zero(block) {
+        return 24;
+    }
+    0
+}
+
+// A load as a number that can be put.
+fn load(x: u16) -> u32
+    ensures { λ r. ⌜ r ≡ x ⌝ }
+{
+    x as u32
+}
+
+pub(crate) fn put(header: Header, block: &mut [u8])
+    requires { ⌜ (header .devices ≤ 32) × (length (now block) ≡ 512) ⌝ }
+    ensures { λ _. ⌜ now (block .exit) ≡ blockOf (headerHoldings header) ⌝ }
+{
+    let loads = header.loads;
+    block::clear(block);
+    block::put(block, block::KIND, 1, 1);
+    block::put(block, DEVICES, 1, header.devices as u32);
+    block::put(block, ROUTER_LOAD, 2, load(loads[1]));
+    block::put(block, NODE_LOAD, 2, load(loads[0]));
+    block::seal(block);
+}
