@@ -19,7 +19,7 @@ use Rattle.plan.specs.File.{fileOf}
 use Rattle.plan.proofs.Shape.{Numbers, Shaped}
 use Rattle.plan.proofs.Good.{Good, good}
 use Rattle.plan.proofs.Runs.{block-bytes}
-use Rattle.plan.proofs.Numbers.{Bytes, number-small}
+use Rattle.plan.proofs.Bytes.{Bytes, number-small}
 use Rattle.plan.proofs.Match.{match-of, match-right, match-file}
 
 -- ---- tables of small numbers

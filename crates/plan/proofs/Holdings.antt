@@ -1,21 +1,21 @@
 -- A block made of numbers, each at its field: its fields hold them, all else is zero, its check is right; and a block of which this is so is that block.
 use mathlib.Core.Path.{_≡_, refl, sym, ap, ap₂, _∙_}
-use mathlib.Core.Bool.{Bool, true, false, _&&_, _||_}
+use mathlib.Core.Bool.{Bool, true, false, _&&_, _||_, false≢true}
 use mathlib.Core.List.{List, [], _∷_, _++_}
 use mathlib.Core.Logic.{_⊎_, inl, inr, dite}
 use Prim.Native.Nat.{ℕ, zero, suc, _+_, _-_, _*_, _%_, _^_, _≤_, _<_}
 use native.Mathlib.Decide.{decLt}
 use native.Mathlib.Omega.{arith}
 use lib.Dec.{eqb, leb}
-use lib.ListN.{length, replicate, length-replicate}
+use lib.ListN.{length, List·getD-eq-default}
 use lib.Seq.{ext-getD}
-use borrow.Author.Tests.{leb-true, ltb-true, le-leb, lt-leb, lt-ltb, le-ltb, eqb-true, eq-eqb}
+use borrow.Author.Tests.{leb-true, lt-leb, eqb-true, eq-eqb}
 use Rattle.areas.specs.Table.{joined}
 use Rattle.areas.proofs.Facts.{facts}
-use Rattle.areas.proofs.Tests.{or-left, or-right}
-use Rattle.plan.specs.Block.{byte, Field, numberAt, numberIn, lies, liesIn, restZero, weighted, check, checkField, checked}
+use Rattle.areas.proofs.Tables.{length-table, getD-table}
+use Rattle.plan.specs.Block.{byte, Field, numberIn, lies, liesIn, restZero, weighted, check, checkField, checked}
 use Rattle.plan.specs.File.{putNumber, Holding, filled, cleared, sealed, blockOf}
-use Rattle.plan.proofs.Numbers.{Bytes, number-same, number-small, same-bytes, length-put, put-bytes, put-before, put-behind, put-read}
+use Rattle.plan.proofs.Bytes.{Bytes, number-same, number-small, same-bytes, length-put, put-bytes, put-before, put-behind, put-read}
 
 -- ---- fields
 
@@ -45,12 +45,7 @@ pub apart : (i : ℕ) (f : Field) → lies i f ≡ false → (i < f .place) ⊎ 
 unfolding lies
 apart i f e =
     dite (decLt i (f .place)) (λ l. inl l)
-    (λ l. dite (decLt i (f .place + f .width))
-    (λ g. absurd (let z : _≡_ {A = Bool} true false = sym (simp facts (omega arith, g)) ∙ e in false-is z))
-    (λ g. inr (omega arith)))
-  where
-    false-is : true ≡ false → ⊥
-    false-is z = let n : _≡_ {A = ℕ} 0 1 = cc in omega arith
+    (λ l. dite (decLt i (f .place + f .width)) (λ g. absurd (false≢true (sym e ∙ simp facts (omega arith, g)))) (λ g. inr (omega arith)))
 
 pub inside : (i : ℕ) (f : Field) → lies i f ≡ true → (f .place ≤ i) × (i < f .place + f .width)
 unfolding lies
@@ -78,44 +73,37 @@ module _ (fields : List Field) (s : List ℕ) where
 
 -- ---- what fields hold
 
+abbrev pub All : (Holding → Type 0) → List Holding → Type 0
+All P [] = Unit {0}
+All P (h ∷ hs) = P h × All P hs
+
+-- each field holds its number; each number fits its field
 abbrev pub Holds : List ℕ → List Holding → Type 0
-Holds s [] = Unit {0}
-Holds s (h ∷ hs) = (numberIn s (h .into) ≡ h .number) × Holds s hs
+Holds s = All (λ h. numberIn s (h .into) ≡ h .number)
 
--- the numbers fit their fields
 abbrev pub Fit : List Holding → Type 0
-Fit [] = Unit {0}
-Fit (h ∷ hs) = (h .number < 256 ^ h .into .width) × Fit hs
+Fit = All (λ h. h .number < 256 ^ h .into .width)
 
-pub holds-append : (s : List ℕ) (xs ys : List Holding) → Holds s xs → Holds s ys → Holds s (xs ++ ys)
-holds-append s [] ys p q = q
-holds-append s (h ∷ xs) ys p q = (p .0, holds-append s xs ys (p .1) q)
+module _ (P : Holding → Type 0) where
+  pub all-append : (xs ys : List Holding) → All P xs → All P ys → All P (xs ++ ys)
+  all-append [] ys p q = q
+  all-append (h ∷ xs) ys p q = (p .0, all-append xs ys (p .1) q)
 
-pub holds-parts : (s : List ℕ) (xs ys : List Holding) → Holds s (xs ++ ys) → Holds s xs × Holds s ys
-holds-parts s [] ys p = (tt, p)
-holds-parts s (h ∷ xs) ys p = let q = holds-parts s xs ys (p .1) in ((p .0, q .0), q .1)
+  pub all-parts : (xs ys : List Holding) → All P (xs ++ ys) → All P xs × All P ys
+  all-parts [] ys p = (tt, p)
+  all-parts (h ∷ xs) ys p = let q = all-parts xs ys (p .1) in ((p .0, q .0), q .1)
 
-pub fit-append : (xs ys : List Holding) → Fit xs → Fit ys → Fit (xs ++ ys)
-fit-append [] ys p q = q
-fit-append (h ∷ xs) ys p q = (p .0, fit-append xs ys (p .1) q)
-
-module _ (f : ℕ → List Holding) where
-  pub holds-joined : (s : List ℕ) (n : ℕ) → ((p : ℕ) → p < n → Holds s (f p)) → Holds s (joined n f)
+  pub all-joined : (f : ℕ → List Holding) (n : ℕ) → ((p : ℕ) → p < n → All P (f p)) → All P (joined n f)
   unfolding joined
-  holds-joined s zero h = tt
-  holds-joined s (suc n) h = holds-append s (joined n f) (f n) (holds-joined s n (λ p l. h p (omega arith))) (h n (omega arith))
+  all-joined f zero h = tt
+  all-joined f (suc n) h = all-append (joined n f) (f n) (all-joined f n (λ p l. h p (omega arith))) (h n (omega arith))
 
-  pub holds-at : (s : List ℕ) (n : ℕ) → Holds s (joined n f) → (p : ℕ) → p < n → Holds s (f p)
+  pub all-at : (f : ℕ → List Holding) (n : ℕ) → All P (joined n f) → (p : ℕ) → p < n → All P (f p)
   unfolding joined
-  holds-at s zero h p l = absurd (omega arith)
-  holds-at s (suc n) h p l =
-      let q = holds-parts s (joined n f) (f n) h in
-      dite (decLt p n) (λ g. holds-at s n (q .0) p g) (λ g. let e : p ≡ n = omega arith in rw e (q .1))
-
-  pub fit-joined : (n : ℕ) → ((p : ℕ) → p < n → Fit (f p)) → Fit (joined n f)
-  unfolding joined
-  fit-joined zero h = tt
-  fit-joined (suc n) h = fit-append (joined n f) (f n) (fit-joined n (λ p l. h p (omega arith))) (h n (omega arith))
+  all-at f zero h p l = absurd (omega arith)
+  all-at f (suc n) h p l =
+      let q = all-parts (joined n f) (f n) h in
+      dite (decLt p n) (λ g. all-at f n (q .0) p g) (λ g. let e : p ≡ n = omega arith in rw e (q .1))
 
 -- what bytes hold fits
 fit-of : (s : List ℕ) (hs : List Holding) → Bytes s → Holds s hs → Fit hs
@@ -134,7 +122,7 @@ holds-same s t e from (h ∷ hs) a p =
 -- two blocks of bytes that hold the same have the same bytes there
 held-bytes : (s t : List ℕ) → Bytes s → Bytes t → (hs : List Holding) → Holds s hs → Holds t hs → (i : ℕ) → liesIn i (fieldsOf hs) ≡ true → byte s i ≡ byte t i
 unfolding liesIn
-held-bytes s t b c [] p q i e = absurd (let n : _≡_ {A = ℕ} 0 1 = cc in omega arith)
+held-bytes s t b c [] p q i e = absurd (false≢true e)
 held-bytes s t b c (h ∷ hs) p q i e = by-test (lies i (h .into)) refl e (held-bytes s t b c hs (p .1) (q .1) i)
   where
     by-test : (u : Bool) → lies i (h .into) ≡ u → (u || liesIn i (fieldsOf hs)) ≡ true → (liesIn i (fieldsOf hs) ≡ true → byte s i ≡ byte t i) → byte s i ≡ byte t i
@@ -159,7 +147,7 @@ filled-bytes s [] b = b
 filled-bytes s (h ∷ hs) b = filled-bytes (putNumber s (h .into .place) (h .into .width) (h .number)) hs (put-bytes s (h .into .place) (h .into .width) (h .number) b)
 
 pub or-false : (a b : Bool) → (a || b) ≡ false → (a ≡ false) × (b ≡ false)
-or-false true b e = absurd (let n : _≡_ {A = ℕ} 0 1 = cc in omega arith)
+or-false true b e = absurd (false≢true (sym e))
 or-false false b e = (refl, e)
 
 -- bytes in none of the fields stay
@@ -221,16 +209,11 @@ module _ (s : List ℕ) (long : length s ≡ 512) where
 
 length-cleared : length cleared ≡ 512
 unfolding cleared
-length-cleared = length-replicate {A = ℕ} 512 0
-
-zeros-byte : (n i : ℕ) → byte (replicate n 0) i ≡ 0
-zeros-byte zero i = refl
-zeros-byte (suc n) zero = refl
-zeros-byte (suc n) (suc i) = zeros-byte n i
+length-cleared = length-table 512 _
 
 cleared-byte : (i : ℕ) → byte cleared i ≡ 0
 unfolding cleared
-cleared-byte i = zeros-byte 512 i
+cleared-byte i = dite (decLt i 512) (λ l. getD-table 512 _ i 0 l) (λ l. List·getD-eq-default cleared 0 (omega (arith, length-cleared)))
 
 module _ (hs : List Holding) where
   filled-long : length (filled cleared hs) ≡ 512

@@ -1,12 +1,12 @@
 pub mod Back
 pub mod BothWays
+pub mod Bytes
+pub mod Connections
 pub mod Entries
 pub mod Firsts
 pub mod Good
 pub mod Holdings
-pub mod Joined
 pub mod Match
-pub mod Numbers
 pub mod Owned
 pub mod Peers
 pub mod Rows

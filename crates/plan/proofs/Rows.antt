@@ -1,7 +1,7 @@
 -- Block 0 and the block of a device, beside the parts of a plan that they hold: what each says of the other.
 use mathlib.Core.Path.{_≡_, refl, sym, subst, ap, ap₂, _∙_}
 use mathlib.Core.Bool.{true}
-use mathlib.Core.List.{List, [], _∷_, _++_}
+use mathlib.Core.List.{List, [], _∷_}
 use Prim.Native.Nat.{ℕ, zero, suc, _+_, _*_, _≤_, _<_}
 use native.Mathlib.Omega.{arith}
 use lib.ListN.{length}
@@ -14,12 +14,12 @@ use Rattle.plan.specs.Header.{headerFields, headerIn, headerOf, headerFi
 use Rattle.plan.specs.declared.Core.{Core}
 use Rattle.plan.specs.declared.Header.{Header}
 use Rattle.plan.specs.Memory.{at, peerAt, deviceRight, rowRight}
-use Rattle.plan.specs.File.{Holding, holdings, blockOf, headerHoldings, entryNumbers, ownHoldings, entryHoldings, deviceHoldings}
+use Rattle.plan.specs.File.{Holding, holdings, blockOf, headerHoldings, entryNumbers, ownHoldings, deviceHoldings}
 use Rattle.areas.proofs.Facts.{facts}
 use Rattle.plan.proofs.Shape.{Numbers}
 use Rattle.plan.proofs.Good.{GoodHeader, GoodDevice}
-use Rattle.plan.proofs.Numbers.{Bytes}
-use Rattle.plan.proofs.Holdings.{fieldsOf, ascends, Ascends, ascending, Holds, Fit, holds-append, holds-parts, fit-append, holds-joined, holds-at, fit-joined, made-checked, made-rest, made-holds, is-made}
+use Rattle.plan.proofs.Bytes.{Bytes}
+use Rattle.plan.proofs.Holdings.{fieldsOf, ascends, Ascends, ascending, Holds, Fit, all-append, all-parts, all-joined, all-at, made-checked, made-rest, made-holds, is-made}
 use Rattle.plan.proofs.Entries.{Port, nowhere, entry-port, port-entry, port-peer, port-permissions, no-port, port-right, port-numbers, port-small, right-port}
 
 -- ---- block 0
@@ -150,18 +150,18 @@ module _ (core : Core) (peers : List (List ℕ)) (d : ℕ) where
         device-fit : Fit (deviceHoldings core peers d)
         unfolding deviceHoldings
         device-fit =
-            fit-append own (joined 8 entries) (omega arith)
-            (fit-joined entries 8 (λ p l. let f = port-small few (right-ports right p l (byte (entryOf p)) (λ j k. refl)) in (f .0, (f .1, (f .2, (f .3, tt))))))
+            all-append _ own (joined 8 entries) (omega arith)
+            (all-joined _ entries 8 (λ p l. let f = port-small few (right-ports right p l (byte (entryOf p)) (λ j k. refl)) in (f .0, (f .1, (f .2, (f .3, tt))))))
 
         device-holds : Holds s own × Holds s (joined 8 entries)
         unfolding deviceHoldings
         device-holds =
-            holds-parts s own (joined 8 entries)
+            all-parts _ own (joined 8 entries)
             (subst (λ t. Holds t (deviceHoldings core peers d)) (sym e) (made-holds (deviceHoldings core peers d) device-ascends device-fit))
 
         port-at : (p : ℕ) → p < 8 → Port (core .devices) (at (core .ports) d) p (entry s p) (peerAt peers d p) (at (core .permissions) (8 * d + p))
         port-at p l =
-            let f = holds-at entries s 8 (device-holds .1) p l in
+            let f = all-at _ entries 8 (device-holds .1) p l in
             right-ports right p l (entry s p) (four (entry s p) (byte (entryOf p)) (f .0, f .1 .0, f .1 .1 .0, f .1 .1 .1 .0))
 
         pub written-row : Row s
@@ -202,7 +202,7 @@ module _ (core : Core) (peers : List (List ℕ)) (d : ℕ) where
         unfolding deviceHoldings
         read-device =
             is-made (deviceHoldings core peers d) device-ascends s e small
-            (holds-append s own (joined 8 entries)
+            (all-append _ own (joined 8 entries)
             (g .mark, (g .number, (sym (r .role), (sym (r .ports), (sym (r .source), (sym (r .handler), tt))))))
-            (holds-joined entries s 8 entry-read))
+            (all-joined _ entries 8 entry-read))
             (rw device-fields (g .zeros)) (g .check)

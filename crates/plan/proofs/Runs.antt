@@ -8,15 +8,9 @@ use native.Mathlib.Nat.{mul-suc, mul-zero, mul-le-mul-left}
 use native.Mathlib.Omega.{arith}
 use lib.ListN.{length, getD, take, drop, length-drop, length-take, List·getD-eq-default}
 use lib.Seq.{take-add, take-all, take-at, drop-at, take-append-le, drop-append-le, drop-append-add, drop-drop, getD-take, getD-drop, length-take-le}
-use Rattle.areas.specs.Table.{joined, table}
-use Rattle.areas.proofs.Tables.{length-joined, is-table, same-joined}
+use Rattle.areas.specs.Table.{joined}
+use Rattle.areas.proofs.Tables.{length-joined, same-joined}
 use Rattle.plan.specs.Block.{block}
-
--- a run: m elements from some place on, by their places
-pub run-table : (m k : ℕ) (s : List ℕ) → k + m ≤ length s → take m (drop k s) ≡ table m (λ i. getD s (k + i) 0)
-run-table m k s h =
-    is-table m (λ i. getD s (k + i) 0) (take m (drop k s)) 0 (length-take-le m (drop k s) (omega (arith, length-drop k s)))
-    (λ i l. getD-take m (drop k s) i 0 l ∙ getD-drop k s i 0)
 
 -- n runs of m
 pub take-runs : (m n : ℕ) (s : List ℕ) → take (m * n) s ≡ joined n (λ d. take m (drop (m * d) s))

@@ -23,7 +23,7 @@ use Rattle.plan.specs.File.{blockOf, headerHoldings, deviceHoldings, fil
 use Rattle.areas.proofs.Facts.{facts}
 use Rattle.plan.proofs.Shape.{Shaped}
 use Rattle.plan.proofs.Good.{Good, GoodDevice, devices-fit, header-says, accepted}
-use Rattle.plan.proofs.Numbers.{Bytes, bytes-append, bytes-joined}
+use Rattle.plan.proofs.Bytes.{Bytes, bytes-append, bytes-joined}
 use Rattle.plan.proofs.Holdings.{length-made, made-bytes}
 use Rattle.plan.proofs.Runs.{run-joined, first-block, later-block}
 use Rattle.plan.proofs.Rows.{written-header, good-header, written-row, written-device, right-absent}
@@ -86,16 +86,16 @@ module _ (plan : Plan) where
     small : (d : ℕ) → (at (plan .core .role) d < 256) × (at (plan .core .ports) d < 256) × (at (plan .core .source) d < 4294967296) × (at (plan .core .handler) d < 4294967296)
     small d = (s .role .small d, s .ports .small d, s .source .small d, s .handler .small d)
 
-    header-says-it : headerOf (plan .core) ≡ headerIn (block (fileOf plan) 0)
-    header-says-it = written-header (plan .core) (s .loads) (r .header) (block (fileOf plan) 0) head-block
+    header-read : headerOf (plan .core) ≡ headerIn (block (fileOf plan) 0)
+    header-read = written-header (plan .core) (s .loads) (r .header) (block (fileOf plan) 0) head-block
 
     count : plan .core .devices ≡ countIn (fileOf plan)
-    count = ap (λ (h : Header). h .devices) header-says-it
+    count = ap (λ (h : Header). h .devices) header-read
 
     matches : Match plan (fileOf plan)
     matches =
         record {
-          header = header-says-it;
+          header = header-read;
           says = λ d k. dite (decLt d (plan .core .devices))
               (λ h. rw (lt-ltb d (countIn (fileOf plan)) (omega (arith, count))) (written-row (plan .core) (plan .peers) d few (deviceBlock (fileOf plan) d) h (r .rows d k) (small d) (row-block d h)))
               (λ h. rw (le-ltb d (countIn (fileOf plan)) (omega (arith, count))) (right-absent (plan .core) (plan .peers) d few (omega arith) (r .rows d k)));

@@ -4,8 +4,8 @@ use mathlib.Core.Bool.{cond}
 use mathlib.Core.List.{List, [], _∷_, _++_}
 use Prim.Native.Nat.{ℕ, zero, suc, _+_, _*_, _/_, _%_}
 use lib.Dec.{eqb}
-use lib.ListN.{set, replicate}
-use Rattle.areas.specs.Table.{joined}
+use lib.ListN.{set}
+use Rattle.areas.specs.Table.{table, joined}
 use Rattle.plan.specs.Block.{Field, check, checkField}
 use Rattle.plan.specs.Fields.{entryFields, ownFields, nobody}
 use Rattle.plan.specs.Header.{headerFields, headerOf, headerNumbers}
@@ -39,7 +39,7 @@ filled s (h ∷ hs) = filled (putNumber s (h .into .place) (h .into .width) (h .
 -- ---- blocks
 
 unfoldable pub cleared : List ℕ
-cleared = replicate 512 0
+cleared = table 512 (λ i. 0)
 
 unfoldable pub sealed : List ℕ → List ℕ
 sealed s = putNumber s (checkField .place) (checkField .width) (check s)

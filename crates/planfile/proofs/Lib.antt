@@ -1,10 +1,10 @@
-pub mod Answers
-pub mod Blocks
 pub mod Gaps
-pub mod Joins
 pub mod Marked
 pub mod Places
 pub mod Plans
+pub mod ReaderAnswers
+pub mod SameConnections
 pub mod Scans
 pub mod Unique
-pub mod Writes
+pub mod WriterAnswers
+pub mod WrittenBlocks

@@ -10,7 +10,7 @@ use lib.Seq.{getD-take, getD-drop}
 use Rattle.plan.specs.Block.{block, byte, numberAt}
 use Rattle.plan.specs.Fields.{entry, nobody, peerIn}
 use Rattle.plan.specs.Refusals.{deviceBlock, countIn}
-use Rattle.plan.proofs.Numbers.{number-same}
+use Rattle.plan.proofs.Bytes.{number-same}
 
 module _ (file : List ℕ) (b : ℕ) where
   pub byte-in : (i : ℕ) → i < 512 → byte (block file b) i ≡ byte file (512 * b + i)

@@ -56,7 +56,7 @@ pub(crate) fn core_of(file: &[u8]) -> Core
     requires { ⌜ (countIn (now file) ≤ 32) × (length (now file) ≡ 512 * (1 + countIn (now file))) ⌝ }
     ensures { λ r. ⌜ r ≡ planOf (now (file .entry)) .core ⌝ }
 {
-    let header = header::read(&file[0..512]);
+    let header = header::read(&file[0..block::BLOCK]);
     let n = header.devices;
     let role = column(file, n, device::ROLE);
     let ports = column(file, n, device::PORTS);

@@ -31,7 +31,7 @@ fn put_file(core: Core, peers: [[u16; 8]; 32], area: &mut [u8])
     requires { ⌜ (core .devices ≤ 32) × (length (now area) ≡ 512 * (1 + core .devices)) ⌝ }
     ensures { λ _. ⌜ now (area .exit) ≡ fileOf (record { core = core; peers = peers }) ⌝ }
 {
-    header::put(plan::header_of(core), &mut area[0..512]);
+    header::put(plan::header_of(core), &mut area[0..block::BLOCK]);
     for d in 0..core.devices {
         let start = block::BLOCK * (1 + d);
         let end = start + block::BLOCK;

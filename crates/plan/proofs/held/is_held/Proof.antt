@@ -15,7 +15,7 @@ use Rattle.answers.specs.Decides.{Decides}
 use Rattle.plan.specs.Reading.{Held}
 use Rattle.plan.specs.declared.Plan.{Plan}
 use Rattle.plan.proofs.Good.{devices-fit, header-says}
-use Rattle.plan.proofs.Joined.{block, block-every}
+use Rattle.plan.proofs.Connections.{block, block-every}
 use Rattle.plan.proofs.Owned.{owned}
 use Rattle.plan.proofs.BothWays.{right-held, held-right}
 use Rattle.plan.proofs.Shape.{Shaped}

@@ -9,7 +9,7 @@ use lib.ListN.{getD}
 use borrow.Author.Count.{below-none, below-more}
 use borrow.Author.Tests.{not-true, not-false}
 use Rattle.plan.specs.Fields.{joins}
-use Rattle.plan.proofs.Joined.{Passed, passed-next, block-none, block-bad}
+use Rattle.plan.proofs.Connections.{Passed, passed-next, block-none, block-bad}
 use borrow.Author.Needs.{needs}
 use Rattle.plan.proofs.joins.bad_block.Statement.{statement}
 use Rattle.plan.proofs.joins.bad_block.Tie as tie

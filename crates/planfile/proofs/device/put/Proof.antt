@@ -1,5 +1,5 @@
 use borrow.Author.Needs.{needs}
-use Rattle.planfile.proofs.Blocks.{device-made}
+use Rattle.planfile.proofs.WrittenBlocks.{device-made}
 use Rattle.planfile.proofs.device.put.Statement.{statement}
 use Rattle.planfile.proofs.device.put.Tie as tie
 

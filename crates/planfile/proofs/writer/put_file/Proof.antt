@@ -5,7 +5,7 @@ use lib.ListN.{length-take, length-drop}
 use borrow.Author.Needs.{needs}
 use Rattle.plan.specs.File.{blockOf, headerHoldings}
 use Rattle.plan.specs.declared.Header.{Header}
-use Rattle.planfile.proofs.Blocks.{Blocks, first-block, next-block, whole-file}
+use Rattle.planfile.proofs.WrittenBlocks.{Blocks, first-block, next-block, whole-file}
 use Rattle.planfile.proofs.writer.put_file.Statement.{statement}
 use Rattle.planfile.proofs.writer.put_file.Tie as tie
 

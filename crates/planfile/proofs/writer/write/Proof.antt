@@ -6,7 +6,7 @@ use borrow.Author.Needs.{needs}
 use borrow.Author.Tests.{not-true, not-false}
 use Rattle.plan.specs.File.{fileOf}
 use Rattle.plan.proofs.BothWays.{written-and-read, held-devices}
-use Rattle.planfile.proofs.Writes.{refused, misfit, done}
+use Rattle.planfile.proofs.WriterAnswers.{refused, misfit, done}
 use Rattle.planfile.proofs.writer.write.Statement.{statement}
 use Rattle.planfile.proofs.writer.write.Tie as tie
 

@@ -19,7 +19,7 @@ use Rattle.plan.specs.declared.Read.{Read}
 use Rattle.plan.proofs.Firsts.{AllPass, Numbered, Stops, passes-or-stops, first-accepts, first-stops, accepts-all, all-front, all-back, all-at, stops-front, numbered-append, numbered-joined}
 use Rattle.planfile.specs.declared.reader.Place.{Place}
 use Rattle.planfile.specs.Scan.{ofDevice, scanTests, scanned}
-use Rattle.planfile.proofs.Joins.{Leads, entry-leads, same-tests, devices-held, ports-held, peer-held}
+use Rattle.planfile.proofs.SameConnections.{Leads, entry-leads, same-tests, devices-held, ports-held, peer-held}
 use Rattle.planfile.proofs.Marked.{Each, stops-each, each-joined, each-table, first-behind}
 use Rattle.planfile.proofs.Scans.{header, long, counted, devices, few, header-numbered, device-numbered}
 
