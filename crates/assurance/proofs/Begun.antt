@@ -60,7 +60,7 @@ module _ (plan : Plan) (held : Held plan) (kind k : ℕ) (g : kind < 2) (l : k <
       (fit-took plan kind k s (takersOf kind k s) held g u loads h taken (call-sound plan held s x kind d k g h l)
       (record { sound = x; runs = λ q b. refl; other = λ q b. idle (1 - kind) q (omega arith) b; long = long; still = λ e b o. o }))
 
-  pub start : bit (register s d) k ≡ kind → Start (net plan kind s (takersOf kind k s) d) (sight plan kind k s (takersOf kind k s) d t)
+  pub start : bit (register s d) k ≡ kind → Start (net plan kind k s (takersOf kind k s) d) (sight plan kind k s (takersOf kind k s) d t)
   start stood =
       let n = few plan held in
       record {

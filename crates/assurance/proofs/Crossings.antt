@@ -9,28 +9,28 @@ use Rattle.bench.specs.State.{State}
 use Rattle.bench.specs.Network.{devices}
 use Rattle.bench.proofs.Plans.{few}
 use Rattle.reach.specs.Walk.{Walk, stay, cross}
+use Rattle.reach.specs.Distance.{Farthest}
 use Rattle.reach.proofs.Found.{none-away}
+use Rattle.reach.proofs.Farthest.{walk-device, walk-port, nearest}
 use Rattle.flood.specs.Flood.{Crossed, here, cross as step, Relays, Within}
-use Rattle.assurance.specs.Demand3.{Farthest}
-use Rattle.assurance.proofs.Distances.{walk-device, walk-port, nearest}
 use Rattle.assurance.proofs.Nets.{net}
 
-module _ (plan : Plan) (held : Held plan) (kind : ℕ) (s : State) (takers : ℕ → Type 0) (source : ℕ) (h : source < devices plan) where
+module _ (plan : Plan) (held : Held plan) (kind k : ℕ) (s : State) (takers : ℕ → Type 0) (source : ℕ) (h : source < devices plan) where
   abbrev Crosses : ℕ → ℕ → Type 0
-  Crosses = Crossed (net plan kind s takers source)
+  Crosses = Crossed (net plan kind k s takers source)
 
   abbrev Walks : ℕ → ℕ → Type 0
-  Walks = Walk plan s kind source
+  Walks = Walk plan s kind k source
 
   -- a way may come back to the source and go on from there; then there is a shorter walk
   pub crossed-walk : {n e : ℕ} → Crosses n e → (m : ℕ) × (m ≤ n) × Walks m e
   crossed-walk here = (0, omega arith, stay)
   crossed-walk (step q way on leads) =
       elim on [
-        | inl own ↦ (1, omega arith, walk-port plan held s kind source h q (subst (Walks 0) (sym own) stay) (inl refl) (leads .1))
+        | inl own ↦ (1, omega arith, walk-port plan held s kind k source h q (subst (Walks 0) (sym own) stay) (inl refl) (leads .1))
         | inr router ↦
             let before = crossed-walk way in
-            (suc (before .0), omega (arith, before .1), walk-port plan held s kind source h q (before .2) (inr router) (leads .1))
+            (suc (before .0), omega (arith, before .1), walk-port plan held s kind k source h q (before .2) (inr router) (leads .1))
       ]
 
   module _ (all : (e : ℕ) → e < devices plan → takers e) where
@@ -38,17 +38,17 @@ module _ (plan : Plan) (held : Held plan) (kind : ℕ) (s : State) (takers : ℕ
     walk-crossed stay = here
     walk-crossed (cross {n = n} {d = d} {e = e} w on p l leads) =
         let device : (8 * d + p) / 8 ≡ d = omega arith in
-        let relays : Relays (net plan kind s takers source) d =
+        let relays : Relays (net plan kind k s takers source) d =
         elim on [ inl none ↦ inl (none-away w none) | inr router ↦ inr router ] in
-        let small : 8 * d + p < 256 = omega (arith, walk-device plan held s kind source h w, few plan held) in
+        let small : 8 * d + p < 256 = omega (arith, walk-device plan held s kind k source h w, few plan held) in
         step {n = n} (8 * d + p) (rw device (walk-crossed w)) (rw device relays)
-        (small, leads, all e (walk-device plan held s kind source h (cross w on p l leads)))
+        (small, leads, all e (walk-device plan held s kind k source h (cross w on p l leads)))
 
     -- no device that is reached needs more crossings than the farthest
-    pub farthest-within : (D : ℕ) → Farthest plan s kind source D → Within (net plan kind s takers source) D
+    pub farthest-within : (D : ℕ) → Farthest plan s kind k source D → Within (net plan kind k s takers source) D
     farthest-within D x =
         record {
           shorter = λ {n} {d} way.
-              let near = nearest plan held s kind source h (crossed-walk way .2) in
+              let near = nearest plan held s kind k source h (crossed-walk way .2) in
               (near .0, x .most (near .0) d (near .2), walk-crossed (near .2 .there));
         }

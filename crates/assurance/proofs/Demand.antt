@@ -67,10 +67,10 @@ module _ (plan : Plan) (k source D : ℕ) (s : State) (at : ℕ → State) (give
   fits : (t u : ℕ) → u + t ≡ last → Fit plan 0 k s takers u (at t)
   fits = fit ready at begins goes-on
 
-  flood : Flooded (net plan 0 s takers source) 32 last D (λ t. sight plan 0 k s takers source (at t)) (λ t. sending plan 0 k (at t))
+  flood : Flooded (net plan 0 k s takers source) 32 last D (λ t. sight plan 0 k s takers source (at t)) (λ t. sending plan 0 k (at t))
   flood =
-      flooded (net plan 0 s takers source) 32 last (omega arith) (λ t. sight plan 0 k s takers source (at t)) (λ t. sending plan 0 k (at t))
-      (run ready at begins goes-on) D (farthest-within plan (given .held) 0 s takers source there (given .unset) D (given .farthest))
+      flooded (net plan 0 k s takers source) 32 last (omega arith) (λ t. sight plan 0 k s takers source (at t)) (λ t. sending plan 0 k (at t))
+      (run ready at begins goes-on) D (farthest-within plan (given .held) 0 k s takers source there (given .unset) D (given .farthest))
 
   -- what is sent of k is an interrupt: no acknowledge of k waits
   interrupt : (q t : ℕ) → t < last → SendsK plan k (at t) q → sending plan 0 k (at t) q
@@ -88,10 +88,10 @@ module _ (plan : Plan) (k source D : ℕ) (s : State) (at : ℕ → State) (give
   pub follows : Follows plan k source D s at
   follows =
       record {
-        holds = λ n e t w from to. flood .reached (walk-crossed plan (given .held) 0 s takers source there (given .unset) w) t from to .2;
+        holds = λ n e t w from to. flood .reached (walk-crossed plan (given .held) 0 k s takers source there (given .unset) w) t from to .2;
         no-other = λ e t h to b.
             let way = flood .only t to {d = e} (h, given .unset e h, b) in
-            let walk = crossed-walk plan (given .held) 0 s takers source there (way .1) in
+            let walk = crossed-walk plan (given .held) 0 k s takers source there (way .1) in
             (walk .0, walk .2);
         once = λ q t u lt to x y. flood .once t u lt to (interrupt q t (omega arith) x) (interrupt q u to y);
         gone = λ kind q g h.

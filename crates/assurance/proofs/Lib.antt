@@ -10,7 +10,5 @@ pub mod Wave
 pub mod Begun
 pub mod Meanwhile
 pub mod Runs
-pub mod Deciding
-pub mod Distances
 pub mod Crossings
 pub mod Demand

@@ -18,7 +18,7 @@ use Rattle.assurance.proofs.Nets.{net}
 module _ (plan : Plan) (kind k : ℕ) (s₀ : State) (takers : ℕ → Type 0) (source : ℕ) where
   -- a device holds the code if its bit has gone over: to 1 by an interrupt, to 0 by an acknowledge; a code's rank is how many
   -- identifiers come before it, going round from next
-  abbrev pub sight : State → Sight (net plan kind s₀ takers source)
+  abbrev pub sight : State → Sight (net plan kind k s₀ takers source)
   sight s =
       record {
         holds = λ d. (d < devices plan) × takers d × (bit (register s d) k ≡ 1 - kind);

@@ -66,7 +66,7 @@ module _ (plan : Plan) (held : Held plan) (kind k : ℕ) (g : kind < 2) (l : k <
 
     -- ---- arriving
 
-    arrives : (q e : ℕ) → SendsIt plan k s kind q → Leads plan s₀ kind q e → (e < devices plan) × (bit (register (round plan s .next) e) k ≡ 1 - kind)
+    arrives : (q e : ℕ) → SendsIt plan k s kind q → Leads plan s₀ kind k q e → (e < devices plan) × (bit (register (round plan s .next) e) k ≡ 1 - kind)
     unfolding round
     arrives q e x m =
         let j = peer plan q in
@@ -81,7 +81,7 @@ module _ (plan : Plan) (held : Held plan) (kind k : ℕ) (g : kind < 2) (l : k <
               (record { inside = m .joined; there = sym (m .there); sender = rw (end .back) x; runs = flag; may = m .receives }),
         )
 
-    came-leads : (e j : ℕ) → Came plan kind k s₀ s e j → Leads plan s₀ kind (peer plan j) e
+    came-leads : (e j : ℕ) → Came plan kind k s₀ s e j → Leads plan s₀ kind k (peer plan j) e
     came-leads e j c =
         let h = small (peer plan j) (c .sender) in
         let b = waited (peer plan j) (c .sender) in
@@ -109,7 +109,7 @@ module _ (plan : Plan) (held : Held plan) (kind k : ℕ) (g : kind < 2) (l : k <
 
       -- the calls change no port's next
       pub step : ((q : ℕ) → next t q ≡ next (round plan s .next) q) → (source : ℕ)
-          → Step (net plan kind s₀ takers source) 32 (sight plan kind k s₀ takers source s) (sending plan kind k s) (sight plan kind k s₀ takers source t)
+          → Step (net plan kind k s₀ takers source) 32 (sight plan kind k s₀ takers source s) (sending plan kind k s) (sight plan kind k s₀ takers source t)
       step turns source =
           record {
             keeps = λ {d} h. (h .0, h .1, now d (h .0) ∙ going .keeping d (h .0) (marks d (h .0) ∙ h .2));

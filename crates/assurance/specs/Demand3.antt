@@ -13,18 +13,7 @@ use Rattle.bench.specs.Calls.{callAsks, called}
 use Rattle.bench.specs.Round.{round}
 use Rattle.bench.specs.Alike.{SendsIt}
 use Rattle.reach.specs.Walk.{Walk}
-
--- ---- D, the most crossings that the code needs to any device it can reach
-
--- device e is n crossings away, and no fewer
-pub record Away (plan : Plan) (s : State) (kind from n e : ℕ) : Type 0 where
-  pub there : Walk plan s kind from n e
-  pub least : (m : ℕ) → m < n → Walk plan s kind from m e → ⊥
-
--- some device is D crossings away, and none is more
-pub record Farthest (plan : Plan) (s : State) (kind from D : ℕ) : Type 0 where
-  pub some : (e : ℕ) × Away plan s kind from D e
-  pub most : (n e : ℕ) → Away plan s kind from n e → n ≤ D
+use Rattle.reach.specs.Distance.{Farthest}
 
 -- ---- what happens meanwhile
 
@@ -60,7 +49,7 @@ module _ (plan : Plan) (k source D : ℕ) (s : State) where
     -- a source's request for it is taken
     pub taken : Ordered (callAsks plan 0 source k s) 0
     -- D is the most crossings that the code needs to any device it can reach
-    pub farthest : Farthest plan s 0 source D
+    pub farthest : Farthest plan s 0 k source D
     -- for 32 x (D + 1) rounds nobody requests k again or acknowledges it; other identifiers are used as they may be
     pub course : Course plan k (window D) (called plan 0 source k s) at
     -- every timer load is longer than that
@@ -68,9 +57,9 @@ module _ (plan : Plan) (k source D : ℕ) (s : State) where
 
   pub record Follows (at : ℕ → State) : Type 0 where
     -- a device n crossings away holds k by the end of round 32 x n and until the last round
-    pub holds : (n e t : ℕ) → Walk plan s 0 source n e → 32 * n ≤ t → t ≤ window D → bit (register (at t) e) k ≡ 1
+    pub holds : (n e t : ℕ) → Walk plan s 0 k source n e → 32 * n ≤ t → t ≤ window D → bit (register (at t) e) k ≡ 1
     -- none out of reach holds it in that time
-    pub no-other : (e t : ℕ) → e < devices plan → t ≤ window D → bit (register (at t) e) k ≡ 1 → (n : ℕ) × Walk plan s 0 source n e
+    pub no-other : (e t : ℕ) → e < devices plan → t ≤ window D → bit (register (at t) e) k ≡ 1 → (n : ℕ) × Walk plan s 0 k source n e
     -- no port sends k twice
     pub once : (q t u : ℕ) → t < u → u < window D → SendsK plan k (at t) q → SendsK plan k (at u) q → ⊥
     -- at the end no k waits

@@ -10,25 +10,25 @@ use Rattle.plan.specs.declared.Plan.{Plan}
 use Rattle.bench.specs.State.{State, running}
 use Rattle.bench.specs.Network.{peer}
 use Rattle.reach.specs.Walk.{Leads}
-use Rattle.reach.specs.Visits.{leads, ahead}
+use Rattle.reach.specs.Visits.{leads, ahead, aheadIn}
 
-module _ (plan : Plan) (s : State) (q : ℕ) where
+module _ (plan : Plan) (s : State) (k q : ℕ) where
   abbrev next : ℕ
-  next = ahead (plan .core .permissions) (plan .peers) s q
+  next = aheadIn plan s k q
 
   abbrev tests : ℕ → Bool
-  tests = leads (plan .core .permissions) (plan .peers) s
+  tests = leads (plan .core .permissions) (plan .peers) s k
 
-  pub leads-ahead : (e : ℕ) → Leads plan s 0 q e → (next ≡ e) × (e < 32)
+  pub leads-ahead : (e : ℕ) → Leads plan s 0 k q e → (next ≡ e) × (e < 32)
   unfolding ahead
   leads-ahead e l =
       (simp (eq-eqb (running s q) 1 (l .runs), l .sends, lt-ltb (peer plan q) nobody (l .joined), l .receives) (sym (l .there)), omega (arith, l .there, l .joined))
 
-  pub ahead-leads : next < 32 → Leads plan s 0 q next
+  pub ahead-leads : next < 32 → Leads plan s 0 k q next
   unfolding ahead
   ahead-leads = by-test (tests q) refl
     where
-      by-test : (b : Bool) → tests q ≡ b → cond b (peer plan q / 8) 32 < 32 → Leads plan s 0 q (cond b (peer plan q / 8) 32)
+      by-test : (b : Bool) → tests q ≡ b → cond b (peer plan q / 8) 32 < 32 → Leads plan s 0 k q (cond b (peer plan q / 8) 32)
       by-test false e h = absurd (omega arith)
       by-test true e h =
           let f = simp facts at e in

@@ -1,5 +1,7 @@
 pub mod Ahead
-pub mod Steps
-pub mod Depths
+pub mod VisitLaws
+pub mod Returns
 pub mod Found
+pub mod Deciding
+pub mod Farthest
 pub mod Unique

@@ -10,12 +10,12 @@ use Rattle.plan.specs.declared.Plan.{Plan}
 use Rattle.bench.specs.State.{State}
 use Rattle.reach.specs.Reach.{Reached, reachAsks, Reaches}
 
-module _ (plan : Plan) (s : State) (d : ℕ) where
+module _ (plan : Plan) (s : State) (d k : ℕ) where
   -- what is in one set of those reached is in the other
-  within : (x y : ℕ) → Reached plan s d x → Reached plan s d y → (e : ℕ) → e < 32 → bit x e ≡ 1 → bit y e ≡ 1
+  within : (x y : ℕ) → Reached plan s d k x → Reached plan s d k y → (e : ℕ) → e < 32 → bit x e ≡ 1 → bit y e ≡ 1
   within x y p q e h b = let w = p .only e h b in q .all (w .0) e (w .1) .1
 
-  pub reached-once : (x y : ℕ) → Reached plan s d x → Reached plan s d y → x ≡ y
+  pub reached-once : (x y : ℕ) → Reached plan s d k x → Reached plan s d k y → x ≡ y
   reached-once x y p q =
       same-members 32 x y (p .small) (q .small)
       (λ e h. elim (ℕ-discrete (bit x e) 1) [
@@ -26,8 +26,8 @@ module _ (plan : Plan) (s : State) (d : ℕ) where
         ]
       ])
 
-  pub reach-unique : (k m n v w x y : ℕ) → Reaches plan s d k m v x → Reaches plan s d k n w y → (m ≡ n) × (v ≡ w) × (x ≡ y)
-  reach-unique k m n v w x y p q =
+  pub reach-unique : (m n v w x y : ℕ) → Reaches plan s d k m v x → Reaches plan s d k n w y → (m ≡ n) × (v ≡ w) × (x ≡ y)
+  reach-unique m n v w x y p q =
       let e = ordered-once (reachAsks plan s d k) m n (p .answers) (q .answers) in
       elim (ℕ-discrete m 0) [
         | yes z ↦

@@ -1,4 +1,5 @@
 pub mod Walk
+pub mod Distance
 pub mod Reach
 pub mod Visits
-pub mod Steps
+pub mod Depth

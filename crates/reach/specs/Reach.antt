@@ -11,11 +11,11 @@ use Rattle.bench.specs.Network.{devices, source}
 use Rattle.bench.specs.Sound.{Sound}
 use Rattle.reach.specs.Walk.{Walk}
 
--- the devices that interrupt codes reach from device d, as a set
-pub record Reached (plan : Plan) (s : State) (d set : ℕ) : Type 0 where
+-- the devices that interrupts of identifier k reach from device d, as a set
+pub record Reached (plan : Plan) (s : State) (d k set : ℕ) : Type 0 where
   pub small : set < 2 ^ 32
-  pub only : (e : ℕ) → e < 32 → bit set e ≡ 1 → (n : ℕ) × Walk plan s 0 d n e
-  pub all : (n e : ℕ) → Walk plan s 0 d n e → (e < 32) × (bit set e ≡ 1)
+  pub only : (e : ℕ) → e < 32 → bit set e ≡ 1 → (n : ℕ) × Walk plan s 0 k d n e
+  pub all : (n e : ℕ) → Walk plan s 0 k d n e → (e < 32) × (bit set e ≡ 1)
 
 abbrev pub reachAsks : Plan → State → ℕ → ℕ → List Condition
 reachAsks plan s d k =
@@ -24,5 +24,5 @@ reachAsks plan s d k =
 -- done, the value is how many devices there are in the set of those reached; refused, both are 0
 pub record Reaches (plan : Plan) (s : State) (d k number value set : ℕ) : Type 0 where
   pub answers : Ordered (reachAsks plan s d k) number
-  pub made : number ≡ 0 → Reached plan s d set × (value ≡ size set)
+  pub made : number ≡ 0 → Reached plan s d k set × (value ≡ size set)
   pub kept : (number ≡ 0 → ⊥) → (set ≡ 0) × (value ≡ 0)

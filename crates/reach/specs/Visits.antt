@@ -13,20 +13,23 @@ use Rattle.bench.specs.State.{State, running}
 
 -- ---- by what stands in the arrays of a plan
 
-module _ (permissions : List ℕ) (peers : List (List ℕ)) (s : State) where
-  abbrev pub farEnd : ℕ → ℕ
-  farEnd q = getD (getD peers (q / 8) []) (q % 8) 0
+abbrev pub farEnd : List (List ℕ) → ℕ → ℕ
+farEnd peers q = getD (getD peers (q / 8) []) (q % 8) 0
 
+-- for interrupts of identifier k, as in `Walk`
+module _ (permissions : List ℕ) (peers : List (List ℕ)) (s : State) (k : ℕ) where
   -- port q leads somewhere
   abbrev pub leads : ℕ → Bool
-  leads q = eqb (running s q) 1 && maySend 0 (getD permissions q 0) && ltb (farEnd q) nobody && mayReceive 0 (getD permissions (farEnd q) 0)
+  leads q = eqb (running s q) 1 && maySend 0 (getD permissions q 0) && ltb (farEnd peers q) nobody && mayReceive 0 (getD permissions (farEnd peers q) 0)
 
   -- the device that port q leads to, or 32
   unfoldable pub ahead : ℕ → ℕ
-  ahead q = cond (leads q) (farEnd q / 8) 32
+  ahead q = cond (leads q) (farEnd peers q / 8) 32
+
+-- ---- by what is ahead of each port
 
 -- a visit takes the set of the devices found so far, and gives it with those that it finds; the first number is how deep visits may go
-module _ (role permissions : List ℕ) (peers : List (List ℕ)) (s : State) where
+module _ (role : List ℕ) (to : ℕ → ℕ) where
   unfoldable mutual
     -- device d joins, if it exists and was not met before, and a router passes on
     pub deviceVisit : ℕ → ℕ → ℕ → ℕ
@@ -37,10 +40,12 @@ module _ (role permissions : List ℕ) (peers : List (List ℕ)) (s : State) whe
     -- the ports of device d from port p on: what each leads to is visited
     pub portVisit : ℕ → ℕ → ℕ → ℕ → ℕ
     portVisit zero d p set = set
-    portVisit (suc depth) d p set =
-        cond (ltb p 8) (portVisit depth d (p + 1) (deviceVisit depth (ahead permissions peers s (8 * d + p)) set)) set
+    portVisit (suc depth) d p set = cond (ltb p 8) (portVisit depth d (p + 1) (deviceVisit depth (to (8 * d + p)) set)) set
 
 -- ---- by a plan: from the source alone, which passes on whatever it is; no walk is as deep as 330, ten for each device and for the source
 
-unfoldable pub visited : Plan → State → ℕ → ℕ
-visited plan s d = portVisit (plan .core .role) (plan .core .permissions) (plan .peers) s 330 d 0 (join 0 d)
+abbrev pub aheadIn : Plan → State → ℕ → ℕ → ℕ
+aheadIn plan s k = ahead (plan .core .permissions) (plan .peers) s k
+
+unfoldable pub visited : Plan → State → ℕ → ℕ → ℕ
+visited plan s d k = portVisit (plan .core .role) (aheadIn plan s k) 330 d 0 (join 0 d)

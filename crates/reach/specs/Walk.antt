@@ -9,7 +9,8 @@ use Rattle.plan.specs.declared.Plan.{Plan}
 use Rattle.bench.specs.State.{State, running}
 use Rattle.bench.specs.Network.{router, peer, permissions}
 
-module _ (plan : Plan) (s : State) (kind : ℕ) where
+-- for codes of a kind and of identifier k: no rule tells identifiers apart, but where a code goes is asked of one code, which has both
+module _ (plan : Plan) (s : State) (kind k : ℕ) where
   -- port q leads to device e: it runs, it may send codes of the kind, and the port at its other end, a port of e, may receive them
   pub record Leads (q e : ℕ) : Type 0 where
     pub runs : running s q ≡ 1

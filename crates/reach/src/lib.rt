@@ -31,7 +31,7 @@ pub fn reach(plan: Plan, state: &[u32], device: usize, k: u32) -> Reach
     let role = core.role;
     let peers = plan::peers_of(plan);
     let start = bits::join(0, device as u32);
-    let set = visits::port(&role, &core.permissions, &peers, state, device, 0, start);
+    let set = visits::port(&role, &core.permissions, &peers, state, k, device, 0, start);
     Reach {
         number: 0,
         value: bits::count(set),

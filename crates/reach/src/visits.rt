@@ -2,10 +2,12 @@
 // that it finds. The plan's arrays and the state are lent, so that no visit copies them.
 ghost use mathlib.Core.Path.{_≡_};
 ghost use Prim.Native.Nat.{_+_, _-_, _≤_, _<_};
-ghost use lib.ListN.{length};
+ghost use lib.Dec.{eqb};
+ghost use lib.ListN.{length, getD};
 ghost use Rattle.device.specs.Permissions.{maySend, mayReceive};
-ghost use Rattle.reach.specs.Steps.{left, Finds};
-ghost use Rattle.reach.specs.Visits.{ahead as Visits·ahead, deviceVisit, portVisit};
+ghost use Rattle.bench.specs.State.{portAt};
+ghost use Rattle.reach.specs.Depth.{left, Finds};
+ghost use Rattle.reach.specs.Visits.{farEnd, ahead as Visits·ahead, deviceVisit, portVisit};
 
 // An element of a lent array is known to fit its type only once it is an argument, so these three
 // take one: a peer's number, and what a port with some permissions may do.
@@ -15,34 +17,63 @@ fn wide(x: u16) -> usize
     x as usize
 }
 
-fn sends(permissions: u8) -> bool
+fn may_send(permissions: u8) -> bool
     ensures { λ r. ⌜ r ≡ maySend 0 permissions ⌝ }
 {
     device::may_send(0, permissions as u32)
 }
 
-fn receives(permissions: u8) -> bool
+fn may_receive(permissions: u8) -> bool
     ensures { λ r. ⌜ r ≡ mayReceive 0 permissions ⌝ }
 {
     device::may_receive(0, permissions as u32)
 }
 
-// The device that port q leads to, or 32.
-fn ahead(permissions: &[u8; 256], peers: &[[u16; 8]; 32], state: &[u32], q: usize) -> usize
+// What stands of port q in each area.
+fn runs(state: &[u32], q: usize) -> bool
     requires { ⌜ (length (now state) ≡ 2080) × (q < 256) ⌝ }
-    ensures { λ r. ⌜ r ≡ Visits·ahead (now (permissions .entry)) (now (peers .entry)) (now (state .entry)) q ⌝ }
+    ensures { λ r. ⌜ r ≡ eqb (getD (now (state .entry)) (portAt q 3) 0) 1 ⌝ }
 {
-    if state[bench::PORTS + bench::PORT * q + bench::RUNNING] != 1 {
+    state[bench::PORTS + bench::PORT * q + bench::RUNNING] == 1
+}
+
+fn sends(permissions: &[u8; 256], q: usize) -> bool
+    requires { ⌜ q < 256 ⌝ }
+    ensures { λ r. ⌜ r ≡ maySend 0 (getD (now (permissions .entry)) q 0) ⌝ }
+{
+    may_send(permissions[q])
+}
+
+fn receives(permissions: &[u8; 256], q: usize) -> bool
+    requires { ⌜ q < 256 ⌝ }
+    ensures { λ r. ⌜ r ≡ mayReceive 0 (getD (now (permissions .entry)) q 0) ⌝ }
+{
+    may_receive(permissions[q])
+}
+
+fn far_end(peers: &[[u16; 8]; 32], q: usize) -> usize
+    requires { ⌜ q < 256 ⌝ }
+    ensures { λ r. ⌜ r ≡ farEnd (now (peers .entry)) q ⌝ }
+{
+    wide(peers[q / 8][q % 8])
+}
+
+// The device that port q leads to for k, or 32. No test asks for k: no rule tells identifiers apart.
+fn ahead(permissions: &[u8; 256], peers: &[[u16; 8]; 32], state: &[u32], k: u32, q: usize) -> usize
+    requires { ⌜ (length (now state) ≡ 2080) × (q < 256) ⌝ }
+    ensures { λ r. ⌜ r ≡ Visits·ahead (now (permissions .entry)) (now (peers .entry)) (now (state .entry)) k q ⌝ }
+{
+    if !runs(state, q) {
         return 32;
     }
-    if !sends(permissions[q]) {
+    if !sends(permissions, q) {
         return 32;
     }
-    let far = wide(peers[q / 8][q % 8]);
+    let far = far_end(peers, q);
     if 256 <= far {
         return 32;
     }
-    if !receives(permissions[far]) {
+    if !receives(permissions, far) {
         return 32;
     }
     far / 8
@@ -54,11 +85,12 @@ fn device(
     permissions: &[u8; 256],
     peers: &[[u16; 8]; 32],
     state: &[u32],
+    k: u32,
     d: usize,
     set: u32,
 ) -> u32
     requires { ⌜ length (now state) ≡ 2080 ⌝ }
-    ensures { λ r. ⌜ Finds (λ depth. deviceVisit (now (role .entry)) (now (permissions .entry)) (now (peers .entry)) (now (state .entry)) depth d set) (left set) r ⌝ }
+    ensures { λ r. ⌜ Finds (λ depth. deviceVisit (now (role .entry)) (Visits·ahead (now (permissions .entry)) (now (peers .entry)) (now (state .entry)) k) depth d set) (left set) r ⌝ }
 {
     if 31 < d {
         return set;
@@ -70,7 +102,7 @@ fn device(
     if role[d] != 1 {
         return joined;
     }
-    port(role, permissions, peers, state, d, 0, joined)
+    port(role, permissions, peers, state, k, d, 0, joined)
 }
 
 // The ports of device d from port p on: what each leads to is visited.
@@ -79,17 +111,18 @@ pub(crate) fn port(
     permissions: &[u8; 256],
     peers: &[[u16; 8]; 32],
     state: &[u32],
+    k: u32,
     d: usize,
     p: usize,
     set: u32,
 ) -> u32
     requires { ⌜ (length (now state) ≡ 2080) × (d < 32) × (p ≤ 8) ⌝ }
-    ensures { λ r. ⌜ Finds (λ depth. portVisit (now (role .entry)) (now (permissions .entry)) (now (peers .entry)) (now (state .entry)) depth d p set) (left set + (9 - p)) r ⌝ }
+    ensures { λ r. ⌜ Finds (λ depth. portVisit (now (role .entry)) (Visits·ahead (now (permissions .entry)) (now (peers .entry)) (now (state .entry)) k) depth d p set) (left set + (9 - p)) r ⌝ }
 {
     if p == 8 {
         return set;
     }
-    let next = ahead(permissions, peers, state, 8 * d + p);
-    let more = device(role, permissions, peers, state, next, set);
-    port(role, permissions, peers, state, d, p + 1, more)
+    let next = ahead(permissions, peers, state, k, 8 * d + p);
+    let more = device(role, permissions, peers, state, k, next, set);
+    port(role, permissions, peers, state, k, d, p + 1, more)
 }

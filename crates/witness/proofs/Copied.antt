@@ -16,7 +16,7 @@ use Rattle.witness.specs.Line.{line, busy}
 use Rattle.witness.specs.Copying.{Copies}
 use Rattle.witness.proofs.Held.{line-held}
 use Rattle.witness.proofs.Busy.{busy-sound, busy-unset}
-use Rattle.witness.proofs.Given.{to-router, requested-sound}
+use Rattle.witness.proofs.Conditions.{to-router, requested-sound}
 
 -- the request for 31 is taken
 abbrev requested : State

@@ -18,7 +18,7 @@ use Rattle.assurance.specs.Demand3.{Demand3}
 use Rattle.assurance.proofs.Demand.{demand-3}
 use Rattle.witness.specs.Line.{line, busy, course}
 use Rattle.witness.specs.Rate.{Enough}
-use Rattle.witness.proofs.Given.{to-router, given}
+use Rattle.witness.proofs.Conditions.{to-router, given}
 
 pub enough : Enough 32
 unfolding Enough Demand3

@@ -1,5 +1,5 @@
 pub mod Held
 pub mod Busy
-pub mod Given
+pub mod Conditions
 pub mod Late
 pub mod Copied

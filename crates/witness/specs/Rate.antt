@@ -11,4 +11,4 @@ use Rattle.assurance.specs.Demand3.{Given, window}
 unfoldable pub Enough : ℕ → Type 0
 Enough W =
     (plan : Plan) (k source D : ℕ) (s : State) (at : ℕ → State) → Given plan k source D s at
-    → (n e t : ℕ) → Walk plan s 0 source n e → W * n ≤ t → t ≤ window D → bit (register (at t) e) k ≡ 1
+    → (n e t : ℕ) → Walk plan s 0 k source n e → W * n ≤ t → t ≤ window D → bit (register (at t) e) k ≡ 1

@@ -17,8 +17,8 @@ use Rattle.bench.specs.State.{State}
 use Rattle.bench.specs.Sound.{Sound}
 use Rattle.bench.proofs.Plans.{few}
 use Rattle.reach.specs.Reach.{Reached, reachAsks, Reaches}
-use Rattle.reach.specs.Visits.{portVisit, visited}
-use Rattle.reach.specs.Steps.{left, Finds}
+use Rattle.reach.specs.Visits.{ahead, portVisit, visited}
+use Rattle.reach.specs.Depth.{left, Finds}
 use Rattle.reach.proofs.Found.{visits-reach}
 use Rattle.reach.proofs.reach.Statement.{statement}
 use Rattle.reach.proofs.reach.Tie as tie
@@ -34,13 +34,13 @@ refuses plan s d k n number value set e some o =
     record { answers = rw (e .0) o; made = λ z. absurd (omega arith); kept = λ _. (e .2, e .1) }
 
 -- among the plan's peers and from the source alone, or from others that are equal
-reached : (plan : Plan) (s : State) (d : ℕ) (peers : List (List ℕ)) (start r : ℕ) → d < 32 → peers ≡ plan .peers → start ≡ join 0 d
-    → Finds (λ depth. portVisit (plan .core .role) (plan .core .permissions) peers s depth d 0 start) (left start + (9 - 0)) r
-    → Reached plan s d r
+reached : (plan : Plan) (s : State) (d k : ℕ) (peers : List (List ℕ)) (start r : ℕ) → d < 32 → peers ≡ plan .peers → start ≡ join 0 d
+    → Finds (λ depth. portVisit (plan .core .role) (ahead (plan .core .permissions) peers s k) depth d 0 start) (left start + (9 - 0)) r
+    → Reached plan s d k r
 unfolding visited
-reached plan s d peers start r h e j w =
-    let same : r ≡ visited plan s d = w 330 (omega arith) ∙ rw (e, j) in
-    rw same (visits-reach plan s d h)
+reached plan s d k peers start r h e j w =
+    let same : r ≡ visited plan s d k = w 330 (omega arith) ∙ rw (e, j) in
+    rw same (visits-reach plan s d k h)
 
 -- what the tests that are passed say
 held : (c : tie.Else1) → Held (c .before .before .before .args .plan)
@@ -136,7 +136,7 @@ returns-6 c =
     record {
       answers = inr (held (e .before .before), inr (sound e, inr (f .before .if3 .left, inr (omega arith, inr (identifier, refl)))));
       made =
-          λ _. (reached _ _ _ _ _ _ (small (f .before)) (j .before .peers-of .ensures) (j .join .ensures) (c .before .port .ensures), c .count .ensures);
+          λ _. (reached _ _ _ _ _ _ _ (small (f .before)) (j .before .peers-of .ensures) (j .join .ensures) (c .before .port .ensures), c .count .ensures);
       kept = λ n. absurd (n refl);
     }
 

@@ -11,8 +11,8 @@ use Rattle.bits.specs.Set.{bit, join}
 use Rattle.bits.proofs.Sets.{bit-two}
 use Rattle.bits.proofs.get.Reads as get-reads
 use Rattle.bits.proofs.join.Reads as join-reads
-use Rattle.reach.specs.Steps.{left}
-use Rattle.reach.proofs.Depths.{none, again, node, shorter, router, last, no-more, onward}
+use Rattle.reach.specs.Depth.{left}
+use Rattle.reach.proofs.Returns.{none, again, node, shorter, router, last, no-more, onward}
 use Rattle.reach.proofs.visits.ahead.Reads as ahead-reads
 use Rattle.reach.proofs.visits.device.Reads as device
 use Rattle.reach.proofs.visits.device.Kinds as device-kinds
@@ -24,10 +24,10 @@ use Rattle.reach.proofs.visits.+device+port.{statement}
 use Rattle.reach.proofs.visits.+device+port.Tie.{close}
 
 abbrev μ-device : Measures 4 device-kinds.ps ℕ
-μ-device κs a = left (a .1 .1 .1 .1 .1 .0)
+μ-device κs a = left (a .1 .1 .1 .1 .1 .1 .0)
 
 abbrev μ-port : Measures 4 port-kinds.ps ℕ
-μ-port κs a = left (a .1 .1 .1 .1 .1 .1 .0) + (9 - a .1 .1 .1 .1 .1 .0)
+μ-port κs a = left (a .1 .1 .1 .1 .1 .1 .1 .0) + (9 - a .1 .1 .1 .1 .1 .1 .0)
 
 module _ (t : ℕ) where
   abbrev device-at : In 4 device-kinds.ps
@@ -52,7 +52,7 @@ module _ (t : ℕ) where
   -- ---- the visit of a device
 
   device-returns : device-lts.Need-returns device-calls device-at device.Post
-  device-returns c = none _ _ _ _ _ _ (omega arith)
+  device-returns c = none _ _ _ _ (omega arith)
 
   device-cast-get : device-lts.Need-cast-get device-calls device-at device.Post
   device-cast-get c = search needs
@@ -61,7 +61,7 @@ module _ (t : ℕ) where
   device-get-requires c κs = search needs
 
   device-returns-2 : device-lts.Need-returns-2 device-calls device-at device.Post
-  device-returns-2 c = again _ _ _ _ _ _ (sym (c .before .get .ensures) ∙ c .if2 .taken)
+  device-returns-2 c = again _ _ _ _ (sym (c .before .get .ensures) ∙ c .if2 .taken)
 
   device-cast-join : device-lts.Need-cast-join device-calls device-at device.Post
   device-cast-join c = search needs
@@ -77,20 +77,19 @@ module _ (t : ℕ) where
   new c = let a = c .before .before .before .before .before .args in omega (arith, bit-two (a .set) (a .d))
 
   device-returns-3 : device-lts.Need-returns-3 device-calls device-at device.Post
-  device-returns-3 c = let j = c .before .before in node _ _ _ _ _ _ _ (j .join .ensures) (omega arith) (new j) (ne-eqb _ _ (c .if3 .taken))
+  device-returns-3 c = let j = c .before .before in node _ _ _ _ _ (j .join .ensures) (omega arith) (new j) (ne-eqb _ _ (c .if3 .taken))
 
   device-port-requires : device-lts.Need-port-requires device-calls device-at device.Post
   device-port-requires c κs = let j = c .before .before in omega (arith, shorter _ _ _ (j .join .ensures) (omega arith) (new j))
 
   device-returns-4 : device-lts.Need-returns-4 device-calls device-at device.Post
   device-returns-4 c =
-      let j = c .before .before .before in
-      router _ _ _ _ _ _ _ (j .join .ensures) (omega arith) (new j) _ (eq-eqb _ _ (c .before .if3 .left)) (c .port .ensures)
+      router _ _ _ _ _ (c .before .before .before .join .ensures) (omega arith) (new (c .before .before .before)) _ (eq-eqb _ _ (c .before .if3 .left)) (c .port .ensures)
 
   -- ---- the visit of a port
 
   port-returns : port-lts.Need-returns port-calls port-at port.Post
-  port-returns c = last _ _ _ _ _ _ _ (omega arith)
+  port-returns c = last _ _ _ _ _ (omega arith)
 
   port-mul-ahead : port-lts.Need-mul-ahead port-calls port-at port.Post
   port-mul-ahead c = search needs
@@ -108,11 +107,11 @@ module _ (t : ℕ) where
   port-add-port c = search needs
 
   port-port-requires : port-lts.Need-port-requires port-calls port-at port.Post
-  port-port-requires c κs = omega (arith, no-more _ _ _ _ _ _ _ (c .device .ensures))
+  port-port-requires c κs = omega (arith, no-more _ _ _ _ _ (c .device .ensures))
 
   port-returns-2 : port-lts.Need-returns-2 port-calls port-at port.Post
   port-returns-2 c =
-      onward _ _ _ _ _ _ _ (c .before .device .ensures) _ _ _ (c .before .before .ahead .ensures) (omega arith) (c .port .ensures)
+      onward _ _ _ _ _ (c .before .device .ensures) _ _ _ (c .before .before .ahead .ensures) (omega arith) (c .port .ensures)
 
 pub +device+port-spec : {M : Type 1} → statement M
 +device+port-spec =

@@ -1,4 +1,4 @@
--- All that demand 3 asks for is given in the example: it is not empty.
+-- The example meets every condition of demand 3: it is not empty.
 use mathlib.Core.Path.{_≡_, refl, sym, ap, _∙_}
 use mathlib.Core.Bool.{true, not}
 use mathlib.Core.List.{[]}
@@ -21,9 +21,10 @@ use Rattle.bench.specs.Calls.{callAsks, called}
 use Rattle.bench.proofs.Apart.{call-apart}
 use Rattle.bench.proofs.Called.{call-sound}
 use Rattle.reach.specs.Walk.{Leads, Walk, stay, cross}
+use Rattle.reach.specs.Distance.{Farthest}
 use Rattle.reach.proofs.Found.{none-away}
-use Rattle.assurance.specs.Demand3.{Farthest, Calls, none, then, window, Given, Follows, Demand3}
-use Rattle.assurance.proofs.Distances.{walk-device}
+use Rattle.reach.proofs.Farthest.{walk-device}
+use Rattle.assurance.specs.Demand3.{Calls, none, then, window, Given, Follows, Demand3}
 use Rattle.assurance.proofs.Demand.{demand-3}
 use Rattle.witness.specs.Line.{line, busy, course}
 use Rattle.witness.proofs.Held.{line-held}
@@ -32,13 +33,13 @@ use Rattle.witness.proofs.Busy.{busy-sound, busy-unset, busy-idle, busy
 -- ---- the router is one crossing away, node 2 is two, and no device is farther
 
 abbrev Far : ℕ → ℕ → Type 0
-Far = Walk line busy 0 0
+Far = Walk line busy 0 31 0
 
-first : Leads line busy 0 0 1
+first : Leads line busy 0 31 0 1
 unfolding line maySend mayReceive bit
 first = record { runs = busy-runs 0 (omega arith) (omega arith); sends = refl; joined = omega arith; receives = refl; there = refl }
 
-second : Leads line busy 0 9 2
+second : Leads line busy 0 31 9 2
 unfolding line maySend mayReceive bit
 second = record { runs = busy-runs 9 (omega arith) (omega arith); sends = refl; joined = omega arith; receives = refl; there = refl }
 
@@ -69,13 +70,13 @@ near (suc zero) h = (1, omega arith, to-router)
 near (suc (suc zero)) h = (2, omega arith, to-node)
 near (suc (suc (suc e))) h = absurd (omega arith)
 
-far : Farthest line busy 0 0 2
+far : Farthest line busy 0 31 0 2
 unfolding line
 far =
     record {
       some = (2, record { there = to-node; least = λ m l w. not-nearer w l refl });
       most = λ n e a.
-          let c = near e (walk-device line line-held busy 0 0 (omega arith) (a .there)) in
+          let c = near e (walk-device line line-held busy 0 31 0 (omega arith) (a .there)) in
           elim (decLe n 2) [ yes l ↦ l | no l ↦ absurd (a .least (c .0) (omega (arith, c .1)) (c .2)) ];
     }
 

@@ -1,4 +1,4 @@
--- No rules: what the private functions promise. Nothing here has to be believed; `Depths` and `Found` prove what it comes to.
+-- No rules: what the private functions promise. Nothing here has to be believed; `Returns` and `Found` prove what it comes to.
 use mathlib.Core.Path.{_≡_}
 use Prim.Native.Nat.{ℕ, _-_, _*_, _<_}
 use Rattle.bits.specs.Set.{size}

@@ -1,4 +1,4 @@
--- How many crossings away a device is can be decided, some device is the farthest, and those within its distance are those reached.
+-- How many crossings away a device is can be decided; some device is the farthest, and those within its distance are those reached.
 use mathlib.Core.Path.{_≡_, refl, sym, subst}
 use mathlib.Core.Bool.{Bool, true, false, Bool-discrete}
 use mathlib.Core.Logic.{_⊎_, inl, inr, Dec·and, Dec·not}
@@ -13,16 +13,16 @@ use Rattle.plan.specs.declared.Plan.{Plan}
 use Rattle.bench.specs.State.{State, running}
 use Rattle.bench.specs.Network.{devices, router, exists, peer, permissions}
 use Rattle.bench.proofs.Plans.{few, owned, absent-loose, far-end}
 use Rattle.reach.specs.Walk.{Leads, Walk, stay, cross}
 use Rattle.reach.specs.Reach.{Reached}
 use Rattle.reach.proofs.Found.{none-away}
-use Rattle.assurance.specs.Demand3.{Away, Farthest}
-use Rattle.assurance.proofs.Deciding.{either?, some-below, first-up-to, count, count-le, count-gains}
+use Rattle.reach.specs.Distance.{Away, Farthest}
+use Rattle.reach.proofs.Deciding.{either?, some-below, first-up-to, count, count-le, count-gains}
 
 -- ---- one crossing
 
-module _ (plan : Plan) (s : State) (kind q : ℕ) where
-  leads? : (e : ℕ) → Dec (Leads plan s kind q e)
+module _ (plan : Plan) (s : State) (kind k q : ℕ) where
+  leads? : (e : ℕ) → Dec (Leads plan s kind k q e)
   leads? e =
       map-dec
       (λ w. record { runs = w .0; sends = w .1 .0; joined = w .1 .1 .0; receives = w .1 .1 .1 .0; there = w .1 .1 .1 .1 })
@@ -33,7 +33,7 @@ module _ (plan : Plan) (s : State) (kind q : ℕ) where
       (Dec·and (Bool-discrete (mayReceive kind (permissions plan (peer plan q))) true) (ℕ-discrete e (peer plan q / 8))))))
 
   -- a port leads to a device of the plan
-  leads-device : Held plan → (e : ℕ) → q < 256 → Leads plan s kind q e → e < devices plan
+  leads-device : Held plan → (e : ℕ) → q < 256 → Leads plan s kind k q e → e < devices plan
   leads-device held e h l = rw (l .there) (by-test (exists plan q) refl)
     where
       by-test : (b : Bool) → exists plan q ≡ b → peer plan q / 8 < devices plan
@@ -42,30 +42,30 @@ module _ (plan : Plan) (s : State) (kind q : ℕ) where
 
 -- ---- walks from a device of the plan
 
-module _ (plan : Plan) (held : Held plan) (s : State) (kind from : ℕ) (h : from < devices plan) where
+module _ (plan : Plan) (held : Held plan) (s : State) (kind k from : ℕ) (h : from < devices plan) where
   abbrev Far : ℕ → ℕ → Type 0
-  Far = Walk plan s kind from
+  Far = Walk plan s kind k from
 
   pub walk-device : {n e : ℕ} → Far n e → e < devices plan
   walk-device stay = h
   walk-device (cross {d = d} {e = e} w on p l leads) =
-      leads-device plan s kind (8 * d + p) held e (omega (arith, walk-device w, few plan held)) leads
+      leads-device plan s kind k (8 * d + p) held e (omega (arith, walk-device w, few plan held)) leads
 
   -- a device goes on from n crossings away: it is where the walk starts, or a router
   abbrev On : ℕ → ℕ → Type 0
   On n d = (n ≡ 0) ⊎ (router plan d ≡ true)
 
   -- one crossing more, by port q
-  pub walk-port : {n e : ℕ} (q : ℕ) → Far n (q / 8) → On n (q / 8) → Leads plan s kind q e → Far (suc n) e
+  pub walk-port : {n e : ℕ} (q : ℕ) → Far n (q / 8) → On n (q / 8) → Leads plan s kind k q e → Far (suc n) e
   walk-port {e = e} q w on leads =
       let whole : q ≡ 8 * (q / 8) + q % 8 = omega arith in
-      cross w on (q % 8) (omega arith) (subst (λ r. Leads plan s kind r e) whole leads)
+      cross w on (q % 8) (omega arith) (subst (λ r. Leads plan s kind k r e) whole leads)
 
   -- port q is the last on a walk to e
   record Last (n e q : ℕ) : Type 0 where
     near : Far n (q / 8)
     on : On n (q / 8)
-    leads : Leads plan s kind q e
+    leads : Leads plan s kind k q e
 
   last-port : {m e : ℕ} → Far m e → (n : ℕ) → m ≡ suc n → (q : ℕ) × (q < 256) × Last n e q
   last-port stay n z = absurd (omega arith)
@@ -79,7 +79,7 @@ module _ (plan : Plan) (held : Held plan) (s : State) (kind from : ℕ) (h : fro
       map-dec
       (λ x. record { near = x .0; on = x .1 .0; leads = x .1 .1 })
       (λ x. (x .near, (x .on, x .leads)))
-      (Dec·and w? (Dec·and (either? (ℕ-discrete n 0) (Bool-discrete (router plan (q / 8)) true)) (leads? plan s kind q e)))
+      (Dec·and w? (Dec·and (either? (ℕ-discrete n 0) (Bool-discrete (router plan (q / 8)) true)) (leads? plan s kind k q e)))
 
   pub walk? : (n e : ℕ) → Dec (Far n e)
   walk? zero e = map-dec (λ q. subst (Far 0) (sym q) stay) (λ w. none-away w refl) (ℕ-discrete e from)
@@ -90,7 +90,7 @@ module _ (plan : Plan) (held : Held plan) (s : State) (kind from : ℕ) (h : fro
   -- ---- the fewest crossings
 
   abbrev At : ℕ → ℕ → Type 0
-  At = Away plan s kind from
+  At = Away plan s kind k from
 
   pub nearest : {n e : ℕ} → Far n e → (m : ℕ) × (m ≤ n) × At m e
   nearest {n} {e} w =
@@ -144,7 +144,7 @@ module _ (plan : Plan) (held : Held plan) (s : State) (kind from : ℕ) (h : fro
       (suc n, omega arith, x .1 .there) (λ y. x .1 .least (y .0) (y .1) (y .2))
 
   -- some device is n crossings away; look on from there
-  from-here : (left n : ℕ) → n + left ≡ 33 → Some n → n ≤ near n → (D : ℕ) × Farthest plan s kind from D
+  from-here : (left n : ℕ) → n + left ≡ 33 → Some n → n ≤ near n → (D : ℕ) × Farthest plan s kind k from D
   from-here zero n e x l = absurd (omega (arith, count-le (Near n) (near? n) 32))
   from-here (suc left) n e x l =
       elim (some? (suc n)) [
@@ -158,21 +158,21 @@ module _ (plan : Plan) (held : Held plan) (s : State) (kind from : ℕ) (h : fro
         )
       ]
 
-  pub farthest : (D : ℕ) × Farthest plan s kind from D
+  pub farthest : (D : ℕ) × Farthest plan s kind k from D
   farthest = from-here 33 0 (omega arith) (from, record { there = stay; least = λ m l w. omega arith }) (omega arith)
 
-pub farthest-once : (plan : Plan) (s : State) (kind from D E : ℕ) → Farthest plan s kind from D → Farthest plan s kind from E → D ≡ E
-farthest-once plan s kind from D E x y = omega (arith, x .most E (y .some .0) (y .some .1), y .most D (x .some .0) (x .some .1))
+pub farthest-once : (plan : Plan) (s : State) (kind k from D E : ℕ) → Farthest plan s kind k from D → Farthest plan s kind k from E → D ≡ E
+farthest-once plan s kind k from D E x y = omega (arith, x .most E (y .some .0) (y .some .1), y .most D (x .some .0) (x .some .1))
 
 -- ---- those within that distance are those that reach answers with
 
-module _ (plan : Plan) (held : Held plan) (s : State) (from D set : ℕ) (h : from < devices plan) (x : Farthest plan s 0 from D) (y : Reached plan s from set) where
+module _ (plan : Plan) (held : Held plan) (s : State) (k from D set : ℕ) (h : from < devices plan) (x : Farthest plan s 0 k from D) (y : Reached plan s from k set) where
   abbrev Counted : ℕ → Type 0
-  Counted e = (n : ℕ) × (n ≤ D) × Away plan s 0 from n e
+  Counted e = (n : ℕ) × (n ≤ D) × Away plan s 0 k from n e
 
   pub reached-counted : (e : ℕ) → e < 32 → bit set e ≡ 1 → Counted e
   reached-counted e l b =
-      let a = nearest plan held s 0 from h (y .only e l b .1) in
+      let a = nearest plan held s 0 k from h (y .only e l b .1) in
       (a .0, x .most (a .0) e (a .2), a .2)
 
   pub counted-reached : (e : ℕ) → Counted e → (e < 32) × (bit set e ≡ 1)

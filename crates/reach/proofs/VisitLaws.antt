@@ -1,4 +1,4 @@
--- The steps of visits, what every visit keeps, and how far it may go.
+-- The laws of visits, wherever ports lead: the steps of each, what every visit keeps, and how deep is enough.
 use mathlib.Core.Path.{_≡_, refl, sym, ap, _∙_}
 use mathlib.Core.Bool.{Bool, true, false, false≢true}
 use mathlib.Core.List.{List}
@@ -11,9 +11,8 @@ use lib.ListN.{getD}
 use borrow.Author.Tests.{lt-ltb, le-ltb}
 use Rattle.bits.specs.Set.{bit, join, sizeBelow, size}
 use Rattle.bits.proofs.Sets.{bit-two, join-same, join-other, size-join, size-le}
-use Rattle.bench.specs.State.{State}
-use Rattle.reach.specs.Visits.{ahead, deviceVisit, portVisit}
-use Rattle.reach.specs.Steps.{left}
+use Rattle.reach.specs.Visits.{deviceVisit, portVisit}
+use Rattle.reach.specs.Depth.{left}
 
 -- ---- how many devices are left
 
@@ -40,19 +39,20 @@ fewer x y h = omega (arith, size-more 32 x y h)
 pub joined : (set d e : ℕ) → bit (join set d) e ≡ 1 → (bit set e ≡ 1) ⊎ (e ≡ d)
 joined set d e b = elim (ℕ-discrete e d) [ yes q ↦ inr q | no q ↦ inl (sym (join-other set d e q) ∙ b) ]
 
-module _ (role permissions : List ℕ) (peers : List (List ℕ)) (s : State) where
+-- to: the device ahead of each port, or 32
+module _ (role : List ℕ) (to : ℕ → ℕ) where
   -- short names for what visits are made of
   abbrev pub passes : ℕ → Bool
   passes d = eqb (getD role d 0) 1
 
   abbrev pub next : ℕ → ℕ → ℕ
-  next d p = ahead permissions peers s (8 * d + p)
+  next d p = to (8 * d + p)
 
   abbrev pub device : ℕ → ℕ → ℕ → ℕ
-  device = deviceVisit role permissions peers s
+  device = deviceVisit role to
 
   abbrev pub port : ℕ → ℕ → ℕ → ℕ → ℕ
-  port = portVisit role permissions peers s
+  port = portVisit role to
 
   -- ---- one step of each visit
 
