@@ -17,7 +17,7 @@ use Rattle.bench.proofs.Called.{call-sound}
 use Rattle.bench.proofs.Sounds.{by-kind}
 use Rattle.flood.specs.Flood.{Flooded}
 use Rattle.flood.proofs.Spreads.{flooded}
-use Rattle.assurance.specs.Demand3.{Given, Follows, Demand3, SendsK, window}
+use Rattle.assurance.specs.Demand3.{Given, Follows, Demand3, SendsK, crossing, window}
 use Rattle.assurance.proofs.Nets.{net}
 use Rattle.assurance.proofs.Sights.{sight, sending, takersOf}
 use Rattle.assurance.proofs.Choices.{sends-small}
@@ -67,9 +67,9 @@ module _ (plan : Plan) (k source D : ℕ) (s : State) (at : ℕ → State) (give
   fits : (t u : ℕ) → u + t ≡ last → Fit plan 0 k s takers u (at t)
   fits = fit ready at begins goes-on
 
-  flood : Flooded (net plan 0 k s takers source) 32 last D (λ t. sight plan 0 k s takers source (at t)) (λ t. sending plan 0 k (at t))
+  flood : Flooded (net plan 0 k s takers source) crossing last D (λ t. sight plan 0 k s takers source (at t)) (λ t. sending plan 0 k (at t))
   flood =
-      flooded (net plan 0 k s takers source) 32 last (omega arith) (λ t. sight plan 0 k s takers source (at t)) (λ t. sending plan 0 k (at t))
+      flooded (net plan 0 k s takers source) crossing last (omega arith) (λ t. sight plan 0 k s takers source (at t)) (λ t. sending plan 0 k (at t))
       (run ready at begins goes-on) D (farthest-within plan (given .held) 0 k s takers source there (given .unset) D (given .farthest))
 
   -- what is sent of k is an interrupt: no acknowledge of k waits

@@ -11,6 +11,7 @@ use Rattle.bench.specs.Sound.{Sound}
 use Rattle.bench.specs.Calls.{called}
 use Rattle.bench.specs.Round.{round}
 use Rattle.flood.specs.Flood.{Run}
+use Rattle.assurance.specs.Demand3.{crossing}
 use Rattle.assurance.proofs.Nets.{net}
 use Rattle.assurance.proofs.Sights.{sight, sending, takersOf}
 use Rattle.assurance.proofs.Fits.{Fit}
@@ -44,7 +45,7 @@ module _ {plan : Plan} {kind k d last : ℕ} {s : State} (r : Ready plan kind k 
       let z = later t (omega arith) in
       fit-after plan (r .held) kind k (r .kinds) (r .place) s (takersOf kind k s) u (enough u (omega arith)) (fit t (suc u) (omega arith)) (z .like) (z .sound)
 
-  pub run : Run (net plan kind k s (takersOf kind k s) d) 32 last (λ t. sight plan kind k s (takersOf kind k s) d (at t)) (λ t. sending plan kind k (at t))
+  pub run : Run (net plan kind k s (takersOf kind k s) d) crossing last (λ t. sight plan kind k s (takersOf kind k s) d (at t)) (λ t. sending plan kind k (at t))
   run =
       record {
         start = start plan (r .held) kind k (r .kinds) (r .place) d (r .there) (r .sound) (r .idle) (first .like) (r .stood);

@@ -12,6 +12,7 @@ use Rattle.bench.specs.State.{State, register, waiting, next}
 use Rattle.bench.specs.Network.{devices}
 use Rattle.bench.specs.Alike.{SendsIt}
 use Rattle.flood.specs.Flood.{Sight}
+use Rattle.assurance.specs.Demand3.{crossing}
 use Rattle.assurance.proofs.Nets.{net}
 
 -- s₀ : the state whose running flags count. takers : the devices that the code is new to
@@ -33,6 +34,10 @@ takersOf kind k s d = bit (register s d) k ≡ kind
 -- port q sends the code in the round that is played from s
 abbrev pub sending : Plan → ℕ → ℕ → State → ℕ → Type 0
 sending plan kind k s q = (q < 256) × SendsIt plan k s kind q
+
+-- the identifiers fit a crossing: fewer come before k than it has rounds
+pub rank-fits : (from k : ℕ) → after from k < crossing
+rank-fits = after-lt
 
 -- ---- the choice is fair: where another identifier is sent, k is nearer afterwards
 

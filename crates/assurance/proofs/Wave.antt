@@ -6,7 +6,6 @@ use Prim.Native.Nat.{ℕ, suc, _-_, _*_, _/_, _<_}
 use native.Mathlib.Omega.{arith}
 use Rattle.bits.specs.Set.{bit}
 use Rattle.bits.specs.First.{after}
-use Rattle.bits.proofs.Firsts.{after-lt}
 use Rattle.plan.specs.Reading.{Held}
 use Rattle.plan.specs.declared.Plan.{Plan}
 use Rattle.bench.specs.State.{State, register, waiting, next, running}
@@ -17,8 +16,9 @@ use Rattle.bench.specs.Alike.{Alike, SendsIt}
 use Rattle.bench.proofs.Plans.{FarEnd, few, owned, far-end}
 use Rattle.flood.specs.Flood.{Step}
 use Rattle.reach.specs.Walk.{Leads}
+use Rattle.assurance.specs.Demand3.{crossing}
 use Rattle.assurance.proofs.Nets.{net}
-use Rattle.assurance.proofs.Sights.{sight, sending}
+use Rattle.assurance.proofs.Sights.{sight, sending, rank-fits}
 use Rattle.assurance.proofs.Choices.{runs-there, waits-there, waits-runs, waits-may, waits-owned, sends-small, sends-inside, sent-waits, chosen-or-nearer}
 use Rattle.assurance.proofs.Fits.{Fit, fit-alike}
 use Rattle.assurance.proofs.Posted.{posts-next, posts-marks, posts-waited, posts-unsent, posts-wait-on, fit-posts}
@@ -109,12 +109,12 @@ module _ (plan : Plan) (held : Held plan) (kind k : ℕ) (g : kind < 2) (l : k <
 
       -- the calls change no port's next
       pub step : ((q : ℕ) → next t q ≡ next (round plan s .next) q) → (source : ℕ)
-          → Step (net plan kind k s₀ takers source) 32 (sight plan kind k s₀ takers source s) (sending plan kind k s) (sight plan kind k s₀ takers source t)
+          → Step (net plan kind k s₀ takers source) crossing (sight plan kind k s₀ takers source s) (sending plan kind k s) (sight plan kind k s₀ takers source t)
       step turns source =
           record {
             keeps = λ {d} h. (h .0, h .1, now d (h .0) ∙ going .keeping d (h .0) (marks d (h .0) ∙ h .2));
             waited = λ {q} h. (h .0, waited q (h .1));
-            bounded = λ {q} h. after-lt (next s q) k;
+            bounded = λ {q} h. rank-fits (next s q) k;
             served = λ {q} h. elim (served q (h .0) (h .1)) [
               | inl e ↦ inl (h .0, e)
               | inr c ↦ inr ((h .0, here q (h .0) ∙ c .0), rw (turns q) (c .1))

@@ -31,8 +31,12 @@ pub record Course (plan : Plan) (k rounds : ℕ) (s : State) (at : ℕ → State
 
 -- ---- the demand
 
+-- the rounds that a crossing takes at most
+abbrev pub crossing : ℕ
+crossing = 32
+
 abbrev pub window : ℕ → ℕ
-window D = 32 * (D + 1)
+window D = crossing * (D + 1)
 
 -- port q sends k in the round that is played from s
 abbrev pub SendsK : Plan → ℕ → State → ℕ → Type 0
@@ -50,14 +54,14 @@ module _ (plan : Plan) (k source D : ℕ) (s : State) where
     pub taken : Ordered (callAsks plan 0 source k s) 0
     -- D is the most crossings that the code needs to any device it can reach
     pub farthest : Farthest plan s 0 k source D
-    -- for 32 x (D + 1) rounds nobody requests k again or acknowledges it; other identifiers are used as they may be
+    -- for `window D` rounds nobody requests k again or acknowledges it; other identifiers are used as they may be
     pub course : Course plan k (window D) (called plan 0 source k s) at
     -- every timer load is longer than that
     pub loads : (d : ℕ) → d < devices plan → window D < loadOf plan d k
 
   pub record Follows (at : ℕ → State) : Type 0 where
-    -- a device n crossings away holds k by the end of round 32 x n and until the last round
-    pub holds : (n e t : ℕ) → Walk plan s 0 k source n e → 32 * n ≤ t → t ≤ window D → bit (register (at t) e) k ≡ 1
+    -- a device n crossings away holds k by the end of round `crossing` x n and until the last round
+    pub holds : (n e t : ℕ) → Walk plan s 0 k source n e → crossing * n ≤ t → t ≤ window D → bit (register (at t) e) k ≡ 1
     -- none out of reach holds it in that time
     pub no-other : (e t : ℕ) → e < devices plan → t ≤ window D → bit (register (at t) e) k ≡ 1 → (n : ℕ) × Walk plan s 0 k source n e
     -- no port sends k twice

@@ -9,7 +9,7 @@ use Rattle.bench.specs.Network.{devices}
 use Rattle.bench.specs.Sound.{Sound}
 use Rattle.bench.specs.Calls.{called}
 use Rattle.bench.specs.Alike.{Alike}
-use Rattle.assurance.specs.Demand3.{none, window, Follows}
+use Rattle.assurance.specs.Demand3.{none, crossing, window, Follows}
 use Rattle.assurance.proofs.Meanwhile.{alike-then, calls-beside}
 use Rattle.assurance.proofs.Taking.{called-took}
 use Rattle.witness.specs.Line.{line, busy}
@@ -38,10 +38,10 @@ module _ (at : ℕ → State) (copies : Copies line 31 (window 2) requested at) 
       let took = called-took line 0 31 (omega arith) (omega arith) 0 (omega arith) busy (busy-sound .size) in
       sym (stays t l .1 .marks e small) ∙ ap (λ r. bit r 31) (took .others e small ne .0) ∙ busy-unset 31 (omega arith) (omega arith) e h
 
-  -- so the router, one crossing away, does not hold 31 by the end of round 32
+  -- so the router, one crossing away, does not hold 31 by the end of that crossing
   pub copying-fails : Follows line 31 0 2 busy at → ⊥
   unfolding line
-  copying-fails f = omega (arith, source-alone 1 32 (omega arith) (λ e. omega arith) (omega arith), f .holds 1 1 32 to-router (omega arith) (omega arith))
+  copying-fails f = omega (arith, source-alone 1 crossing (omega arith) (λ e. omega arith) (omega arith), f .holds 1 1 crossing to-router (omega arith) (omega arith))
 
 -- there are such rounds
 pub copied : Copies line 31 (window 2) requested (λ t. requested)

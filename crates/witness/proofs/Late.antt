@@ -1,6 +1,6 @@
--- 32 rounds a crossing are enough, and no fewer are: where all other identifiers wait before it, a code is sent in the 32nd round.
+-- The rounds of a crossing are enough, and no fewer are: where all other identifiers wait before it, a code is sent in the last of them.
 use mathlib.Core.Path.{_≡_, refl}
-use Prim.Native.Nat.{ℕ, _<_}
+use Prim.Native.Nat.{ℕ, _-_, _<_}
 use native.Mathlib.Omega.{arith}
 use Rattle.areas.specs.Loop.{upTo}
 use Rattle.areas.specs.Table.{table}
@@ -14,21 +14,21 @@ use Rattle.bench.specs.Network.{loadOf}
 use Rattle.bench.specs.Queue.{queueAt, queueAllAt}
 use Rattle.bench.specs.Calls.{started, called, mark}
 use Rattle.bench.specs.Round.{tick, chosen, sends, unqueued, timed, forwarded, tells, acted, arrived, ticked, sentBytes, posted, arrives, reached, round}
-use Rattle.assurance.specs.Demand3.{Demand3}
+use Rattle.assurance.specs.Demand3.{crossing, Demand3}
 use Rattle.assurance.proofs.Demand.{demand-3}
 use Rattle.witness.specs.Line.{line, busy, course}
 use Rattle.witness.specs.Rate.{Enough}
 use Rattle.witness.proofs.Conditions.{to-router, given}
 
-pub enough : Enough 32
+pub enough : Enough crossing
 unfolding Enough Demand3
 enough plan k source D s at x = demand-3 plan k source D s at x .holds
 
--- computed: the router is one crossing away, and after 31 rounds it does not hold 31
-late : bit (register (course 31) 1) 31 ≡ 0
+-- computed: the router is one crossing away, and a round before the end of that crossing it does not hold 31
+late : bit (register (course (crossing - 1)) 1) 31 ≡ 0
 unfolding course busy line upTo table bit join leave searched firstFrom following reads maySend mayReceive marked ruled reactsTo reacts word put loadOf queueAt queueAllAt started called mark tick chosen sends unqueued timed forwarded tells acted arrived ticked sentBytes posted arrives reached round
 late = refl
 
-pub no-fewer : (W : ℕ) → W < 32 → Enough W → ⊥
+pub no-fewer : (W : ℕ) → W < crossing → Enough W → ⊥
 unfolding Enough
-no-fewer W h all = omega (arith, late, all line 31 0 2 busy course given 1 1 31 to-router (omega arith) (omega arith))
+no-fewer W h all = omega (arith, late, all line 31 0 2 busy course given 1 1 (crossing - 1) to-router (omega arith) (omega arith))
