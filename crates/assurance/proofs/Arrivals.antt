@@ -23,7 +23,7 @@ use Rattle.bench.proofs.Apart.{Both, about, arrives-aside, alike-same}
 use Rattle.assurance.proofs.Choices.{sends-small, sends-inside, sent-waits}
 use Rattle.assurance.proofs.Fits.{alike-back, Fit, fit-alike, fit-took}
 use Rattle.assurance.proofs.Taking.{Took, took}
-use Rattle.assurance.proofs.Meets.{Opens, arrives-meets, arrives-turns}
+use Rattle.assurance.proofs.Entering.{Opens, arrives-meets, arrives-turns}
 
 -- what changed does not concern identifier k, and no port's next
 record Aside (k : ℕ) (v t : State) : Type 0 where

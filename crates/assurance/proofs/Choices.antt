@@ -1,6 +1,6 @@
 -- What a port sends of one code, and what waiting for it tells of the port; in a sound state.
 use mathlib.Core.Path.{_≡_, refl, ap, _∙_}
-use mathlib.Core.Bool.{Bool, true, false}
+use mathlib.Core.Bool.{true, not-eq-not}
 use mathlib.Core.Logic.{_⊎_, inl, inr, _≢_, dite}
 use Prim.Native.Nat.{ℕ, zero, suc, _+_, _-_, _*_, _/_, _%_, _<_, max}
 use native.Mathlib.Decide.{ℕ-discrete, decLt}
@@ -34,11 +34,7 @@ use Rattle.assurance.proofs.Sights.{passed-over}
 module _ (plan : Plan) (held : Held plan) {s : State} (x : Sound plan s) (q : ℕ) (small : q < 256) where
   -- a port where a word is not 0 exists
   there : (i : ℕ) → i < 4 → word s (portAt q i) ≢ 0 → exists plan q ≡ true
-  there i l n = by-test (exists plan q) refl
-    where
-      by-test : (t : Bool) → exists plan q ≡ t → exists plan q ≡ true
-      by-test true e = e
-      by-test false e = absurd (n (x .no-port q i small e l))
+  there i l n = not-eq-not {b = true} .0 (λ e. n (x .no-port q i small e l))
 
   -- a port that runs exists, and belongs to a device of the plan
   pub runs-there : running s q ≡ 1 → exists plan q ≡ true
@@ -58,11 +54,7 @@ module _ (plan : Plan) (held : Held plan) {s : State} (x : Sound plan s) (q : �
         elim (ℕ-discrete (running s q) 0) [ yes e ↦ absurd (some (p .stopped e kind g)) | no n ↦ omega (arith, p .flag) ]
 
     pub waits-may : maySend kind (permissions plan q) ≡ true
-    waits-may = by-test (maySend kind (permissions plan q)) refl
-      where
-        by-test : (t : Bool) → maySend kind (permissions plan q) ≡ t → maySend kind (permissions plan q) ≡ true
-        by-test true e = e
-        by-test false e = absurd (some (x .ports q small waits-there .mute kind g e))
+    waits-may = not-eq-not {b = true} .0 (λ e. some (x .ports q small waits-there .mute kind g e))
 
     pub waits-owned : q / 8 < devices plan
     waits-owned = owned plan held q small waits-there
@@ -102,11 +94,11 @@ module _ (plan : Plan) (held : Held plan) (k : ℕ) (l : k < 32) (s : State) (q 
   sent-waits kind g e =
       let o = sends-chosen l plan held s q h kind g e in
       let m = found (At k) o .member in
-      elim (ℕ-discrete (bit (word s (1056 + 4 * q)) k) 1) [
-        | yes y ↦ let is : kind ≡ 0 = omega (arith, sent-at l plan held s q h, post-interrupt s q o y) in rw (is, add-zero) y
+      elim (ℕ-discrete (bit (waiting s 0 q) k) 1) [
+        | yes y ↦ let is : kind ≡ 0 = omega (arith, sent-at l plan held s q h, post-interrupt s q o (rw add-zero at y)) in rw is y
         | no n ↦
-            let is : kind ≡ 1 = omega (arith, sent-at l plan held s q h, post-acknowledge s q o n) in
-            rw is (omega (arith, rw add-zero at (waiting-of 0 (omega arith)), rw add-zero at m, bit-two (word s (1056 + 4 * q)) k, bit-two (waiting s 1 q) k))
+            let is : kind ≡ 1 = omega (arith, sent-at l plan held s q h, post-acknowledge s q o (λ y. n (rw add-zero y))) in
+            rw is (omega (arith, waiting-of 0 (omega arith), m, bit-two (waiting s 0 q) k, bit-two (waiting s 1 q) k))
       ]
 
   module _ (kind : ℕ) (g : kind < 2) (other : bit (waiting s (1 - kind) q) k ≡ 0) where

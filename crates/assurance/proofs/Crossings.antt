@@ -9,9 +9,9 @@ use Rattle.bench.specs.State.{State}
 use Rattle.bench.specs.Network.{devices}
 use Rattle.bench.proofs.Plans.{few}
 use Rattle.reach.specs.Walk.{Walk, stay, cross}
-use Rattle.reach.specs.Distance.{Farthest}
+use Rattle.reach.specs.Away.{Farthest}
 use Rattle.reach.proofs.Found.{none-away}
-use Rattle.reach.proofs.Farthest.{walk-device, walk-port, nearest}
+use Rattle.reach.proofs.Distances.{walk-device, walk-port, nearest}
 use Rattle.flood.specs.Flood.{Crossed, here, cross as step, Relays, Within}
 use Rattle.assurance.proofs.Nets.{net}
 

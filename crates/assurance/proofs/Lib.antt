@@ -4,7 +4,7 @@ pub mod Choices
 pub mod Taking
 pub mod Fits
 pub mod Posted
-pub mod Meets
+pub mod Entering
 pub mod Arrivals
 pub mod Wave
 pub mod Begun

@@ -37,7 +37,7 @@ sending plan kind k s q = (q < 256) × SendsIt plan k s kind q
 
 -- the identifiers fit a crossing: fewer come before k than it has rounds
 pub rank-fits : (from k : ℕ) → after from k < crossing
-rank-fits = after-lt
+rank-fits from k = omega (arith, after-lt from k)
 
 -- ---- the choice is fair: where another identifier is sent, k is nearer afterwards
 

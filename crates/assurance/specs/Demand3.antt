@@ -13,7 +13,7 @@ use Rattle.bench.specs.Calls.{callAsks, called}
 use Rattle.bench.specs.Round.{round}
 use Rattle.bench.specs.Alike.{SendsIt}
 use Rattle.reach.specs.Walk.{Walk}
-use Rattle.reach.specs.Distance.{Farthest}
+use Rattle.reach.specs.Away.{Farthest}
 
 -- ---- what happens meanwhile
 

@@ -3,5 +3,5 @@ pub mod VisitLaws
 pub mod Returns
 pub mod Found
 pub mod Deciding
-pub mod Farthest
+pub mod Distances
 pub mod Unique

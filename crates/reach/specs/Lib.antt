@@ -1,5 +1,5 @@
 pub mod Walk
-pub mod Distance
+pub mod Away
 pub mod Reach
 pub mod Visits
 pub mod Depth

@@ -18,7 +18,7 @@ use Rattle.bench.proofs.Started.{start-device, start-port, start-joined, starte
 use Rattle.assurance.proofs.Meanwhile.{alike-then}
 use Rattle.assurance.proofs.Taking.{called-took}
 use Rattle.witness.specs.Line.{line, busy}
-use Rattle.witness.proofs.Held.{line-held}
+use Rattle.witness.proofs.Accepted.{line-held}
 
 -- after some requests: the state is sound, and nothing happened that concerns 30 or 31
 record So (t : State) : Type 0 where

@@ -21,13 +21,13 @@ use Rattle.bench.specs.Calls.{callAsks, called}
 use Rattle.bench.proofs.Apart.{call-apart}
 use Rattle.bench.proofs.Called.{call-sound}
 use Rattle.reach.specs.Walk.{Leads, Walk, stay, cross}
-use Rattle.reach.specs.Distance.{Farthest}
+use Rattle.reach.specs.Away.{Farthest}
 use Rattle.reach.proofs.Found.{none-away}
-use Rattle.reach.proofs.Farthest.{walk-device}
+use Rattle.reach.proofs.Distances.{walk-device}
 use Rattle.assurance.specs.Demand3.{Calls, none, then, window, Given, Follows, Demand3}
 use Rattle.assurance.proofs.Demand.{demand-3}
 use Rattle.witness.specs.Line.{line, busy, course}
-use Rattle.witness.proofs.Held.{line-held}
+use Rattle.witness.proofs.Accepted.{line-held}
 use Rattle.witness.proofs.Busy.{busy-sound, busy-unset, busy-idle, busy-runs}
 
 -- ---- the router is one crossing away, node 2 is two, and no device is farther

@@ -14,7 +14,7 @@ use Rattle.assurance.proofs.Meanwhile.{alike-then, calls-beside}
 use Rattle.assurance.proofs.Taking.{called-took}
 use Rattle.witness.specs.Line.{line, busy}
 use Rattle.witness.specs.Copying.{Copies}
-use Rattle.witness.proofs.Held.{line-held}
+use Rattle.witness.proofs.Accepted.{line-held}
 use Rattle.witness.proofs.Busy.{busy-sound, busy-unset}
 use Rattle.witness.proofs.Conditions.{to-router, requested-sound}
 

@@ -1,4 +1,4 @@
-pub mod Held
+pub mod Accepted
 pub mod Busy
 pub mod Conditions
 pub mod Late

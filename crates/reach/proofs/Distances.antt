@@ -1,6 +1,6 @@
 -- How many crossings away a device is can be decided; some device is the farthest, and those within its distance are those reached.
 use mathlib.Core.Path.{_≡_, refl, sym, subst}
-use mathlib.Core.Bool.{Bool, true, false, Bool-discrete}
+use mathlib.Core.Bool.{true, not-eq-not, Bool-discrete}
 use mathlib.Core.Logic.{_⊎_, inl, inr, Dec·and, Dec·not}
 use Prim.Native.Nat.{ℕ, zero, suc, _+_, _*_, _/_, _%_, _≤_, _<_}
 use native.Mathlib.Decide.{map-dec, decLt, decLe, ℕ-discrete, le-ind}
@@ -16,7 +16,7 @@ use Rattle.bench.proofs.Plans.{few, owned, absent-loose, far-end}
 use Rattle.reach.specs.Walk.{Leads, Walk, stay, cross}
 use Rattle.reach.specs.Reach.{Reached}
 use Rattle.reach.proofs.Found.{none-away}
-use Rattle.reach.specs.Distance.{Away, Farthest}
+use Rattle.reach.specs.Away.{Away, Farthest}
 use Rattle.reach.proofs.Deciding.{either?, some-below, first-up-to, count, count-le, count-gains}
 
 -- ---- one crossing
@@ -34,11 +34,9 @@ module _ (plan : Plan) (s : State) (kind k q : ℕ) where
 
   -- a port leads to a device of the plan
   leads-device : Held plan → (e : ℕ) → q < 256 → Leads plan s kind k q e → e < devices plan
-  leads-device held e h l = rw (l .there) (by-test (exists plan q) refl)
-    where
-      by-test : (b : Bool) → exists plan q ≡ b → peer plan q / 8 < devices plan
-      by-test true x = owned plan held (peer plan q) (l .joined) (far-end plan held q h x (l .joined) .far)
-      by-test false x = absurd (omega (arith, l .joined, absent-loose plan held q h x))
+  leads-device held e h l =
+      let there : exists plan q ≡ true = not-eq-not {b = true} .0 (λ x. omega (arith, l .joined, absent-loose plan held q h x)) in
+      rw (l .there) (owned plan held (peer plan q) (l .joined) (far-end plan held q h there (l .joined) .far))
 
 -- ---- walks from a device of the plan
 
