@@ -1,7 +1,6 @@
 -- Demand 3, proved: the rounds after a request that is taken are a run of the flood, and the flood's crossings are the walks.
 use mathlib.Core.Path.{_≡_, refl}
 use Prim.Native.Nat.{ℕ, suc, _+_, _-_, _<_}
-use native.Mathlib.Decide.{ℕ-discrete}
 use native.Mathlib.Nat.{le-refl}
 use native.Mathlib.Omega.{arith}
 use Rattle.answers.proofs.Outcomes.{holds}
@@ -80,10 +79,8 @@ module _ (plan : Plan) (k source D : ℕ) (s : State) (at : ℕ → State) (give
 
   no-interrupt : (q : ℕ) → q < 256 → bit (waiting (at last) 0 q) k ≡ 0
   no-interrupt q h =
-      elim (ℕ-discrete (bit (waiting (at last) 0 q) k) 1) [
-        | yes b ↦ absurd (flood .done last (le-refl _) (le-refl _) (h, b))
-        | no n ↦ omega (arith, bit-two (waiting (at last) 0 q) k)
-      ]
+      let none : bit (waiting (at last) 0 q) k ≡ 1 → ⊥ = λ b. flood .done last (le-refl _) (le-refl _) (h, b) in
+      omega (arith, bit-two (waiting (at last) 0 q) k)
 
   pub follows : Follows plan k source D s at
   follows =

@@ -192,11 +192,9 @@ fit-posts plan kind k s₀ takers held g l u {s} f =
       sound = posts-sound plan held (f .sound);
       runs = λ q h. posts-runs plan held (f .sound) q ∙ f .runs q h;
       other = λ q h.
-          let two = bit-two (waiting (afterSending plan s .state) (1 - kind) q) k in
-          elim (ℕ-discrete (bit (waiting (afterSending plan s .state) (1 - kind) q) k) 1) [
-            | yes e ↦ absurd (omega (arith, posts-waited plan held (f .sound) k l (1 - kind) q (omega arith) h e, f .other q h))
-            | no ne ↦ omega arith
-          ];
+          let none : bit (waiting (afterSending plan s .state) (1 - kind) q) k ≡ 1 → ⊥ =
+          λ e. omega (arith, posts-waited plan held (f .sound) k l (1 - kind) q (omega arith) h e, f .other q h) in
+          omega (arith, bit-two (waiting (afterSending plan s .state) (1 - kind) q) k);
       long = λ d h b. omega (arith, posts-timer plan held (f .sound) k l d h, f .long d h (sym (marks d h) ∙ b));
       still = λ d h b. f .still d h (sym (marks d h) ∙ b);
     }
