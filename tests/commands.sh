@@ -104,11 +104,11 @@ for program in settle decode 'example incident'; do
 done
 helps bin/example
 helps bin/example no-such-example
-helps bin/example ../bench/plain
-helps bench/run all
-helps bench/run --flag
-helps bench/run --brief more
-ends 0 1 0 no_kit bench/run --help
+helps bin/example ../speed/plain
+helps speed/run all
+helps speed/run --flag
+helps speed/run --brief more
+ends 0 1 0 no_kit speed/run --help
 
 # A terminal for standard input, and one that is not ready.
 if command -v python3 >/dev/null 2>&1; then

@@ -1,12 +1,12 @@
 #!/usr/bin/env python3
-"""What examples/incident.c has to print, by the bench of bench.py.
+"""What examples/incident.c has to print, by the bench of other_bench.py.
 
 usage: incident.py > tests/incident.txt     run in the repository's root
 """
 import sys
 
 sys.path.insert(0, "tests")
-from bench import Bench, Plan  # noqa: E402
+from other_bench import Bench, Plan  # noqa: E402
 
 
 def begin():

@@ -1,12 +1,12 @@
 #!/usr/bin/env python3
-"""What crates/scripts has to print, by the bench of bench.py.
+"""What crates/scripts has to print, by the bench of other_bench.py.
 
 usage: scripts.py > crates/scripts/stdout     run in the repository's root
 """
 import sys
 
 sys.path.insert(0, "tests")
-from bench import Bench, Plan  # noqa: E402
+from other_bench import Bench, Plan  # noqa: E402
 
 
 def plan(name):

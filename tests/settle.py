@@ -1,12 +1,12 @@
 #!/usr/bin/env python3
-"""What settle has to print for a plan file, by the bench of bench.py and the reader of reader.py.
+"""What settle has to print for a plan file, by the bench of other_bench.py and the reader of reader.py.
 
 usage: settle.py [FILE]     without FILE, the file on standard input
        for plan in examples/*.plan; do settle.py $plan > examples/expected/$(basename $plan .plan).txt; done
 """
 import sys
 
-from bench import Bench, Plan
+from other_bench import Bench, Plan
 from reader import read
 
 ALLOWANCE = 4096

@@ -5,8 +5,8 @@ set -eu
 cd "$(dirname "$0")/.."
 work=$(mktemp -d)
 trap 'rm -rf "$work"' EXIT
-bench/run --brief >"$work/tables" 2>"$work/said"
-grep -q '^bench/run: this takes about [0-9]* s on x86-64' "$work/said"
+speed/run --brief >"$work/tables" 2>"$work/said"
+grep -q '^speed/run: this takes about [0-9]* s on x86-64' "$work/said"
 
 # The rows of a call have ours, C, the judge and two ratios; those of the program ours, C and one. What is printed is rounded.
 consistent() {

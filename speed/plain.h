@@ -1,4 +1,4 @@
-/* The calls of include/bench.h that bench/run measures, in plain C: plain.c. */
+/* The calls of include/bench.h that speed/run measures, in plain C: plain.c. */
 #include "bench.h"
 
 typedef bench_u8 u8;

@@ -1,4 +1,4 @@
-/* The program settle in plain C, for bench/run to time both from start to end. */
+/* The program settle in plain C, for speed/run to time both from start to end. */
 #include "plain.h"
 
 long read(int, void *, usize);

@@ -1,4 +1,4 @@
-/* The bench once more, in plain C and for speed: what bench/run measures ours by. It makes the same checks, but takes the
+/* The bench once more, in plain C and for speed: what speed/run measures ours by. It makes the same checks, but takes the
    lengths of areas, the device and the identifier for right. */
 #include "plain.h"
 
