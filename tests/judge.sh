@@ -44,6 +44,8 @@ if [ -n "$emulator" ] || [ "${JUDGE_TENTH-}" = 1 ]; then
     set -- --cases $cases
     echo "judge: only a tenth of the networks is tried here, $cases; on x86-64 it is all of them"
 fi
+# What is said while the archive is built would stand among what the command says.
+build staticlib door
 status=0
 conformance/run "$@" >"$work/out" 2>"$work/err" || status=$?
 cat "$work/err" >&2
