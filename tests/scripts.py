@@ -47,9 +47,6 @@ class Player:
     def reset(self, d, zero):
         said("reset", d, zero, self.refusal() or self.bench.reset(d))
 
-    def fill(self, value):
-        self.unsound = True
-
     def last(self, value):
         """The last word of a state is of a port that no plan here has."""
         self.unsound = value != 0
