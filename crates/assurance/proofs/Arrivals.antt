@@ -12,14 +12,14 @@ use Rattle.bits.proofs.Sets.{bit-two}
 use Rattle.device.specs.Permissions.{maySend, mayReceive}
 use Rattle.plan.specs.Reading.{Held}
 use Rattle.plan.specs.declared.Plan.{Plan}
-use Rattle.bench.specs.State.{State, register, waiting, next, running}
-use Rattle.bench.specs.Network.{devices, router, peer, permissions, loadOf}
-use Rattle.bench.specs.Sound.{Sound}
-use Rattle.bench.specs.Round.{World, sentBytes, arrives, reached}
-use Rattle.bench.specs.Alike.{Alike, SendsIt}
-use Rattle.bench.proofs.Plans.{few}
-use Rattle.bench.proofs.Kept.{arrives-sound}
-use Rattle.bench.proofs.Apart.{Both, about, arrives-aside, alike-same}
+use Rattle.state.specs.State.{State, register, waiting, next, running}
+use Rattle.state.specs.Network.{devices, router, peer, permissions, loadOf}
+use Rattle.state.specs.Sound.{Sound}
+use Rattle.state.proofs.Plans.{few}
+use Rattle.bench.specs.Round.{World, nothing, sentBytes, arrives, reached}
+use Rattle.bench.proofs.RoundSound.{arrives-sound}
+use Rattle.laws.specs.Alike.{Alike, SendsIt}
+use Rattle.laws.proofs.Apart.{Both, about, arrives-aside, alike-same}
 use Rattle.assurance.proofs.Choices.{sends-small, sends-inside, sent-waits}
 use Rattle.assurance.proofs.Fits.{alike-back, Fit, fit-alike, fit-took}
 use Rattle.assurance.proofs.Taking.{Took, took}
@@ -190,7 +190,7 @@ module _ (plan : Plan) (kind k : ℕ) (s₀ : State) (takers : ℕ → Type 0) (
         arrival : Sound plan (w .state) → Aside k (w .state) arrived ⊎ Enters plan kind k s₀ s j (w .state) arrived
         arrival x =
             let n = few plan held in
-            elim (about k (getD (sentBytes plan s) (peer plan j) 256)) [
+            elim (about k (getD (sentBytes plan s) (peer plan j) nothing)) [
               | inl c ↦
                   let e : SendsIt plan k s kind (peer plan j) = rw (of-kind held g l f (c .0) (peer plan j) (c .1) (c .2)) at (c .2) in
                   arrives-meets plan j w k (λ t. Aside k (w .state) t ⊎ Enters plan kind k s₀ s j (w .state) t) (sentBytes plan s) l kind g e

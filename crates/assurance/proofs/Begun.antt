@@ -7,15 +7,16 @@ use native.Mathlib.Decide.{ℕ-discrete}
 use native.Mathlib.Omega.{arith}
 use lib.Dec.{eqb}
 use Rattle.bits.specs.Set.{bit}
+use Rattle.plan.specs.Fields.{nobody}
 use Rattle.plan.specs.Reading.{Held}
 use Rattle.plan.specs.declared.Plan.{Plan}
-use Rattle.bench.specs.State.{State, register, timer, waiting, running}
-use Rattle.bench.specs.Network.{devices, loadOf}
-use Rattle.bench.specs.Sound.{Sound}
-use Rattle.bench.specs.Calls.{called}
-use Rattle.bench.specs.Alike.{Alike}
-use Rattle.bench.proofs.Plans.{few}
-use Rattle.bench.proofs.Called.{call-sound}
+use Rattle.state.specs.State.{State, register, timer, waiting, running}
+use Rattle.state.specs.Network.{devices, loadOf}
+use Rattle.state.specs.Sound.{Sound}
+use Rattle.state.proofs.Plans.{few}
+use Rattle.calls.specs.Calls.{called}
+use Rattle.calls.proofs.Called.{call-sound}
+use Rattle.laws.specs.Alike.{Alike}
 use Rattle.flood.specs.Flood.{Start}
 use Rattle.assurance.proofs.Nets.{net}
 use Rattle.assurance.proofs.Sights.{sight, takersOf}
@@ -34,7 +35,7 @@ pub record Begun (plan : Plan) (kind k d : ℕ) (s t : State) : Type 0 where
 
 module _ (plan : Plan) (held : Held plan) (kind k : ℕ) (g : kind < 2) (l : k < 32) (d : ℕ) (h : d < devices plan) {s : State} (x : Sound plan s)
     (idle : (c q : ℕ) → c < 2 → q < 256 → bit (waiting s c q) k ≡ 0) {t : State} (like : Alike k (called plan kind d k s) t) where
-  taken : Took plan kind k d 256 true s (called plan kind d k s)
+  taken : Took plan kind k d nobody true s (called plan kind d k s)
   taken = let n = few plan held in called-took plan kind k g l d (omega arith) s (x .size)
 
   pub begun : Begun plan kind k d s t

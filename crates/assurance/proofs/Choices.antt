@@ -4,7 +4,6 @@ use mathlib.Core.Bool.{true, not-eq-not}
 use mathlib.Core.Logic.{_⊎_, inl, inr, _≢_, dite}
 use Prim.Native.Nat.{ℕ, zero, suc, _+_, _-_, _*_, _/_, _%_, _<_, max}
 use native.Mathlib.Decide.{ℕ-discrete, decLt}
-use native.Mathlib.Nat.{add-zero}
 use native.Mathlib.Omega.{arith}
 use lib.Bits.{bitOr}
 use lib.ListN.{getD, List·getD-eq-default}
@@ -19,26 +18,26 @@ use Rattle.bits.proofs.Firsts.{firstFrom-finds}
 use Rattle.device.specs.Permissions.{maySend}
 use Rattle.plan.specs.Reading.{Held}
 use Rattle.plan.specs.declared.Plan.{Plan}
-use Rattle.bench.specs.State.{State, word, portAt, waiting, next, running}
-use Rattle.bench.specs.Network.{devices, exists, permissions}
-use Rattle.bench.specs.Sound.{Kept, Sound}
-use Rattle.bench.specs.Round.{chosen, sentBytes}
-use Rattle.bench.specs.Alike.{SendsIt}
-use Rattle.bench.proofs.Plans.{owned}
+use Rattle.state.specs.State.{State, word, portWords, portAt, waiting, next, runningAt, running}
+use Rattle.state.specs.Network.{devices, exists, permissions}
+use Rattle.state.specs.Sound.{Kept, Sound}
+use Rattle.state.proofs.Plans.{owned}
+use Rattle.bench.specs.Round.{nothing, chosen, sentWords, sentBytes}
 use Rattle.bench.proofs.Stepped.{post-interrupt, post-acknowledge}
-use Rattle.bench.proofs.Apart.{sent-at, sends-chosen, chosen-sends}
+use Rattle.laws.specs.Alike.{SendsIt}
+use Rattle.laws.proofs.Apart.{sent-at, sends-chosen, chosen-sends}
 use Rattle.assurance.proofs.Sights.{passed-over}
 
 -- ---- ports of a sound state
 
 module _ (plan : Plan) (held : Held plan) {s : State} (x : Sound plan s) (q : ℕ) (small : q < 256) where
   -- a port where a word is not 0 exists
-  there : (i : ℕ) → i < 4 → word s (portAt q i) ≢ 0 → exists plan q ≡ true
+  there : (i : ℕ) → i < portWords → word s (portAt q i) ≢ 0 → exists plan q ≡ true
   there i l n = not-eq-not {b = true} .0 (λ e. n (x .no-port q i small e l))
 
   -- a port that runs exists, and belongs to a device of the plan
   pub runs-there : running s q ≡ 1 → exists plan q ≡ true
-  runs-there r = there 3 (omega arith) (λ e. omega arith)
+  runs-there r = there runningAt (omega arith) (λ e. omega arith)
 
   -- a code waits only where the port runs and may send it
   module _ (kind k : ℕ) (g : kind < 2) (b : bit (waiting s kind q) k ≡ 1) where
@@ -67,7 +66,7 @@ unfolding sentBytes
 sends-small plan k kind s q l g e =
     dite (decLt q 256) (λ b. b)
     (λ n.
-    let none : getD (sentBytes plan s) q 256 ≡ 256 = List·getD-eq-default (sentBytes plan s) 256 (rw length-table (omega arith)) in
+    let none : getD (sentBytes plan s) q nothing ≡ nothing = List·getD-eq-default (sentBytes plan s) nothing (rw length-table (omega arith)) in
     absurd (omega arith))
 
 pub sends-inside : (plan : Plan) (k kind : ℕ) (s : State) (q : ℕ) → k < 32 → kind < 2 → SendsIt plan k s kind q → q < 8 * devices plan
@@ -75,7 +74,7 @@ unfolding sentBytes
 sends-inside plan k kind s q l g e =
     let h = sends-small plan k kind s q l g e in
     dite (decLt q (8 * devices plan)) (λ b. b)
-    (λ n. let none : getD (sentBytes plan s) q 256 ≡ 256 = getD-table 256 _ q 256 h ∙ rw (le-ltb q (8 * devices plan) (omega arith)) in absurd (omega arith))
+    (λ n. let none : getD (sentBytes plan s) q nothing ≡ nothing = getD-table sentWords _ q nothing h ∙ rw (le-ltb q (8 * devices plan) (omega arith)) in absurd (omega arith))
 
 module _ (plan : Plan) (held : Held plan) (k : ℕ) (l : k < 32) (s : State) (q : ℕ) (h : q < 8 * devices plan) where
   -- k waits here, as the kind or as the other
@@ -95,9 +94,9 @@ module _ (plan : Plan) (held : Held plan) (k : ℕ) (l : k < 32) (s : State) (q 
       let o = sends-chosen l plan held s q h kind g e in
       let m = found (At k) o .member in
       elim (ℕ-discrete (bit (waiting s 0 q) k) 1) [
-        | yes y ↦ let is : kind ≡ 0 = omega (arith, sent-at l plan held s q h, post-interrupt s q o (rw add-zero at y)) in rw is y
+        | yes y ↦ let is : kind ≡ 0 = omega (arith, sent-at l plan held s q h, post-interrupt s q o y) in rw is y
         | no n ↦
-            let is : kind ≡ 1 = omega (arith, sent-at l plan held s q h, post-acknowledge s q o (λ y. n (rw add-zero y))) in
+            let is : kind ≡ 1 = omega (arith, sent-at l plan held s q h, post-acknowledge s q o n) in
             rw is (omega (arith, waiting-of 0 (omega arith), m, bit-two (waiting s 0 q) k, bit-two (waiting s 1 q) k))
       ]
 

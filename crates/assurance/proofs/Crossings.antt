@@ -5,9 +5,9 @@ use Prim.Native.Nat.{ℕ, suc, _+_, _*_, _/_, _≤_, _<_}
 use native.Mathlib.Omega.{arith}
 use Rattle.plan.specs.Reading.{Held}
 use Rattle.plan.specs.declared.Plan.{Plan}
-use Rattle.bench.specs.State.{State}
-use Rattle.bench.specs.Network.{devices}
-use Rattle.bench.proofs.Plans.{few}
+use Rattle.state.specs.State.{State}
+use Rattle.state.specs.Network.{devices}
+use Rattle.state.proofs.Plans.{few}
 use Rattle.reach.specs.Walk.{Walk, stay, cross}
 use Rattle.reach.specs.Away.{Farthest}
 use Rattle.reach.proofs.Found.{none-away}

@@ -7,13 +7,13 @@ use Rattle.answers.proofs.Outcomes.{holds}
 use Rattle.bits.specs.Set.{bit}
 use Rattle.bits.proofs.Sets.{bit-two}
 use Rattle.plan.specs.declared.Plan.{Plan}
-use Rattle.bench.specs.State.{State, waiting}
-use Rattle.bench.specs.Network.{devices}
-use Rattle.bench.specs.Sound.{Sound}
-use Rattle.bench.specs.Calls.{callAsks, called}
+use Rattle.state.specs.State.{State, waiting}
+use Rattle.state.specs.Network.{devices}
+use Rattle.state.specs.Sound.{Sound}
+use Rattle.state.proofs.Keeping.{both-kinds}
+use Rattle.calls.specs.Calls.{callAsks, called}
+use Rattle.calls.proofs.Called.{call-sound}
 use Rattle.bench.specs.Round.{round}
-use Rattle.bench.proofs.Called.{call-sound}
-use Rattle.bench.proofs.Sounds.{by-kind}
 use Rattle.flood.specs.Flood.{Flooded}
 use Rattle.flood.proofs.Spreads.{flooded}
 use Rattle.assurance.specs.Demand3.{Given, Follows, Demand3, SendsK, crossing, window}
@@ -92,7 +92,7 @@ module _ (plan : Plan) (k source D : ℕ) (s : State) (at : ℕ → State) (give
             (walk .0, walk .2);
         once = λ q t u lt to x y. flood .once t u lt to (interrupt q t (omega arith) x) (interrupt q u to y);
         gone = λ kind q g h.
-            by-kind (λ c. bit (waiting (at last) c q) k ≡ 0) (no-interrupt q h) (fits last 0 (omega arith) .other q h) kind g;
+            both-kinds (λ c. bit (waiting (at last) c q) k ≡ 0) (no-interrupt q h) (fits last 0 (omega arith) .other q h) kind g;
       }
 
 pub demand-3 : Demand3

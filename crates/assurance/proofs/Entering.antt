@@ -17,13 +17,13 @@ use Rattle.device.specs.declared.Action.the-variants.{Forwarded, Told}
 use Rattle.device.specs.declared.Side.{Side}
 use Rattle.device.proofs.Rule.{Accepts, ruled-cases}
 use Rattle.plan.specs.declared.Plan.{Plan}
-use Rattle.bench.specs.State.{State, put, registerAt, register, next, running}
-use Rattle.bench.specs.Network.{router, peer, permissions, loadOf}
-use Rattle.bench.specs.Queue.{queueAll}
-use Rattle.bench.specs.Calls.{mark}
-use Rattle.bench.specs.Round.{World, timed, forwarded, sideAt, acted, arrived, arrives}
-use Rattle.bench.proofs.Words.{put-word}
-use Rattle.bench.proofs.Kept.{after, arrives-cases}
+use Rattle.state.specs.State.{State, words, put, registerAt, register, next, running}
+use Rattle.state.specs.Network.{router, peer, permissions, loadOf}
+use Rattle.state.specs.Queue.{queueAll}
+use Rattle.state.specs.Mark.{mark}
+use Rattle.state.proofs.Words.{put-word}
+use Rattle.bench.specs.Round.{World, nothing, timed, forwarded, sideAt, acted, arrived, arrives}
+use Rattle.bench.proofs.RoundSound.{after, arrives-cases}
 use Rattle.assurance.proofs.Taking.{taking, took}
 
 -- port q takes codes of a kind, and identifier k is new to its device
@@ -65,17 +65,17 @@ module _ (plan : Plan) (q : ℕ) (w : World) (k : ℕ) (P : State → Type 0) wh
 
   -- a code of identifier k arrives
   module _ (sent : List ℕ) (l : k < 32) where
-    pub arrives-meets : (kind : ℕ) → kind < 2 → getD sent (peer plan q) 256 ≡ byteOf kind k → ((Opens plan kind k q (w .state) → ⊥) → P (w .state))
+    pub arrives-meets : (kind : ℕ) → kind < 2 → getD sent (peer plan q) nothing ≡ byteOf kind k → ((Opens plan kind k q (w .state) → ⊥) → P (w .state))
         → (Opens plan kind k q (w .state) → P (taking plan kind k (q / 8) q (router plan (q / 8)) (w .state))) → P (arrives plan sent q w .state)
     unfolding arrives arrived reacts reactsTo acted timed forwarded mark
     arrives-meets zero g e refused taken =
-        rw (e, lt-ltb (byteOf 0 k) 256 (omega arith), reads-interrupt k l) (ruled-meets 0 (Interrupt k) refl (λ t. refl) refused taken)
+        rw (e, lt-ltb (byteOf 0 k) nothing (omega arith), reads-interrupt k l) (ruled-meets 0 (Interrupt k) refl (λ t. refl) refused taken)
     arrives-meets (suc zero) g e refused taken =
-        rw (e, lt-ltb (byteOf 1 k) 256 (omega arith), reads-acknowledge k l) (ruled-meets 1 (Acknowledge k) refl (λ t. refl) refused taken)
+        rw (e, lt-ltb (byteOf 1 k) nothing (omega arith), reads-acknowledge k l) (ruled-meets 1 (Acknowledge k) refl (λ t. refl) refused taken)
     arrives-meets (suc (suc n)) g e refused taken = absurd (omega arith)
 
 -- whatever arrives, every search starts where it would have started
-pub arrives-turns : (plan : Plan) (sent : List ℕ) (q : ℕ) → q < 256 → (w : World) → length (w .state) ≡ 2080 → (p : ℕ)
+pub arrives-turns : (plan : Plan) (sent : List ℕ) (q : ℕ) → q < 256 → (w : World) → length (w .state) ≡ words → (p : ℕ)
     → next (arrives plan sent q w .state) p ≡ next (w .state) p
 arrives-turns plan sent q h w size p =
     arrives-cases plan sent q w (λ v. next (v .state) p ≡ next (w .state) p) refl

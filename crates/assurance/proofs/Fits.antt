@@ -7,11 +7,11 @@ use native.Mathlib.Omega.{arith}
 use Rattle.bits.specs.Set.{bit}
 use Rattle.plan.specs.Reading.{Held}
 use Rattle.plan.specs.declared.Plan.{Plan}
-use Rattle.bench.specs.State.{State, register, timer, waiting, running}
-use Rattle.bench.specs.Network.{devices, loadOf}
-use Rattle.bench.specs.Sound.{Sound}
-use Rattle.bench.specs.Alike.{Alike}
-use Rattle.bench.proofs.Plans.{few}
+use Rattle.state.specs.State.{State, register, timer, waiting, running}
+use Rattle.state.specs.Network.{devices, loadOf}
+use Rattle.state.specs.Sound.{Sound}
+use Rattle.state.proofs.Plans.{few}
+use Rattle.laws.specs.Alike.{Alike}
 use Rattle.assurance.proofs.Taking.{Took}
 
 module _ {k : ℕ} where

@@ -6,15 +6,15 @@ use native.Mathlib.Omega.{arith}
 use Rattle.answers.proofs.Outcomes.{holds}
 use Rattle.plan.specs.Reading.{Held}
 use Rattle.plan.specs.declared.Plan.{Plan}
-use Rattle.bench.specs.State.{State, next}
-use Rattle.bench.specs.Sound.{Sound}
-use Rattle.bench.specs.Calls.{callAsks}
+use Rattle.state.specs.State.{State, next}
+use Rattle.state.specs.Sound.{Sound}
+use Rattle.state.proofs.Plans.{few}
+use Rattle.calls.specs.Calls.{callAsks}
+use Rattle.calls.proofs.Called.{call-sound}
 use Rattle.bench.specs.Round.{round}
-use Rattle.bench.specs.Alike.{Alike}
-use Rattle.bench.proofs.Apart.{alike-same, call-apart}
-use Rattle.bench.proofs.Called.{call-sound}
-use Rattle.bench.proofs.Kept.{round-sound}
-use Rattle.bench.proofs.Plans.{few}
+use Rattle.bench.proofs.RoundSound.{round-sound}
+use Rattle.laws.specs.Alike.{Alike}
+use Rattle.laws.proofs.Apart.{alike-same, call-apart}
 use Rattle.assurance.specs.Demand3.{Calls, none, then, Course}
 use Rattle.assurance.proofs.Taking.{called-took}
 

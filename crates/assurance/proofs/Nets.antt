@@ -3,8 +3,8 @@ use mathlib.Core.Path.{_≡_}
 use mathlib.Core.Bool.{true}
 use Prim.Native.Nat.{ℕ, _/_, _<_}
 use Rattle.plan.specs.declared.Plan.{Plan}
-use Rattle.bench.specs.State.{State}
-use Rattle.bench.specs.Network.{router}
+use Rattle.state.specs.State.{State}
+use Rattle.state.specs.Network.{router}
 use Rattle.reach.specs.Walk.{Leads}
 use Rattle.flood.specs.Flood.{Net}
 

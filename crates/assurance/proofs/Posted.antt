@@ -2,7 +2,7 @@
 use mathlib.Core.Path.{_≡_, refl, sym, ap, _∙_}
 use mathlib.Core.List.{[]}
 use mathlib.Core.Logic.{_≢_}
-use Prim.Native.Nat.{ℕ, zero, suc, _+_, _-_, _*_, _/_, _%_, _<_}
+use Prim.Native.Nat.{ℕ, suc, _+_, _-_, _*_, _/_, _%_, _<_}
 use native.Mathlib.Decide.{ℕ-discrete}
 use native.Mathlib.Omega.{arith}
 use lib.ListN.{length}
@@ -14,17 +14,18 @@ use Rattle.bits.specs.declared.Found.the-variants.{At, Nowhere}
 use Rattle.bits.proofs.Sets.{bit-two, leave-same, leave-other}
 use Rattle.plan.specs.Reading.{Held}
 use Rattle.plan.specs.declared.Plan.{Plan}
-use Rattle.bench.specs.State.{State, word, put, registerAt, timerAt, portAt, register, timer, waiting, next, running}
-use Rattle.bench.specs.Network.{devices, router}
-use Rattle.bench.specs.Sound.{Sound}
+use Rattle.state.specs.State.{State, words, word, put, registerAt, timerAt, portWords, portAt, register, timer, waiting, nextAt, next, runningAt, running}
+use Rattle.state.specs.Network.{devices, router}
+use Rattle.state.specs.Sound.{Sound}
+use Rattle.state.proofs.Words.{length-put, word-same, word-other}
+use Rattle.state.proofs.Plans.{few}
+use Rattle.state.proofs.Keeping.{both-kinds}
 use Rattle.bench.specs.Round.{World, chosen, unqueued, ticked, posted, afterTimers, afterSending}
-use Rattle.bench.specs.Alike.{SendsIt}
-use Rattle.bench.proofs.Words.{length-put, word-same, word-other}
-use Rattle.bench.proofs.Plans.{few}
-use Rattle.bench.proofs.Marks.{tick-other, ticked-sound}
-use Rattle.bench.proofs.Waits.{posted-sound}
-use Rattle.bench.proofs.Timers.{turn, timed-bit, ticked-timer, posted-low}
-use Rattle.bench.proofs.Apart.{sends-chosen}
+use Rattle.bench.proofs.Ticks.{tick-other, ticked-sound}
+use Rattle.bench.proofs.Unqueued.{posted-sound, posted-left}
+use Rattle.laws.specs.Alike.{SendsIt}
+use Rattle.laws.proofs.Timers.{turn, timed-bit, ticked-timer}
+use Rattle.laws.proofs.Apart.{sends-chosen}
 use Rattle.assurance.proofs.Choices.{waits-owned}
 use Rattle.assurance.proofs.Fits.{Fit}
 
@@ -52,7 +53,7 @@ module _ (old : State) (q : ℕ) (t : State) where
   second j = put (first j) (portAt q 1) (leave (waiting t 1 q) j)
 
   unqueued-cases : (P : Found → State → Type 0) → (chosen old q ≡ Nowhere → P Nowhere t)
-      → ((j : ℕ) → chosen old q ≡ At j → P (At j) (put (second j) (portAt q 2) ((j + 1) % 32))) → P (chosen old q) (unqueued old q t)
+      → ((j : ℕ) → chosen old q ≡ At j → P (At j) (put (second j) (portAt q nextAt) ((j + 1) % 32))) → P (chosen old q) (unqueued old q t)
   unfolding unqueued following
   unqueued-cases P none some = by-choice (chosen old q) refl
     where
@@ -60,32 +61,31 @@ module _ (old : State) (q : ℕ) (t : State) where
       by-choice Nowhere e = rw (e, unqueued) (none e)
       by-choice (At j) e = rw (e, unqueued) (some j e)
 
-  unqueued-other : (i : ℕ) → i ≢ portAt q 0 → i ≢ portAt q 1 → i ≢ portAt q 2 → word (unqueued old q t) i ≡ word t i
+  unqueued-other : (i : ℕ) → i ≢ portAt q 0 → i ≢ portAt q 1 → i ≢ portAt q nextAt → word (unqueued old q t) i ≡ word t i
   unqueued-other i a b c =
       unqueued-cases (λ r u. word u i ≡ word t i) (λ e. refl)
-      (λ j e. word-other (second j) (portAt q 2) _ i c ∙ word-other (first j) (portAt q 1) _ i b ∙ word-other t (portAt q 0) _ i a)
+      (λ j e. word-other (second j) (portAt q nextAt) _ i c ∙ word-other (first j) (portAt q 1) _ i b ∙ word-other t (portAt q 0) _ i a)
 
   unqueued-size : length (unqueued old q t) ≡ length t
   unqueued-size = unqueued-cases (λ r u. length u ≡ length t) (λ e. refl) (λ j e. length-put _ _ _ ∙ length-put _ _ _ ∙ length-put _ _ _)
 
-  module _ (h : q < 256) (size : length t ≡ 2080) where
+  module _ (h : q < 256) (size : length t ≡ words) where
     unqueued-waits : (kind : ℕ) → kind < 2 → waiting (unqueued old q t) kind q ≡ left (chosen old q) (waiting t kind q)
     unfolding left
-    unqueued-waits zero g =
-        unqueued-cases (λ r u. waiting u 0 q ≡ left r (waiting t 0 q)) (λ e. refl)
-        (λ j e. word-other (second j) (portAt q 2) _ (portAt q 0) (omega arith) ∙ word-other (first j) (portAt q 1) _ (portAt q 0) (omega arith)
-        ∙ word-same t (portAt q 0) _ (omega arith))
-    unqueued-waits (suc zero) g =
-        unqueued-cases (λ r u. waiting u 1 q ≡ left r (waiting t 1 q)) (λ e. refl)
-        (λ j e. word-other (second j) (portAt q 2) _ (portAt q 1) (omega arith)
-        ∙ word-same (first j) (portAt q 1) _ (omega (arith, length-put t (portAt q 0) (leave (waiting t 0 q) j))))
-    unqueued-waits (suc (suc n)) g = absurd (omega arith)
+    unqueued-waits =
+        both-kinds (λ kind. waiting (unqueued old q t) kind q ≡ left (chosen old q) (waiting t kind q))
+        (unqueued-cases (λ r u. waiting u 0 q ≡ left r (waiting t 0 q)) (λ e. refl)
+        (λ j e. word-other (second j) (portAt q nextAt) _ (portAt q 0) (omega arith) ∙ word-other (first j) (portAt q 1) _ (portAt q 0) (omega arith)
+        ∙ word-same t (portAt q 0) _ (omega arith)))
+        (unqueued-cases (λ r u. waiting u 1 q ≡ left r (waiting t 1 q)) (λ e. refl)
+        (λ j e. word-other (second j) (portAt q nextAt) _ (portAt q 1) (omega arith)
+        ∙ word-same (first j) (portAt q 1) _ (omega (arith, length-put t (portAt q 0) (leave (waiting t 0 q) j)))))
 
     unqueued-next : next (unqueued old q t) q ≡ following (next t q) (chosen old q)
     unfolding following
     unqueued-next =
         unqueued-cases (λ r u. next u q ≡ following (next t q) r) (λ e. refl)
-        (λ j e. word-same (second j) (portAt q 2) _
+        (λ j e. word-same (second j) (portAt q nextAt) _
         (omega (arith, length-put (first j) (portAt q 1) (leave (waiting t 1 q) j), length-put t (portAt q 0) (leave (waiting t 0 q) j))))
 
 -- ---- all timers fall, and all ports send
@@ -116,15 +116,15 @@ module _ (plan : Plan) (held : Held plan) {s : State} (x : Sound plan s) where
   posts-runs : (q : ℕ) → running posts q ≡ running s q
   unfolding posted
   posts-runs q =
-      untouched (unqueued s) (λ t. running t q) (8 * devices plan) (λ j t b. unqueued-other s j t (portAt q 3) (omega arith) (omega arith) (omega arith)) falls
-      ∙ falls-port q 3
+      untouched (unqueued s) (λ t. running t q) (8 * devices plan) (λ j t b. unqueued-other s j t (portAt q runningAt) (omega arith) (omega arith) (omega arith)) falls
+      ∙ falls-port q runningAt
 
   -- a word of a port that only its own turn changes
-  posts-own : (q i : ℕ) (change : ℕ → ℕ) → q < 8 * devices plan → i < 3
-      → ((t : State) → length t ≡ 2080 → word (unqueued s q t) (portAt q i) ≡ change (word t (portAt q i))) → word posts (portAt q i) ≡ change (word s (portAt q i))
+  posts-own : (q i : ℕ) (change : ℕ → ℕ) → q < 8 * devices plan → i < portWords
+      → ((t : State) → length t ≡ words → word (unqueued s q t) (portAt q i) ≡ change (word t (portAt q i))) → word posts (portAt q i) ≡ change (word s (portAt q i))
   unfolding posted
   posts-own q i change h b mine =
-      own (unqueued s) (λ t. length t ≡ 2080) (8 * devices plan) (λ j t c e. unqueued-size s j t ∙ e) (λ t. word t (portAt q i)) change q h
+      own (unqueued s) (λ t. length t ≡ words) (8 * devices plan) (λ j t c e. unqueued-size s j t ∙ e) (λ t. word t (portAt q i)) change q h
       (λ j t c ne e. unqueued-other s j t (portAt q i) (omega arith) (omega arith) (omega arith)) mine falls (falls-sound .size)
       ∙ ap change (falls-port q i)
 
@@ -137,19 +137,19 @@ module _ (plan : Plan) (held : Held plan) {s : State} (x : Sound plan s) where
   unfolding following
   posts-next q j h c =
       let n = few plan held in
-      posts-own q 2 (λ v. following v (chosen s q)) h (omega arith) (λ t e. unqueued-next s q t (omega arith) e) ∙ ap (following (next s q)) c
+      posts-own q nextAt (λ v. following v (chosen s q)) h (omega arith) (λ t e. unqueued-next s q t (omega arith) e) ∙ ap (following (next s q)) c
 
   module _ (k : ℕ) (l : k < 32) where
     posts-timer : (d : ℕ) → d < devices plan → timer posts d k ≡ timer s d k - 1
     posts-timer d h =
         let n = few plan held in
-        posted-low plan s (timerAt d k) falls (omega arith) ∙ ticked-timer plan held d k h l start x
+        posted-left plan held s (timerAt d k) falls (omega arith) ∙ ticked-timer plan held d k h l start x
 
     -- a timer that does not end leaves its bit
     pub posts-marks : (d : ℕ) → d < devices plan → (bit (register s d) k ≡ 1 → 1 < timer s d k) → bit (register posts d) k ≡ bit (register s d) k
     posts-marks d h long =
         let n = few plan held in
-        let same : register posts d ≡ register falls d = posted-low plan s (registerAt d) falls (omega arith) in
+        let same : register posts d ≡ register falls d = posted-left plan held s (registerAt d) falls (omega arith) in
         let now = timed-bit (falls-sound .timers d k h (omega arith) l) in
         let fell : timer falls d k ≡ timer s d k - 1 = ticked-timer plan held d k h l start x in
         ap (λ v. bit v k) same ∙ elim (ℕ-discrete (bit (register s d) k) 1) [

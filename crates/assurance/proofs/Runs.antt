@@ -5,10 +5,10 @@ use native.Mathlib.Omega.{arith}
 use Rattle.bits.specs.Set.{bit}
 use Rattle.plan.specs.Reading.{Held}
 use Rattle.plan.specs.declared.Plan.{Plan}
-use Rattle.bench.specs.State.{State, register, timer, waiting}
-use Rattle.bench.specs.Network.{devices, loadOf}
-use Rattle.bench.specs.Sound.{Sound}
-use Rattle.bench.specs.Calls.{called}
+use Rattle.state.specs.State.{State, register, timer, waiting}
+use Rattle.state.specs.Network.{devices, loadOf}
+use Rattle.state.specs.Sound.{Sound}
+use Rattle.calls.specs.Calls.{called}
 use Rattle.bench.specs.Round.{round}
 use Rattle.flood.specs.Flood.{Run}
 use Rattle.assurance.specs.Demand3.{crossing}

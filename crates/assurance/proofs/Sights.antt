@@ -8,9 +8,9 @@ use Rattle.bits.specs.Set.{bit}
 use Rattle.bits.specs.First.{after, First}
 use Rattle.bits.proofs.Firsts.{after-lt, after-same}
 use Rattle.plan.specs.declared.Plan.{Plan}
-use Rattle.bench.specs.State.{State, register, waiting, next}
-use Rattle.bench.specs.Network.{devices}
-use Rattle.bench.specs.Alike.{SendsIt}
+use Rattle.state.specs.State.{State, register, waiting, next}
+use Rattle.state.specs.Network.{devices}
+use Rattle.laws.specs.Alike.{SendsIt}
 use Rattle.flood.specs.Flood.{Sight}
 use Rattle.assurance.specs.Demand3.{crossing}
 use Rattle.assurance.proofs.Nets.{net}

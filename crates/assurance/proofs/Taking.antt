@@ -15,13 +15,16 @@ use Rattle.bits.proofs.Sets.{join-same, leave-same}
 use Rattle.device.specs.Permissions.{maySend}
 use Rattle.device.specs.Reaction.{marked}
 use Rattle.device.proofs.Reactions.{marked-same}
+use Rattle.plan.specs.Fields.{nobody}
 use Rattle.plan.specs.declared.Plan.{Plan}
-use Rattle.bench.specs.State.{State, word, put, registerAt, timerAt, portAt, register, timer, waiting, next, running}
-use Rattle.bench.specs.Network.{permissions, loadOf}
-use Rattle.bench.specs.Queue.{sendsAt, queueAt, queueBut, queueAllAt, queueAll}
-use Rattle.bench.specs.Calls.{mark, called}
-use Rattle.bench.proofs.Words.{length-put, word-same, word-other}
-use Rattle.bench.proofs.Timers.{mark-other}
+use Rattle.state.specs.State.{State, words, word, put, registerAt, timerAt, portsAt, portsEnd, portWords, portAt, register, timer, waiting, nextAt, next, runningAt, running}
+use Rattle.state.specs.Network.{permissions, loadOf}
+use Rattle.state.specs.Queue.{sendsAt, queueAt, queueBut, queueAllAt, queueAll}
+use Rattle.state.specs.Mark.{mark}
+use Rattle.state.proofs.Words.{length-put, word-same, word-other}
+use Rattle.state.proofs.Marks.{mark-other}
+use Rattle.state.proofs.Waits.{queue-all-left}
+use Rattle.calls.specs.Calls.{called}
 
 module _ (plan : Plan) (kind k : ℕ) where
   -- port p, which had not queued the code: it is one of device d, it runs, and it may send the code
@@ -32,8 +35,7 @@ module _ (plan : Plan) (kind k : ℕ) where
 
   -- the code was queued at some ports of device d
   record Spread (d : ℕ) (s t : State) : Type 0 where
-    size : length t ≡ 2080
-    low : (i : ℕ) → i < 1056 → word t i ≡ word s i
+    size : length t ≡ words
     turns : (p : ℕ) → next t p ≡ next s p
     runs : (p : ℕ) → running t p ≡ running s p
     other : (p : ℕ) → p < 256 → bit (waiting s (1 - kind) p) k ≡ 0 → bit (waiting t (1 - kind) p) k ≡ 0
@@ -68,7 +70,7 @@ module _ (kind k q : ℕ) (t : State) where
   joined-other : (i : ℕ) → i ≢ portAt q kind → i ≢ portAt q (1 - kind) → word joined i ≡ word t i
   joined-other i a b = word-other one (portAt q (1 - kind)) _ i b ∙ word-other t (portAt q kind) _ i a
 
-  module _ (g : kind < 2) (l : k < 32) (h : q < 256) (size : length t ≡ 2080) where
+  module _ (g : kind < 2) (l : k < 32) (h : q < 256) (size : length t ≡ words) where
     joined-in : bit (waiting joined kind q) k ≡ 1
     joined-in =
         ap (λ v. bit v k) (word-other one (portAt q (1 - kind)) _ (portAt q kind) (omega arith) ∙ word-same t (portAt q kind) _ (omega arith))
@@ -80,20 +82,19 @@ module _ (kind k q : ℕ) (t : State) where
         ∙ leave-same (waiting t (1 - kind) q) k l
 
 module _ (plan : Plan) (kind k : ℕ) (g : kind < 2) (l : k < 32) where
-  spread-none : (d : ℕ) (s : State) → length s ≡ 2080 → Spread plan kind k d s s
+  spread-none : (d : ℕ) (s : State) → length s ≡ words → Spread plan kind k d s s
   spread-none d s e =
-      record { size = e; low = λ i h. refl; turns = λ p. refl; runs = λ p. refl; other = λ p h b. b; more = λ p h b. b; fresh = λ p h b. inl b }
+      record { size = e; turns = λ p. refl; runs = λ p. refl; other = λ p h b. b; more = λ p h b. b; fresh = λ p h b. inl b }
 
   spread-joined : {d : ℕ} {s t : State} → Spread plan kind k d s t → (q : ℕ) → q < 256 → New plan kind k d s q → Spread plan kind k d s (joined kind k q t)
   spread-joined {d} {s} {t} x q h n =
-      let away : (p i : ℕ) → 2 ≤ i → i < 4 → word (joined kind k q t) (portAt p i) ≡ word t (portAt p i) = λ p i a b. joined-other kind k q t (portAt p i) (omega arith) (omega arith) in
+      let away : (p i : ℕ) → 2 ≤ i → i < portWords → word (joined kind k q t) (portAt p i) ≡ word t (portAt p i) = λ p i a b. joined-other kind k q t (portAt p i) (omega arith) (omega arith) in
       let apart : (p i : ℕ) → p ≢ q → i < 2 → bit (waiting (joined kind k q t) i p) k ≡ bit (waiting t i p) k =
       λ p i ne b. ap (λ v. bit v k) (joined-other kind k q t (portAt p i) (omega arith) (omega arith)) in
       record {
         size = length-put _ _ _ ∙ length-put _ _ _ ∙ x .size;
-        low = λ i b. joined-other kind k q t i (omega arith) (omega arith) ∙ x .low i b;
-        turns = λ p. away p 2 (omega arith) (omega arith) ∙ x .turns p;
-        runs = λ p. away p 3 (omega arith) (omega arith) ∙ x .runs p;
+        turns = λ p. away p nextAt (omega arith) (omega arith) ∙ x .turns p;
+        runs = λ p. away p runningAt (omega arith) (omega arith) ∙ x .runs p;
         other = λ p m b. elim (ℕ-discrete p q) [
           | yes e ↦ rw e (joined-out kind k q t g l h (x .size))
           | no ne ↦ apart p (1 - kind) ne (omega arith) ∙ x .other p m b
@@ -135,7 +136,7 @@ module _ (plan : Plan) (kind k : ℕ) (g : kind < 2) (l : k < 32) where
             queue-cases (Spread plan kind k d s) (8 * d + i) t x
             (λ r m. spread-joined x (8 * d + i) (omega arith) (record { here = omega arith; runs = sym (x .runs (8 * d + i)) ∙ r; may = m }))
 
-    module _ (s : State) (size : length s ≡ 2080) where
+    module _ (s : State) (size : length s ≡ words) where
       all-spread : Spread plan kind k d s (queueAll plan kind k d but s)
       unfolding queueAllAt
       all-spread = keeps turn (Spread plan kind k d s) 8 (λ i t b x. turn-spreads i t b x) s (spread-none d s size)
@@ -157,7 +158,7 @@ module _ (plan : Plan) (kind k : ℕ) (g : kind < 2) (l : k < 32) where
 
   -- ---- the device takes it in
 
-  module _ (d but : ℕ) (h : d < 32) (s : State) (size : length s ≡ 2080) where
+  module _ (d but : ℕ) (h : d < 32) (s : State) (size : length s ≡ words) where
     abbrev marks : State
     marks = mark plan kind d k s
 
@@ -171,7 +172,7 @@ module _ (plan : Plan) (kind k : ℕ) (g : kind < 2) (l : k < 32) where
     unfolding mark
     marks-timed = word-same _ (timerAt d k) _ (omega (arith, length-put s (registerAt d) (marked kind (register s d) k)))
 
-    marks-size : length marks ≡ 2080
+    marks-size : length marks ≡ words
     unfolding mark
     marks-size = length-put _ _ _ ∙ length-put _ _ _ ∙ size
 
@@ -179,41 +180,41 @@ module _ (plan : Plan) (kind k : ℕ) (g : kind < 2) (l : k < 32) where
     marks-port p i = mark-other plan kind d k (portAt p i) s (omega arith) (omega arith)
 
     marks-new : (p : ℕ) → New plan kind k d s p → New plan kind k d marks p
-    marks-new p n = record { here = n .here; runs = marks-port p 3 ∙ n .runs; may = n .may }
+    marks-new p n = record { here = n .here; runs = marks-port p runningAt ∙ n .runs; may = n .may }
 
     new-marks : (p : ℕ) → New plan kind k d marks p → New plan kind k d s p
-    new-marks p n = record { here = n .here; runs = sym (marks-port p 3) ∙ n .runs; may = n .may }
+    new-marks p n = record { here = n .here; runs = sym (marks-port p runningAt) ∙ n .runs; may = n .may }
 
     -- by what is queued after the mark
-    took-by : (hands : Bool) (t : State) → Spread plan kind k d marks t
+    took-by : (hands : Bool) (t : State) → Spread plan kind k d marks t → ((i : ℕ) → (portsAt ≤ i → i < portsEnd → ⊥) → word t i ≡ word marks i)
         → ((p : ℕ) → p < 256 → bit (waiting t kind p) k ≡ 1 → bit (waiting marks kind p) k ≡ 1 ⊎ ((hands ≡ true) × New plan kind k d marks p))
         → ((p : ℕ) → p < 256 → p ≢ but → hands ≡ true → New plan kind k d marks p → bit (waiting t kind p) k ≡ 1)
         → Took plan kind k d but hands s t
-    took-by hands t x fresh all =
+    took-by hands t x left fresh all =
         let bits : (p i : ℕ) → bit (waiting marks i p) k ≡ bit (waiting s i p) k = λ p i. ap (λ v. bit v k) (marks-port p i) in
         record {
-          turns = λ p. x .turns p ∙ marks-port p 2;
-          runs = λ p. x .runs p ∙ marks-port p 3;
+          turns = λ p. x .turns p ∙ marks-port p nextAt;
+          runs = λ p. x .runs p ∙ marks-port p runningAt;
           other = λ p b e. x .other p b (bits p (1 - kind) ∙ e);
           more = λ p b e. x .more p b (bits p kind ∙ e);
-          held = ap (λ v. bit v k) (x .low (registerAt d) (omega arith)) ∙ marks-held;
-          timed = x .low (timerAt d k) (omega arith) ∙ marks-timed;
+          held = ap (λ v. bit v k) (left (registerAt d) (omega arith)) ∙ marks-held;
+          timed = left (timerAt d k) (omega arith) ∙ marks-timed;
           others = λ e b ne. (
-            x .low (registerAt e) (omega arith) ∙ mark-other plan kind d k (registerAt e) s (omega arith) (omega arith),
-            x .low (timerAt e k) (omega arith) ∙ mark-other plan kind d k (timerAt e k) s (omega arith) (omega arith),
+            left (registerAt e) (omega arith) ∙ mark-other plan kind d k (registerAt e) s (omega arith) (omega arith),
+            left (timerAt e k) (omega arith) ∙ mark-other plan kind d k (timerAt e k) s (omega arith) (omega arith),
           );
           fresh = λ p b e. elim (fresh p b e) [ inl y ↦ inl (sym (bits p kind) ∙ y) | inr y ↦ inr (y .0, new-marks p (y .1)) ];
           all = λ p b ne e n. all p b ne e (marks-new p n);
         }
 
     pub took : (hands : Bool) → Took plan kind k d but hands s (taking plan kind k d but hands s)
-    took false = took-by false marks (spread-none d marks marks-size) (λ p b e. inl e) (λ p b ne e n. absurd (false≢true e))
+    took false = took-by false marks (spread-none d marks marks-size) (λ i out. refl) (λ p b e. inl e) (λ p b ne e n. absurd (false≢true e))
     took true =
         let x = all-spread d but h marks marks-size in
-        took-by true (queueAll plan kind k d but marks) x
+        took-by true (queueAll plan kind k d but marks) x (λ i out. queue-all-left kind k i g out (plan .core .permissions) d but h marks)
         (λ p b e. elim (x .fresh p b e) [ inl y ↦ inl y | inr y ↦ inr (refl, y) ]) (λ p b ne e n. all-joined d but h marks marks-size p b ne n)
 
   -- a host's call is taken
-  pub called-took : (d : ℕ) → d < 32 → (s : State) → length s ≡ 2080 → Took plan kind k d 256 true s (called plan kind d k s)
+  pub called-took : (d : ℕ) → d < 32 → (s : State) → length s ≡ words → Took plan kind k d nobody true s (called plan kind d k s)
   unfolding called
-  called-took d h s size = took d 256 h s size true
+  called-took d h s size = took d nobody h s size true

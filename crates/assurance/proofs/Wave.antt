@@ -8,14 +8,14 @@ use Rattle.bits.specs.Set.{bit}
 use Rattle.bits.specs.First.{after}
 use Rattle.plan.specs.Reading.{Held}
 use Rattle.plan.specs.declared.Plan.{Plan}
-use Rattle.bench.specs.State.{State, register, waiting, next, running}
-use Rattle.bench.specs.Network.{devices, exists, peer, loadOf}
-use Rattle.bench.specs.Sound.{Sound}
+use Rattle.state.specs.State.{State, register, waiting, next, running}
+use Rattle.state.specs.Network.{devices, exists, peer, loadOf}
+use Rattle.state.specs.Sound.{Sound}
+use Rattle.state.proofs.Plans.{FarEnd, few, owned, far-end}
 use Rattle.bench.specs.Round.{round, afterSending}
-use Rattle.bench.specs.Alike.{Alike, SendsIt}
-use Rattle.bench.proofs.Plans.{FarEnd, few, owned, far-end}
-use Rattle.flood.specs.Flood.{Step}
+use Rattle.laws.specs.Alike.{Alike, SendsIt}
 use Rattle.reach.specs.Walk.{Leads}
+use Rattle.flood.specs.Flood.{Step}
 use Rattle.assurance.specs.Demand3.{crossing}
 use Rattle.assurance.proofs.Nets.{net}
 use Rattle.assurance.proofs.Sights.{sight, sending, rank-fits}

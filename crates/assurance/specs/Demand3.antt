@@ -2,16 +2,16 @@
 use mathlib.Core.Path.{_≡_}
 use mathlib.Core.Logic.{_≢_}
 use Prim.Native.Nat.{ℕ, suc, _+_, _*_, _≤_, _<_}
-use Rattle.answers.specs.Ordered.{Ordered, Outcome}
+use Rattle.answers.specs.Ordered.{Ordered}
 use Rattle.bits.specs.Set.{bit}
 use Rattle.plan.specs.Reading.{Held}
 use Rattle.plan.specs.declared.Plan.{Plan}
-use Rattle.bench.specs.State.{State, register, waiting}
-use Rattle.bench.specs.Network.{devices, loadOf}
-use Rattle.bench.specs.Sound.{Sound}
-use Rattle.bench.specs.Calls.{callAsks, called}
+use Rattle.state.specs.State.{State, register, waiting}
+use Rattle.state.specs.Network.{devices, loadOf}
+use Rattle.state.specs.Sound.{Sound}
+use Rattle.calls.specs.Calls.{callAsks, called, Takes}
 use Rattle.bench.specs.Round.{round}
-use Rattle.bench.specs.Alike.{SendsIt}
+use Rattle.laws.specs.Alike.{SendsIt}
 use Rattle.reach.specs.Walk.{Walk}
 use Rattle.reach.specs.Away.{Farthest}
 
@@ -22,7 +22,7 @@ use Rattle.reach.specs.Away.{Farthest}
 pub data Calls (plan : Plan) (k : ℕ) (s : State) : State → Type 0 where
   none : Calls plan k s s
   then : {t u : State} (kind d j number : ℕ) → Calls plan k s t → kind < 2
-      → Outcome (callAsks plan kind d j t) t (called plan kind d j t) number u → (number ≡ 0 → j ≢ k) → Calls plan k s u
+      → Takes plan kind d j t number u → (number ≡ 0 → j ≢ k) → Calls plan k s u
 
 -- so many rounds are played from s on, each with calls after it; `at t` is the state after t rounds and the calls after them
 pub record Course (plan : Plan) (k rounds : ℕ) (s : State) (at : ℕ → State) : Type 0 where

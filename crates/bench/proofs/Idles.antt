@@ -1,28 +1,36 @@
 -- What a round passes over: it is so in every sound state of a held plan, and passing over it changes nothing.
-use mathlib.Core.Path.{_≡_, sym, ap, _∙_}
-use mathlib.Core.Bool.{Bool}
+use mathlib.Core.Path.{_≡_, refl, sym, ap, subst, _∙_}
+use mathlib.Core.Bool.{Bool, true, false}
 use mathlib.Core.List.{List, []}
+use mathlib.Core.Logic.{dite}
 use Prim.Native.Nat.{ℕ, _+_, _*_, _/_, _%_, _≤_, _<_}
+use native.Mathlib.Decide.{decLt, ℕ-discrete}
 use native.Mathlib.Omega.{arith}
-use lib.ListN.{length, getD, List·getD-eq-default}
-use borrow.Author.Tests.{le-ltb}
+use lib.ListN.{length, getD, replicate, length-replicate, getD-replicate, List·getD-eq-default}
+use lib.Seq.{ext-getD}
+use borrow.Author.Tests.{lt-ltb, le-ltb}
 use Rattle.areas.specs.Loop.{upTo}
+use Rattle.areas.specs.Table.{table}
 use Rattle.areas.proofs.Loops.{untouched}
+use Rattle.areas.proofs.Tables.{length-table, getD-table}
 use Rattle.bits.specs.Set.{bit}
 use Rattle.plan.specs.Fields.{nobody}
 use Rattle.plan.specs.Reading.{Held}
 use Rattle.plan.specs.declared.Plan.{Plan}
 use Rattle.plan.proofs.BothWays.{held-few}
-use Rattle.bench.specs.State.{State, word, registerAt, timerAt, timer}
-use Rattle.bench.specs.Network.{devices, peer}
-use Rattle.bench.specs.Sound.{Sound}
-use Rattle.bench.specs.Round.{World, tick, arrives}
-use Rattle.bench.specs.Idle.{Rests, Unused, Idles, Laid}
-use Rattle.bench.specs.Telling.{Seen, seen, Follows}
-use Rattle.bench.proofs.Marks.{tick-other}
-use Rattle.bench.proofs.Plans.{few, absent-loose}
-use Rattle.bench.proofs.Stepped.{tick-idle, arrives-nothing}
-use Rattle.bench.proofs.Tellings.{world, follows-still, shows-none}
+use Rattle.state.specs.State.{State, words, word, put, deviceWords, portsAt, registerAt, timerAt, portAt, timer}
+use Rattle.state.specs.Network.{devices, portsOf, exists, peer}
+use Rattle.state.specs.Sound.{Sound}
+use Rattle.bench.specs.Round.{World, nothing, sentWords, tick, sentBytes, arrives, round}
+use Rattle.bench.specs.Idle.{Rests, Unused, portsPast, Blank, Idles, Laid, Copies, Silent}
+use Rattle.bench.specs.Shown.{Seen, seen, Follows}
+use Rattle.bench.proofs.Ticks.{tick-other}
+use Rattle.state.proofs.Plans.{few, owned, absent-loose}
+use Rattle.state.proofs.Words.{word-past, length-put, word-same, word-other}
+use Rattle.state.proofs.Parts.{by-place}
+use Rattle.state.proofs.Keeping.{sound-behind}
+use Rattle.bench.proofs.Stepped.{tick-idle, chosen-none, post-nothing, arrives-nothing}
+use Rattle.bench.proofs.Following.{world, follows-still, shows-none}
 
 -- ---- timers
 
@@ -51,7 +59,7 @@ module _ (isRouter : ℕ → Bool) where
       rw (device, place)
 
   -- those of the devices before d leave its words
-  ticks-leave : (d i : ℕ) (w : World) → 33 * d ≤ i → word (upTo ticks (32 * d) w .state) i ≡ word (w .state) i
+  ticks-leave : (d i : ℕ) (w : World) → registerAt d ≤ i → word (upTo ticks (32 * d) w .state) i ≡ word (w .state) i
   ticks-leave d i w h =
       untouched ticks (λ v. word (v .state) i) (32 * d)
       (λ j v b. tick-other (isRouter (j / 32)) (j / 32) (j % 32) v i (omega arith) (omega arith)) w
@@ -59,7 +67,7 @@ module _ (isRouter : ℕ → Bool) where
   -- so when its turn comes, it rests as at first
   pub rests-yet : {s t : State} {a b : List ℕ} {n : ℕ} (d : ℕ) → Rests s d → Follows (upTo ticks (32 * d)) (seen s a 0) (seen t b n) → Rests t d
   rests-yet {s} {t} {a} d r p =
-      let is : (i : ℕ) → 33 * d ≤ i → word t i ≡ word s i =
+      let is : (i : ℕ) → registerAt d ≤ i → word t i ≡ word s i =
       λ i h. ap (λ (u : State). word u i) (p .follows a (world s []) (shows-none s a) .state) ∙ ticks-leave d i (world s []) h in
       record {
         rests = λ k l z.
@@ -69,27 +77,127 @@ module _ (isRouter : ℕ → Bool) where
 -- ---- ports
 
 -- the ports that a device lacks, of a sound state
-pub sound-unused : {plan : Plan} {s : State} → Held plan → Sound plan s → (d : ℕ) → d < 32 → Unused s d (getD (plan .core .ports) d 0)
+pub sound-unused : {plan : Plan} {s : State} → Held plan → Sound plan s → (d : ℕ) → d < 32 → Unused s d (portsOf plan d)
 sound-unused {plan} {s} h x d l =
     record {
       most = held-few plan h d l .1;
       unused = λ q kind a b k.
           let device : q / 8 ≡ d = omega arith in
-          x .no-port q kind (omega arith) (rw device (le-ltb (q % 8) (getD (plan .core .ports) d 0) (omega arith))) (omega arith);
+          x .no-port q kind (omega arith) (rw device (le-ltb (q % 8) (portsOf plan d) (omega arith))) (omega arith);
     }
 
 -- at them nothing arrives, as they lead nowhere
-pub arrives-unused : (plan : Plan) → Laid (devices plan) (plan .core .ports) (plan .peers) → (sent : List ℕ) → length sent ≡ 256 → (d q : ℕ) → d < devices plan
-    → 8 * d + getD (plan .core .ports) d 0 ≤ q → q < 8 * d + 8 → (w : World) → arrives plan sent q w ≡ w
+pub arrives-unused : (plan : Plan) → Laid plan → (sent : List ℕ) → length sent ≡ sentWords → (d q : ℕ) → d < devices plan → 8 * d + portsOf plan d ≤ q
+    → q < 8 * d + 8 → (w : World) → arrives plan sent q w ≡ w
 arrives-unused plan h sent e d q l a b w =
-    let device : q / 8 ≡ d = omega arith in
-    let nowhere : peer plan q ≡ nobody = rw device (h .nowhere d (q % 8) l (omega arith) (omega arith)) in
-    let byte : getD sent (peer plan q) 256 ≡ 256 = ap (λ (p : ℕ). getD sent p 256) nowhere ∙ List·getD-eq-default sent 256 (omega arith) in
-    arrives-nothing plan sent q 256 (sym byte) w (omega arith)
+    let device : 8 * d + q % 8 ≡ q = omega arith in
+    let nowhere : peer plan q ≡ nobody = rw device at (h .nowhere d (q % 8) l (omega arith) (omega arith)) in
+    let byte : getD sent (peer plan q) nothing ≡ nothing = ap (λ (p : ℕ). getD sent p nothing) nowhere ∙ List·getD-eq-default sent nothing (omega arith) in
+    arrives-nothing plan sent q nothing (sym byte) w (omega arith)
 
--- ---- both, of a sound state of a held plan
+-- ---- the words of absent devices
 
-pub held-laid : (plan : Plan) → Held plan → Laid (devices plan) (plan .core .ports) (plan .peers)
+pub sound-blank : (plan : Plan) → Held plan → {s : State} → Sound plan s → Blank (devices plan) s
+sound-blank plan h {s} x =
+    let n = few plan h in
+    record {
+      size = x .size;
+      blank =
+          by-place (λ i. registerAt (devices plan) ≤ i → (portsAt ≤ i → portsPast (devices plan) ≤ i) → word s i ≡ 0)
+          (λ d l a b. ap (word s) {x = registerAt d} {y = deviceWords * d + 0} (omega arith) ∙ x .no-device d 0 (omega arith) l (omega arith))
+          (λ d k l m a b. ap (word s) {x = timerAt d k} {y = deviceWords * d + (1 + k)} (omega arith) ∙ x .no-device d (1 + k) (omega arith) l (omega arith))
+          (λ q i l m a b. x .no-port q i l (absent q l (omega (arith, b (omega arith)))) m)
+          (λ i l a b. sound-behind x i l);
+    }
+  where
+    -- a port behind those of the devices does not exist
+    absent : (q : ℕ) → q < 256 → 8 * devices plan ≤ q → exists plan q ≡ false
+    absent q l a = by-test (exists plan q) refl
+      where
+        by-test : (t : Bool) → exists plan q ≡ t → exists plan q ≡ false
+        by-test false e = e
+        by-test true e = absurd (omega (arith, owned plan h q l e))
+
+pub zeros-blank : (n : ℕ) {s : State} → s ≡ table words (λ i. 0) → Blank n s
+unfolding word
+zeros-blank n {s} e =
+    let long : length s ≡ words = ap length e ∙ length-table words _ in
+    record {
+      size = long;
+      blank = λ i a b. dite (decLt i words) (λ l. ap (λ (x : State). word x i) e ∙ getD-table words (λ i. 0) i 0 l)
+          (λ l. word-past s i (omega (arith, long)));
+    }
+
+-- words that are copied, by one store after the other
+pub copies-none : {from to : ℕ} {old s : State} → to ≤ from → Copies from to old s s
+copies-none h = record { size = refl; there = λ i a b. absurd (omega arith); left = λ i o. refl }
+
+pub copies-more : {from i v : ℕ} {old s t : State} → Copies from i old s t → from ≤ i → i < length t → v ≡ word old i → Copies from (i + 1) old s (put t i v)
+copies-more {i = i} {v} {t = t} x l h e =
+    record {
+      size = length-put t i v ∙ x .size;
+      there = λ j a b. elim (ℕ-discrete j i) [
+        | yes z ↦ rw z (word-same t i v h ∙ e)
+        | no n ↦ word-other t i v j n ∙ x .there j a (omega arith)
+      ];
+      left = λ j o. word-other t i v j (λ z. o (omega arith) (omega arith)) ∙ x .left j (λ a b. o a (omega arith));
+    }
+
+-- two states that are blank there, and equal at the devices and ports, are equal
+pub blank-same : {n : ℕ} {a b : State} → Blank n a → Blank n b → ((i : ℕ) → i < registerAt n → word a i ≡ word b i)
+    → ((i : ℕ) → portsAt ≤ i → i < portsPast n → word a i ≡ word b i) → a ≡ b
+unfolding word
+blank-same {n} {a} {b} x y devices ports =
+    ext-getD 0 a b (x .size ∙ sym (y .size))
+    (λ i h. dite (decLt i (registerAt n)) (devices i)
+    (λ l. dite (decLt i portsAt) (λ m. x .blank i (omega arith) (λ o. absurd (omega arith)) ∙ sym (y .blank i (omega arith) (λ o. absurd (omega arith))))
+    (λ m. dite (decLt i (portsPast n)) (ports i (omega arith))
+    (λ o. x .blank i (omega arith) (λ _. omega arith) ∙ sym (y .blank i (omega arith) (λ _. omega arith))))))
+
+-- the words of the devices and of their ports are brought over
+pub brought : {n : ℕ} {old next middle after : State} → n ≤ 32 → Blank n old → Blank n next → Copies 0 (deviceWords * n) old next middle
+    → Copies portsAt (portsPast n) old middle after → after ≡ old
+brought {n} {old} {next} {middle} {after} few x y a b =
+    let z : Blank n after = record {
+      size = b .size ∙ a .size ∙ y .size;
+      blank = λ i l h. b .left i (λ c d. omega (arith, h c)) ∙ a .left i (λ c d. omega arith) ∙ y .blank i l h;
+    } in
+    blank-same z x (λ i l. b .left i (λ c d. omega arith) ∙ a .there i (omega arith) l) (λ i l h. b .there i l h)
+
+-- ---- where nothing is sent
+
+pub silent-all : (n : ℕ) (ports : List ℕ) {sent : List ℕ} → sent ≡ table sentWords (λ i. nothing) → Silent n ports sent
+silent-all n ports {sent} e =
+    record {
+      size = ap length e ∙ length-table sentWords _;
+      unsent = λ q l h. ap (λ (x : List ℕ). getD x q nothing) e ∙ getD-table sentWords (λ i. nothing) q nothing l;
+    }
+
+pub silent-repeat : (n : ℕ) (ports : List ℕ) → Silent n ports (replicate sentWords nothing)
+silent-repeat n ports =
+    record { size = length-replicate sentWords nothing; unsent = λ q l h. getD-replicate sentWords q nothing nothing l }
+
+-- after a round, too
+silent-sent : (plan : Plan) {s : State} → Idles plan s → Silent (devices plan) (plan .core .ports) (sentBytes plan s)
+unfolding sentBytes
+silent-sent plan {s} x =
+    record {
+      size = length-table sentWords _;
+      unsent = λ q l h. getD-table sentWords _ q nothing l ∙ dite (decLt q (8 * devices plan))
+          (λ m.
+          let device : 8 * (q / 8) + q % 8 ≡ q = omega arith in
+          rw (lt-ltb q (8 * devices plan) m)
+          (post-nothing s q (chosen-none s q (λ kind k. x .unused (q / 8) (omega arith) .unused q kind (h m) (omega arith) k))))
+          (λ m. rw (le-ltb q (8 * devices plan) (omega arith)));
+    }
+
+pub silent-played : {plan : Plan} {s : State} {sent : List ℕ} → Idles plan s → sent ≡ round plan s .sent → Silent (devices plan) (plan .core .ports) sent
+unfolding round
+silent-played {plan} x e = subst (Silent (devices plan) (plan .core .ports)) (sym e) (silent-sent plan x)
+
+-- ---- all of it, of a sound state of a held plan
+
+pub held-laid : (plan : Plan) → Held plan → Laid plan
 held-laid plan h =
     let n = few plan h in
     record {
@@ -98,10 +206,10 @@ held-laid plan h =
       nowhere = λ d p l a b.
           let device : (8 * d + p) / 8 ≡ d = omega arith in
           let place : (8 * d + p) % 8 ≡ p = omega arith in
-          rw (device, place) at (absent-loose plan h (8 * d + p) (omega arith) (rw (device, place) (le-ltb p (getD (plan .core .ports) d 0) a)));
+          absent-loose plan h (8 * d + p) (omega arith) (rw (device, place) (le-ltb p (portsOf plan d) a));
     }
 
-pub sound-idles : (plan : Plan) → Held plan → {s : State} → Sound plan s → Idles (devices plan) (plan .core .ports) s
+pub sound-idles : (plan : Plan) → Held plan → {s : State} → Sound plan s → Idles plan s
 sound-idles plan h x =
     let n = few plan h in
-    record { size = x .size; resting = λ d l. sound-rests x d l (omega arith); unused = λ d l. sound-unused h x d (omega arith) }
+    record { resting = λ d l. sound-rests x d l (omega arith); unused = λ d l. sound-unused h x d (omega arith); absent = sound-blank plan h x }

@@ -3,7 +3,6 @@ use mathlib.Core.Path.{_≡_, refl, sym, ap, _∙_}
 use mathlib.Core.Bool.{Bool, true, false}
 use mathlib.Core.List.{List, [], _∷_, _++_}
 use Prim.Native.Nat.{ℕ, zero, suc, _+_, _-_, _*_, _/_, _%_, _≤_, _<_}
-use native.Mathlib.Nat.{add-zero}
 use native.Mathlib.Omega.{arith}
 use lib.Bits.{bitOr}
 use lib.ListN.{getD}
@@ -20,11 +19,11 @@ use Rattle.device.specs.Reaction.{reacts}
 use Rattle.device.specs.declared.Reaction.{Reaction}
 use Rattle.device.specs.declared.Action.the-variants.{Forwarded, Told}
 use Rattle.plan.specs.declared.Plan.{Plan}
-use Rattle.bench.specs.State.{State, put, word, registerAt, timerAt, portAt, register, timer, waiting, next}
-use Rattle.bench.specs.Network.{role, router, peer, loadOf}
-use Rattle.bench.specs.Round.{World, ofTimeout, toldWord, tick, chosen, sends, unqueued, timed, forwarded, tells, sideAt, acted, arrived, arrives}
-use Rattle.bench.proofs.Words.{word-other}
-use Rattle.bench.proofs.Tellings.{world}
+use Rattle.state.specs.State.{State, put, word, registerAt, timerAt, portAt, register, timer, waiting, nextAt, next}
+use Rattle.state.specs.Network.{router, peer, loadOf}
+use Rattle.bench.specs.Round.{World, nothing, ofTimeout, toldWord, tick, chosen, sends, unqueued, timed, forwarded, tells, sideAt, acted, arrived, arrives}
+use Rattle.state.proofs.Words.{word-other}
+use Rattle.bench.proofs.Following.{world}
 
 -- ---- 1. timers
 
@@ -61,10 +60,10 @@ module _ (old : State) (q : ℕ) where
       let f : Finds (bitOr (waiting old 0 q) (waiting old 1 q)) (next old q) (At k) = rw e at (firstFrom-finds (bitOr (waiting old 0 q) (waiting old 1 q)) (next old q)) in
       f .place
 
-  -- what the code finds, from the place that it computes
-  pub chosen-is : {r : Found} → Finds (bitOr (word old (1056 + 4 * q)) (waiting old 1 q)) (next old q) r → r ≡ chosen old q
+  -- what the code finds
+  pub chosen-is : {r : Found} → Finds (bitOr (waiting old 0 q) (waiting old 1 q)) (next old q) r → r ≡ chosen old q
   unfolding chosen
-  chosen-is f = rw add-zero (first-unique _ _ _ _ f (firstFrom-finds _ _))
+  chosen-is f = first-unique _ _ _ _ f (firstFrom-finds _ _)
 
   -- nothing waits
   pub chosen-none : ((kind : ℕ) → kind < 2 → waiting old kind q ≡ 0) → chosen old q ≡ Nowhere
@@ -72,7 +71,7 @@ module _ (old : State) (q : ℕ) where
   chosen-none h =
       rw (h 0 (omega arith), h 1 (omega arith)) (first-unique 0 (next old q) _ Nowhere (firstFrom-finds 0 (next old q)) (λ k l. bit-zero k))
 
-  pub post-nothing : chosen old q ≡ Nowhere → sends old q ≡ 256
+  pub post-nothing : chosen old q ≡ Nowhere → sends old q ≡ nothing
   unfolding sends
   post-nothing e = rw (e, sends)
 
@@ -81,21 +80,21 @@ module _ (old : State) (q : ℕ) where
   post-same s e = rw (e, unqueued)
 
   module _ {k : ℕ} (e : chosen old q ≡ At k) where
-    pub post-interrupt : bit (word old (1056 + 4 * q)) k ≡ 1 → sends old q ≡ byteOf 0 k
+    pub post-interrupt : bit (waiting old 0 q) k ≡ 1 → sends old q ≡ byteOf 0 k
     unfolding sends
-    post-interrupt h = rw (e, add-zero, eq-eqb _ _ h, sends)
+    post-interrupt h = rw (e, eq-eqb _ _ h, sends)
 
-    pub post-acknowledge : (bit (word old (1056 + 4 * q)) k ≡ 1 → ⊥) → sends old q ≡ byteOf 1 k
+    pub post-acknowledge : (bit (waiting old 0 q) k ≡ 1 → ⊥) → sends old q ≡ byteOf 1 k
     unfolding sends
-    post-acknowledge h = rw (e, add-zero, ne-eqb _ _ h, sends)
+    post-acknowledge h = rw (e, ne-eqb _ _ h, sends)
 
     -- the code reads the second set after it has put the first
-    pub post-leaves : (s : State) (a b : ℕ) → a ≡ leave (word s (1056 + 4 * q)) k → b ≡ leave (word (put s (1056 + 4 * q) a) (portAt q 1)) k
-        → unqueued old q s ≡ put (put (put s (1056 + 4 * q) a) (portAt q 1) b) (portAt q 2) ((k + 1) % 32)
+    pub post-leaves : (s : State) (a b : ℕ) → a ≡ leave (waiting s 0 q) k → b ≡ leave (word (put s (portAt q 0) a) (portAt q 1)) k
+        → unqueued old q s ≡ put (put (put s (portAt q 0) a) (portAt q 1) b) (portAt q nextAt) ((k + 1) % 32)
     unfolding unqueued following
     post-leaves s a b p o =
-        let l : b ≡ leave (waiting s 1 q) k = o ∙ ap (λ (v : ℕ). leave v k) (word-other s (1056 + 4 * q) a (portAt q 1) (omega arith)) in
-        rw (e, add-zero, p, l, unqueued)
+        let l : b ≡ leave (waiting s 1 q) k = o ∙ ap (λ (v : ℕ). leave v k) (word-other s (portAt q 0) a (portAt q 1) (omega arith)) in
+        rw (e, p, l, unqueued)
 
 -- ---- 3. arrivals
 
@@ -116,12 +115,11 @@ module _ (load : ℕ → ℕ) (permissions : List ℕ) (q : ℕ) (s : State) whe
   unfolding arrived
   arrived-acts isRouter byte r told e = ap (λ (x : Reaction). acted load permissions q (x .action) (world (put s (registerAt (q / 8)) (x .register)) told)) (sym e)
 
-module _ (plan : Plan) (sent : List ℕ) (q byte : ℕ) (e : byte ≡ getD sent (peer plan q) 256) (w : World) where
-  pub arrives-nothing : 256 ≤ byte → arrives plan sent q w ≡ w
+module _ (plan : Plan) (sent : List ℕ) (q byte : ℕ) (e : byte ≡ getD sent (peer plan q) nothing) (w : World) where
+  pub arrives-nothing : nothing ≤ byte → arrives plan sent q w ≡ w
   unfolding arrives
-  arrives-nothing h = rw (← e, le-ltb byte 256 h, arrives)
+  arrives-nothing h = rw (← e, le-ltb byte nothing h, arrives)
 
-  pub arrives-byte : (load : ℕ) → byte < 256 → load ≡ getD (plan .core .loads) (role plan (q / 8)) 0
-      → arrives plan sent q w ≡ arrived (λ _. load) (plan .core .permissions) q (router plan (q / 8)) byte w
-  unfolding arrives loadOf
-  arrives-byte load h l = rw (← e, lt-ltb byte 256 h, l, arrives)
+  pub arrives-byte : byte < nothing → arrives plan sent q w ≡ arrived (loadOf plan (q / 8)) (plan .core .permissions) q (router plan (q / 8)) byte w
+  unfolding arrives
+  arrives-byte h = rw (← e, lt-ltb byte nothing h, arrives)

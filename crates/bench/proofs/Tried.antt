@@ -1,32 +1,32 @@
 -- What one trial comes to, and the trials of all places.
 use mathlib.Core.Path.{_≡_, refl, sym, ap, subst, _∙_}
-use mathlib.Core.List.{List}
-use mathlib.Core.Logic.{_⊎_, dite, inl, inr}
+use mathlib.Core.List.{List, _∷_}
+use mathlib.Core.Logic.{inl, inr}
 use Prim.Native.Nat.{ℕ, zero, suc, _+_, _*_, _/_, _%_, _≤_, _<_}
-use native.Mathlib.Decide.{decLe}
 use native.Mathlib.Numerals.{add-one}
 use native.Mathlib.Omega.{arith}
 use lib.ListN.{length, getD, set, length-set}
 use lib.Seq.{getD-set-same, getD-set-other}
+use borrow.Author.Tests.{eq-eqb}
 use borrow.Author.Count.{below-none, below-more}
-use Rattle.answers.specs.Ordered.{Ordered}
+use Rattle.answers.specs.Ordered.{ask, Ordered}
 use Rattle.answers.proofs.Outcomes.{Holds, holds}
 use Rattle.areas.specs.Table.{table}
 use Rattle.bits.specs.Set.{bit}
 use Rattle.bits.proofs.Sets.{bit-two}
 use Rattle.plan.specs.Reading.{Held}
 use Rattle.plan.specs.declared.Plan.{Plan}
-use Rattle.bench.specs.State.{State, register}
-use Rattle.bench.specs.Network.{devices, source}
-use Rattle.bench.specs.Sound.{Sound}
-use Rattle.bench.specs.Calls.{started, called, resetAsks}
-use Rattle.bench.specs.Settling.{rounds, Quiet, Least, Pair, settleAsks, after, Settles}
-use Rattle.bench.specs.Trials.{holders, allowance, requested, Answered, heldAfter, Tries, refused, settled, waiting, FoundAt, Finds, Fits, TriesAll}
-use Rattle.bench.specs.Telling.{pair}
-use Rattle.bench.specs.Steps.{ownAsks, placeAsks, sendAsks, lent}
-use Rattle.bench.proofs.Asked.{call-foreign, call-answered}
-use Rattle.bench.proofs.Started.{started-sound}
-use Rattle.bench.proofs.Called.{call-sound}
+use Rattle.state.specs.State.{State, words, register}
+use Rattle.state.specs.Network.{devices, source}
+use Rattle.state.specs.Sound.{Sound}
+use Rattle.state.specs.Start.{startOf, begun, started}
+use Rattle.calls.specs.Calls.{deviceAsks, ownAsks, sendAsks, called}
+use Rattle.bench.specs.Settling.{rounds, Pair, mostRounds, after, Ends}
+use Rattle.bench.specs.Trials.{holders, requested, Answered, heldAfter, Tries, refused, settled, waiting, FoundAt, foundWords, Finds, Fits, TriesAll, placeAsks, lent}
+use Rattle.bench.specs.Shown.{pair}
+use Rattle.calls.proofs.Asked.{call-foreign, call-answered}
+use Rattle.state.proofs.Started.{started-sound}
+use Rattle.calls.proofs.Called.{call-sound}
 
 -- ---- the count of the devices
 
@@ -47,13 +47,23 @@ same : {plan : Plan} {d k a b c x y z : ℕ} → Tries plan d k a b c → a ≡ 
 same {plan} {d} {k} {a} {b} {y = y} {z = z} t p q r =
     subst (λ n. Tries plan d k n y z) p (subst (λ n. Tries plan d k a n z) q (subst (λ n. Tries plan d k a b n) r t))
 
+-- the start state, in an area of its length
+pub is-begun : (peers : List (List ℕ)) (area : State) {s : State} → length area ≡ words → s ≡ begun peers area → s ≡ startOf peers
+unfolding begun
+is-begun peers area long e = e ∙ rw (eq-eqb (length area) words long)
+
+-- the second area ends as zeros
+pub ends-second : {plan : Plan} {s : State} {allowance number value : ℕ} {u w : State} → Ends plan s allowance number value (pair u w) → w ≡ table words (λ i. 0)
+ends-second (inl p) = ap (λ (x : Pair). x .second) (p .3)
+ends-second (inr p) = ap (λ (x : Pair). x .second) (p .3)
+
 -- what the plan says of a place
 pub place-own : (n d mask k : ℕ) → Ordered (placeAsks n d mask k) 0 → (d < n) × Ordered (ownAsks mask k) 0
 place-own n d mask k (inl p) = absurd (omega (arith, p .1))
 place-own n d mask k (inr p) = p
 
 module _ (plan : Plan) (held : Held plan) (d k : ℕ) where
-  begins : d < devices plan → Holds (resetAsks plan d (started plan))
+  begins : d < devices plan → Holds (deviceAsks plan d (started plan))
   begins there = (held, (started-sound plan held, (there, tt)))
 
   -- the plan lacks the device, or it is no source
@@ -68,11 +78,11 @@ module _ (plan : Plan) (held : Held plan) (d k : ℕ) where
     pub is-small : k < 32
     is-small = holds (ownAsks (source plan d) k) refl (mine .1) refl .0
 
-    module _ {s : State} {number : ℕ} (begun : s ≡ started plan) (a : Ordered (sendAsks (plan .core .permissions) 0 d k s) number) where
+    module _ {s : State} {number : ℕ} (fresh : s ≡ started plan) (a : Ordered (ask 4 (d < 32) ∷ sendAsks (plan .core .permissions) 0 d k s) number) where
       answered : Answered plan d k number
       answered =
           call-answered plan d (started plan) 0 k (begins (mine .0)) refl (mine .1) refl
-          (subst (λ (x : State). Ordered (sendAsks (plan .core .permissions) 0 d k x) number) begun a)
+          (subst (λ (x : State). Ordered (ask 4 (d < 32) ∷ sendAsks (plan .core .permissions) 0 d k x) number) fresh a)
 
       pub is-refused : (number ≡ 0 → ⊥) → Tries plan d k number 0 0
       is-refused n = refused answered n
@@ -82,7 +92,7 @@ module _ (plan : Plan) (held : Held plan) (d k : ℕ) where
         taken = subst (Answered plan d k) y answered
 
         asked : t ≡ requested plan d k
-        asked = e ∙ ap (called plan 0 d k) begun
+        asked = e ∙ ap (called plan 0 d k) fresh
 
         sound : Sound plan (requested plan d k)
         sound = call-sound plan held (started plan) (started-sound plan held) 0 d k (omega arith) (mine .0) is-small
@@ -91,49 +101,30 @@ module _ (plan : Plan) (held : Held plan) (d k : ℕ) where
         is-sound = subst (Sound plan) (sym asked) sound
 
         -- it settles, or waits on
-        module _ {second : List ℕ} {n v count : ℕ} {u w : State} (long : length second ≡ 2080) (r : Settles plan (pair t second) allowance n v (pair u w)) (h : count ≡ holders (devices plan) k u) where
-          asks : Ordered (settleAsks plan (pair (requested plan d k) second) allowance) n
-          asks = subst (λ (x : State). Ordered (settleAsks plan (pair x second) allowance) n) asked (r .answers)
-
-          rest : Ordered (settleAsks plan (pair (requested plan d k) second) allowance) n
-              → ((n ≡ 12) × ((m : ℕ) → m ≤ allowance → Quiet (rounds plan m (requested plan d k)) → ⊥))
-              ⊎ ((n ≡ 0) × ((m : ℕ) × (m ≤ allowance) × Quiet (rounds plan m (requested plan d k))))
-          rest (inl p) = absurd (p .0 held)
-          rest (inr (_, inl p)) = absurd (p .0 sound)
-          rest (inr (_, inr (_, inl p))) = absurd (p .0 long)
-          rest (inr (_, inr (_, inr (_, inl p)))) = absurd (p .0 (omega arith))
-          rest (inr (_, inr (_, inr (_, inr (_, inl p))))) = inl (p .1, λ m l q. p .0 (m, l, q))
-          rest (inr (_, inr (_, inr (_, inr (_, inr (p, z)))))) = inr (z, p)
-
+        module _ {n v count : ℕ} {u w : State} (r : Ends plan t mostRounds n v (pair u w)) (h : count ≡ holders (devices plan) k u) where
           -- the devices that are counted are those after as many rounds
           counted : (m : ℕ) → pair u w ≡ after plan t m → heldAfter plan d k m ≡ count
           counted m g = sym (h ∙ ap (holders (devices plan) k) (ap (λ (x : Pair). x .state) g ∙ ap (rounds plan m) asked))
 
-          -- no later than some round at which nothing waits
-          in-time : (m : ℕ) → Quiet (rounds plan m (requested plan d k)) → Least plan (requested plan d k) v → v ≤ m
-          in-time m q l = dite (decLe v m) (λ h. h) (λ h. absurd (l .least m (omega arith) q))
-
           pub is-tried : Tries plan d k n v count
           is-tried =
-              elim (rest asks) [
-                | inl p ↦
-                    let x = r .still (p .0) in same (waiting taken (p .1)) (sym (p .0)) (sym (x .0)) (counted allowance (x .1))
-                | inr p ↦
-                    let x = r .made (p .0) in
-                    let l = subst (λ (s : State). Least plan s v) asked (x .0) in
-                    let before = in-time (p .1 .0) (p .1 .2) l in
-                    same (settled taken (omega (arith, before, p .1 .1)) l) (sym (p .0)) refl (counted v (x .1))
+              elim (subst (λ (x : State). Ends plan x mostRounds n v (pair u w)) asked r) [
+                | inl p ↦ same (settled taken (p .1) (p .2)) (sym (p .0)) refl (again v (p .3))
+                | inr p ↦ same (waiting taken (p .2)) (sym (p .0)) (sym (p .1)) (again mostRounds (p .3))
               ]
+            where
+              again : (m : ℕ) → pair u w ≡ after plan (requested plan d k) m → heldAfter plan d k m ≡ count
+              again m g = counted m (g ∙ ap (λ (x : State). after plan x m) (sym asked))
 
 -- ---- the places, one after the other
 
 -- what is found of those before i
 pub record Found (plan : Plan) (i : ℕ) (found : List ℕ) : Type 0 where
-  pub size : length found ≡ 3072
+  pub size : length found ≡ foundWords
   pub each : (j : ℕ) → j < i → FoundAt plan found j
 
 module _ {plan : Plan} {found : List ℕ} where
-  pub found-none : length found ≡ 3072 → Found plan 0 found
+  pub found-none : length found ≡ foundWords → Found plan 0 found
   found-none e = record { size = e; each = below-none _ }
 
   module _ {i : ℕ} (f : Found plan i found) where
@@ -155,10 +146,10 @@ module _ {plan : Plan} {found : List ℕ} where
       before m l =
           sym (getD-set-other two (3 * i + 2) m c 0 (λ e. omega arith) ∙ getD-set-other one (3 * i + 1) m b 0 (λ e. omega arith) ∙ getD-set-other found (3 * i) m a 0 (λ e. omega arith))
 
-      size-one : length one ≡ 3072
+      size-one : length one ≡ foundWords
       size-one = length-set found (3 * i) a ∙ f .size
 
-      size-two : length two ≡ 3072
+      size-two : length two ≡ foundWords
       size-two = length-set one (3 * i + 1) b ∙ size-one
 
       here : FoundAt plan stored i
@@ -186,7 +177,7 @@ module _ (plan : Plan) (state second found : List ℕ) where
     misfits m = record { answers = inr (held, inl (m, refl)); made = λ z. absurd (omega (arith, z)); kept = λ _. refl }
 
     pub finds : {peers : List (List ℕ)} {s u f : List ℕ} → peers ≡ plan .peers → Fits (length state) (length second) (length found)
-        → Finds (record { core = plan .core; peers = peers }) f → s ≡ table 2080 (λ i. 0) → u ≡ table 2080 (λ i. 0) → TriesAll plan (lent state second found) 0 (lent s u f)
+        → Finds (record { core = plan .core; peers = peers }) f → s ≡ table words (λ i. 0) → u ≡ table words (λ i. 0) → TriesAll plan (lent state second found) 0 (lent s u f)
     finds {f = f} e fits x p q =
         record {
           answers = inr (held, inr (fits, refl));

@@ -1,49 +1,20 @@
 -- Each public function's promise allows one answer and one exit of the areas.
 use mathlib.Core.Path.{_≡_, refl, sym, ap, _∙_}
-use mathlib.Core.Bool.{Bool}
 use mathlib.Core.List.{List}
 use Prim.Native.Nat.{ℕ, _+_, _*_, _/_, _%_, _<_}
 use native.Mathlib.Decide.{ℕ-discrete}
 use native.Mathlib.Omega.{arith}
 use lib.ListN.{getD}
 use lib.Seq.{ext-getD}
-use Rattle.answers.specs.Decides.{Decides}
-use Rattle.answers.specs.Ordered.{Condition, Outcome}
-use Rattle.answers.proofs.Unique.{decides-once, ordered-once, outcome-once}
+use Rattle.answers.proofs.Unique.{ordered-once}
 use Rattle.plan.specs.declared.Plan.{Plan}
-use Rattle.bench.specs.State.{State}
-use Rattle.bench.specs.Sound.{Sound}
-use Rattle.bench.specs.Calls.{started, startAsks, called, callAsks, unlinked, linked, linkAsks, reset, resetAsks}
-use Rattle.bench.specs.Playing.{Areas, roundAsks, Plays}
+use Rattle.state.specs.State.{State}
+use Rattle.state.specs.Start.{started}
+use Rattle.calls.specs.Calls.{callAsks}
+use Rattle.bench.specs.Round.{Areas}
+use Rattle.bench.specs.RoundCall.{roundAsks, Plays}
 use Rattle.bench.specs.Settling.{Least, Pair, settleAsks, after, Settles}
-use Rattle.bench.specs.Trials.{requested, Answered, heldAfter, Tries, refused, settled, waiting, Finds, Lent, trialsAsks, TriesAll}
-
--- one number, and one state after the call
-abbrev pub Once : List Condition → State → State → Type 0
-Once asks before done = (r s : ℕ) (a b : State) → Outcome asks before done r a → Outcome asks before done s b → (r ≡ s) × (a ≡ b)
-
-module _ (plan : Plan) (state : State) where
-  pub is-sound-unique : (r s : Bool) → Decides (Sound plan state) r → Decides (Sound plan state) s → r ≡ s
-  is-sound-unique r s p q = decides-once r s p q
-
-  pub start-unique : Once (startAsks plan state) state (started plan)
-  start-unique = outcome-once (startAsks plan state) state (started plan)
-
-  module _ (device : ℕ) where
-    pub request-unique : (k : ℕ) → Once (callAsks plan 0 device k state) state (called plan 0 device k state)
-    request-unique k = outcome-once (callAsks plan 0 device k state) state (called plan 0 device k state)
-
-    pub acknowledge-unique : (k : ℕ) → Once (callAsks plan 1 device k state) state (called plan 1 device k state)
-    acknowledge-unique k = outcome-once (callAsks plan 1 device k state) state (called plan 1 device k state)
-
-    pub link-stop-unique : (port : ℕ) → Once (linkAsks plan 1 device port state) state (unlinked plan (8 * device + port) state)
-    link-stop-unique port = outcome-once (linkAsks plan 1 device port state) state (unlinked plan (8 * device + port) state)
-
-    pub link-start-unique : (port : ℕ) → Once (linkAsks plan 0 device port state) state (linked plan (8 * device + port) state)
-    link-start-unique port = outcome-once (linkAsks plan 0 device port state) state (linked plan (8 * device + port) state)
-
-    pub reset-unique : Once (resetAsks plan device state) state (reset plan device state)
-    reset-unique = outcome-once (resetAsks plan device state) state (reset plan device state)
+use Rattle.bench.specs.Trials.{requested, Answered, heldAfter, Tries, refused, settled, waiting, foundWords, Finds, Lent, trialsAsks, TriesAll}
 
 pub round-unique : (plan : Plan) (old : State) (before : Areas) (m n v w : ℕ) (a b : Areas)
     → Plays plan old before m v a → Plays plan old before n w b → (m ≡ n) × (v ≡ w) × (a ≡ b)
@@ -107,7 +78,7 @@ finds-once plan a b p q = ext-getD 0 a b (p .size ∙ sym (q .size)) (λ j l. wo
     place : (i : ℕ) → i < 1024 → (getD a (3 * i) 0 ≡ getD b (3 * i) 0) × (getD a (3 * i + 1) 0 ≡ getD b (3 * i + 1) 0) × (getD a (3 * i + 2) 0 ≡ getD b (3 * i + 2) 0)
     place i h = tries-once plan (i / 32) (i % 32) (p .each i h) (q .each i h)
 
-    word : (j : ℕ) → j < 3072 → getD a j 0 ≡ getD b j 0
+    word : (j : ℕ) → j < foundWords → getD a j 0 ≡ getD b j 0
     word j l =
         let x = place (j / 3) (omega arith) in
         let first : j % 3 ≡ 0 → 3 * (j / 3) ≡ j = λ e. omega arith in

@@ -1,13 +1,6 @@
-pub mod State
-pub mod Network
-pub mod Sound
-pub mod Queue
-pub mod Calls
 pub mod Round
-pub mod Playing
+pub mod RoundCall
 pub mod Settling
 pub mod Trials
-pub mod Steps
-pub mod Telling
+pub mod Shown
 pub mod Idle
-pub mod Alike

@@ -19,9 +19,9 @@ use Rattle.device.specs.declared.Action.{Action}
 use Rattle.device.specs.declared.Action.the-variants.{Named, LinkError, Ignored, Forwarded, Told}
 use Rattle.device.specs.declared.Side.{Side}
 use Rattle.plan.specs.declared.Plan.{Plan}
-use Rattle.bench.specs.State.{State, put, registerAt, timerAt, portAt, register, timer, waiting, next, running}
-use Rattle.bench.specs.Network.{devices, router, peer, loadOf}
-use Rattle.bench.specs.Queue.{queueAllAt}
+use Rattle.state.specs.State.{State, put, registerAt, timerAt, portAt, register, timer, waiting, nextAt, next, running}
+use Rattle.state.specs.Network.{devices, router, peer, loadOf}
+use Rattle.state.specs.Queue.{queueAllAt}
 
 -- a state, and the words told so far
 pub record World : Type 0 where
@@ -63,15 +63,18 @@ tick isRouter d k w =
 unfoldable pub chosen : State → ℕ → Found
 chosen old q = firstFrom (bitOr (waiting old 0 q) (waiting old 1 q)) (next old q)
 
--- its byte, as an interrupt or an acknowledge; 256 for none
+-- its byte, as an interrupt or an acknowledge, or nothing
+abbrev pub nothing : ℕ
+nothing = 256
+
 unfoldable pub sends : State → ℕ → ℕ
-sends old q = elim (chosen old q) [ At k ↦ cond (eqb (bit (waiting old 0 q) k) 1) (byteOf 0 k) (byteOf 1 k) | Nowhere ↦ 256 ]
+sends old q = elim (chosen old q) [ At k ↦ cond (eqb (bit (waiting old 0 q) k) 1) (byteOf 0 k) (byteOf 1 k) | Nowhere ↦ nothing ]
 
 -- it leaves its set, and next moves behind it
 unfoldable pub unqueued : State → ℕ → State → State
 unqueued old q s =
     elim (chosen old q) [
-      | At k ↦ put (put (put s (portAt q 0) (leave (waiting s 0 q) k)) (portAt q 1) (leave (waiting s 1 q) k)) (portAt q 2) (following (next old q) (At k))
+      | At k ↦ put (put (put s (portAt q 0) (leave (waiting s 0 q) k)) (portAt q 1) (leave (waiting s 1 q) k)) (portAt q nextAt) (following (next old q) (At k))
       | Nowhere ↦ s
     ]
 
@@ -119,19 +122,23 @@ module _ (load : ℕ → ℕ) (permissions : List ℕ) (q : ℕ) where
 
 -- ---- the round of a plan
 
-pub record Round : Type 0 where
+-- the areas that a round fills: the next state, the bytes sent, the words told
+pub record Areas : Type 0 where
   pub next : State
   pub sent : List ℕ
   pub told : List ℕ
+
+abbrev pub sentWords : ℕ
+sentWords = 256
 
 module _ (plan : Plan) where
   -- by device, then identifier
   unfoldable pub ticked : World → World
   ticked w = upTo (λ i. tick (router plan (i / 32)) (i / 32) (i % 32)) (32 * devices plan) w
 
-  -- 256 words, at 8 x d + p the byte sent
+  -- a word for each of 256 ports, at 8 x d + p the byte sent
   unfoldable pub sentBytes : State → List ℕ
-  sentBytes old = table 256 (λ q. cond (ltb q (8 * devices plan)) (sends old q) 256)
+  sentBytes old = table sentWords (λ q. cond (ltb q (8 * devices plan)) (sends old q) nothing)
 
   unfoldable pub posted : State → State → State
   posted old s = upTo (unqueued old) (8 * devices plan) s
@@ -139,8 +146,8 @@ module _ (plan : Plan) where
   -- what the far end sent arrives at port q
   unfoldable pub arrives : List ℕ → ℕ → World → World
   arrives sent q w =
-      let byte = getD sent (peer plan q) 256 in
-      cond (ltb byte 256) (arrived (loadOf plan (q / 8)) (plan .core .permissions) q (router plan (q / 8)) byte w) w
+      let byte = getD sent (peer plan q) nothing in
+      cond (ltb byte nothing) (arrived (loadOf plan (q / 8)) (plan .core .permissions) q (router plan (q / 8)) byte w) w
 
   -- by receiving device, then port
   unfoldable pub reached : List ℕ → World → World
@@ -156,5 +163,5 @@ module _ (plan : Plan) where
     abbrev pub afterArrivals : World
     afterArrivals = reached (sentBytes old) afterSending
 
-    unfoldable pub round : Round
+    unfoldable pub round : Areas
     round = record { next = afterArrivals .state; sent = sentBytes old; told = afterArrivals .told }

@@ -1,15 +1,15 @@
 -- RULES, "Settling": rounds until no port waits; the least number of them.
 use mathlib.Core.Path.{_≡_}
-use mathlib.Core.List.{List, [], _∷_}
+use mathlib.Core.List.{List, [], _∷_, _++_}
+use mathlib.Core.Logic.{_⊎_}
 use Prim.Native.Nat.{ℕ, _≤_, _<_}
 use lib.ListN.{length}
 use Rattle.answers.specs.Ordered.{Condition, ask, Ordered}
 use Rattle.areas.specs.Loop.{upTo}
 use Rattle.areas.specs.Table.{table}
-use Rattle.plan.specs.Reading.{Held}
 use Rattle.plan.specs.declared.Plan.{Plan}
-use Rattle.bench.specs.State.{State, waiting}
-use Rattle.bench.specs.Sound.{Sound}
+use Rattle.state.specs.State.{State, words, waiting}
+use Rattle.state.specs.Sound.{stateAsks}
 use Rattle.bench.specs.Round.{round}
 
 -- n rounds, with no call between them
@@ -30,18 +30,21 @@ pub record Pair : Type 0 where
   pub state : State
   pub second : List ℕ
 
+-- the most rounds that may be allowed
+abbrev pub mostRounds : ℕ
+mostRounds = 4096
+
 abbrev pub settleAsks : Plan → Pair → ℕ → List Condition
 settleAsks plan areas allowance =
-    ask 1 (Held plan)
-    ∷ ask 2 (Sound plan (areas .state))
-    ∷ ask 3 (length (areas .second) ≡ 2080)
-    ∷ ask 11 (allowance ≤ 4096)
+    stateAsks plan (areas .state)
+    ++ (ask 3 (length (areas .second) ≡ words)
+    ∷ ask 11 (allowance ≤ mostRounds)
     ∷ ask 12 ((n : ℕ) × (n ≤ allowance) × Quiet (rounds plan n (areas .state)))
-    ∷ []
+    ∷ [])
 
 -- the state after n rounds, and a second area of zeros
 abbrev pub after : Plan → State → ℕ → Pair
-after plan s n = record { state = rounds plan n s; second = table 2080 (λ i. 0) }
+after plan s n = record { state = rounds plan n s; second = table words (λ i. 0) }
 
 -- done: the least number of rounds, and the state then reached; 12: the allowance, and the state after it; else nothing changes
 pub record Settles (plan : Plan) (before : Pair) (allowance number value : ℕ) (now : Pair) : Type 0 where
@@ -49,3 +52,10 @@ pub record Settles (plan : Plan) (before : Pair) (allowance number value : ℕ) 
   pub made : number ≡ 0 → Least plan (before .state) value × (now ≡ after plan (before .state) value)
   pub still : number ≡ 12 → (value ≡ allowance) × (now ≡ after plan (before .state) allowance)
   pub kept : (number ≡ 0 → ⊥) → (number ≡ 12 → ⊥) → (value ≡ 0) × (now ≡ before)
+
+-- ---- no rules: what settling comes to where nothing is refused
+
+abbrev pub Ends : Plan → State → ℕ → ℕ → ℕ → Pair → Type 0
+Ends plan s allowance number value now =
+    ((number ≡ 0) × (value ≤ allowance) × Least plan s value × (now ≡ after plan s value))
+    ⊎ ((number ≡ 12) × (value ≡ allowance) × ((n : ℕ) → n ≤ allowance → Quiet (rounds plan n s) → ⊥) × (now ≡ after plan s allowance))

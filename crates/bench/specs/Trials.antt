@@ -8,19 +8,16 @@ use Rattle.areas.specs.Table.{table}
 use Rattle.bits.specs.Set.{bit}
 use Rattle.plan.specs.Reading.{Held}
 use Rattle.plan.specs.declared.Plan.{Plan}
-use Rattle.bench.specs.State.{State, register}
-use Rattle.bench.specs.Network.{devices}
-use Rattle.bench.specs.Calls.{started, called, callAsks}
-use Rattle.bench.specs.Settling.{rounds, Quiet, Least}
+use Rattle.state.specs.State.{State, words, register}
+use Rattle.state.specs.Network.{devices}
+use Rattle.state.specs.Start.{started}
+use Rattle.calls.specs.Calls.{called, callAsks, ownAsks}
+use Rattle.bench.specs.Settling.{rounds, Quiet, Least, mostRounds}
 
 -- how many of the first n devices hold identifier k
 unfoldable pub holders : ℕ → ℕ → State → ℕ
 holders zero k s = 0
 holders (suc n) k s = holders n k s + bit (register s n) k
-
--- the most rounds that are played
-abbrev pub allowance : ℕ
-allowance = 4096
 
 module _ (plan : Plan) (d k : ℕ) where
   -- the start state, in which device d has requested k
@@ -38,8 +35,8 @@ module _ (plan : Plan) (d k : ℕ) where
   -- what the request is answered with, or 12 where something waits still after all rounds; the rounds; and the devices then holding the bit
   pub data Tries : ℕ → ℕ → ℕ → Type 0 where
     refused : {number : ℕ} → Answered number → (number ≡ 0 → ⊥) → Tries number 0 0
-    settled : {n : ℕ} → Answered 0 → n ≤ allowance → Least plan requested n → Tries 0 n (heldAfter n)
-    waiting : Answered 0 → ((n : ℕ) → n ≤ allowance → Quiet (rounds plan n requested) → ⊥) → Tries 12 allowance (heldAfter allowance)
+    settled : {n : ℕ} → Answered 0 → n ≤ mostRounds → Least plan requested n → Tries 0 n (heldAfter n)
+    waiting : Answered 0 → ((n : ℕ) → n ≤ mostRounds → Quiet (rounds plan n requested) → ⊥) → Tries 12 mostRounds (heldAfter mostRounds)
 
 -- ---- all of them, by one call
 
@@ -47,9 +44,12 @@ module _ (plan : Plan) (d k : ℕ) where
 abbrev pub FoundAt : Plan → List ℕ → ℕ → Type 0
 FoundAt plan found i = Tries plan (i / 32) (i % 32) (getD found (3 * i) 0) (getD found (3 * i + 1) 0) (getD found (3 * i + 2) 0)
 
+abbrev pub foundWords : ℕ
+foundWords = 3072
+
 -- what is found of all 1,024 places
 pub record Finds (plan : Plan) (found : List ℕ) : Type 0 where
-  pub size : length found ≡ 3072
+  pub size : length found ≡ foundWords
   pub each : (i : ℕ) → i < 1024 → FoundAt plan found i
 
 -- the areas: two for states, and one for what is found
@@ -60,7 +60,7 @@ pub record Lent : Type 0 where
 
 -- their lengths are right
 abbrev pub Fits : ℕ → ℕ → ℕ → Type 0
-Fits state second found = (state ≡ 2080) × (second ≡ 2080) × (found ≡ 3072)
+Fits state second found = (state ≡ words) × (second ≡ words) × (found ≡ foundWords)
 
 abbrev pub trialsAsks : Plan → Lent → List Condition
 trialsAsks plan areas =
@@ -69,5 +69,14 @@ trialsAsks plan areas =
 -- done, all is found, and the other two areas are zeros. Refused, nothing changes
 pub record TriesAll (plan : Plan) (before : Lent) (number : ℕ) (after : Lent) : Type 0 where
   pub answers : Ordered (trialsAsks plan before) number
-  pub made : number ≡ 0 → Finds plan (after .found) × (after .state ≡ table 2080 (λ i. 0)) × (after .second ≡ table 2080 (λ i. 0))
+  pub made : number ≡ 0 → Finds plan (after .found) × (after .state ≡ table words (λ i. 0)) × (after .second ≡ table words (λ i. 0))
   pub kept : (number ≡ 0 → ⊥) → after ≡ before
+
+-- ---- no rules: what the private functions say on the way
+
+-- what the plan alone asks of a place: the device is one of n, and the mask has the identifier
+abbrev pub placeAsks : ℕ → ℕ → ℕ → ℕ → List Condition
+placeAsks n d mask k = ask 4 (d < n) ∷ ownAsks mask k
+
+abbrev pub lent : List ℕ → List ℕ → List ℕ → Lent
+lent state second found = record { state = state; second = second; found = found }

@@ -1,10 +1,7 @@
-// The bench: a network's state as 2,080 words, what hosts and links may do between rounds, and one
-// round. Areas are the caller's; a refusal changes none of them.
-mod calls;
-mod port;
+// The bench: what hosts and links may do between the rounds of a network, one round, and rounds until
+// nothing waits. Areas are the caller's; a refusal changes none of them.
 mod rounds;
 mod settling;
-mod state;
 mod trial;
 
 pub use calls::acknowledge;
@@ -14,6 +11,7 @@ pub use calls::request;
 pub use calls::reset;
 pub use rounds::round;
 pub use settling::settle;
+pub use state::WORDS;
 pub use state::is_sound;
 pub use state::start;
 pub use trial::trials;
@@ -24,13 +22,16 @@ pub struct Answer {
     pub value: u32,
 }
 
-// A device has its register and its 32 timers, from 33 x d on.
-pub const DEVICE: usize = 33;
+// A word for each of 256 ports: the byte that it sent, or nothing.
+pub const SENT: usize = 256;
 
-// Behind all devices are the ports, with four words each: the waiting interrupts, the waiting
-// acknowledges, next, and whether it runs.
-pub const PORTS: usize = 1056;
+pub const NOTHING: u32 = 256;
 
-pub const PORT: usize = 4;
+// No round tells more words.
+pub const TOLD: usize = 1056;
 
-pub const RUNNING: usize = 3;
+// The most rounds that may be allowed.
+pub const ROUNDS: u32 = 4096;
+
+// Three words for each of 1,024 places.
+pub const FOUND: usize = 3072;

@@ -1,29 +1,36 @@
 // One round: timers, sending, arrivals, in this order. The old state is read, the next one built in
 // another area, so that a code crosses one link a round.
 ghost use mathlib.Core.Path.{_≡_};
-ghost use mathlib.Core.Bool.{cond};
 ghost use mathlib.Core.List.{[], _∷_};
 ghost use Prim.Native.Nat.{ℕ, _+_, _*_, _/_, _%_, _<_, _≤_};
-ghost use lib.Dec.{eqb, ltb};
+ghost use lib.Dec.{eqb};
 ghost use lib.ListN.{length, getD};
 ghost use Rattle.areas.specs.Loop.{upTo};
-ghost use Rattle.areas.specs.Table.{table};
-ghost use Rattle.bench.specs.Round.{toldWord, tick, chosen, sends, unqueued, timed, forwarded, tells, acted, arrived, reached};
-ghost use Rattle.bench.specs.Playing.{Plays};
-ghost use Rattle.bench.specs.Idle.{Rests, Unused, Laid, Idles, bare};
-ghost use Rattle.bench.specs.Telling.{Notes, areas, seen, Follows, Played};
+ghost use Rattle.plan.specs.declared.Plan.{Plan};
+ghost use Rattle.state.specs.State.{words};
+ghost use Rattle.state.specs.Network.{loadFor};
+ghost use Rattle.bench.specs.Round.{toldWord, nothing, sentWords, tick, chosen, sends, unqueued, timed, forwarded, tells, acted, arrived, sentBytes, posted, reached};
+ghost use Rattle.bench.specs.RoundCall.{Plays};
+ghost use Rattle.bench.specs.Idle.{Rests, Blank, Laid, Idles, Copies, Silent};
+ghost use Rattle.bench.specs.Shown.{Notes, areas, seen, Follows, Played};
 use crate::Answer;
-use crate::DEVICE;
-use crate::PORT;
-use crate::PORTS;
-use crate::RUNNING;
-use crate::port;
-use crate::state;
+use crate::NOTHING;
+use crate::SENT;
+use crate::TOLD;
 use bits::Found;
 use codes::Code;
 use device::Action;
 use device::Side;
+use plan::Core;
 use plan::Plan;
+use state::ACKNOWLEDGES;
+use state::DEVICE;
+use state::INTERRUPTS;
+use state::NEXT;
+use state::PORT;
+use state::PORTS;
+use state::RUNNING;
+use state::WORDS;
 
 // What a host is told of.
 const OF_INTERRUPT: u32 = 1;
@@ -64,7 +71,7 @@ fn tick_one(
     told: &mut [u32],
     count: usize,
 ) -> usize
-    requires { ⌜ (length (now state) ≡ 2080) × (d < 32) × (k < 32) × (count < 4096) ⌝ }
+    requires { ⌜ (length (now state) ≡ words) × (d < 32) × (k < 32) × (count < 4096) ⌝ }
     ensures { λ r. ⌜ Follows (tick router d k) (seen (now (state .entry)) (now (told .entry)) count) (seen (now (state .exit)) (now (told .exit)) r) × (r ≤ count + 1) ⌝ }
 {
     let at = DEVICE * d + 1 + k as usize;
@@ -88,7 +95,7 @@ fn tick_one(
 // The timers of device d, in the order of their identifiers. One whose bit is clear does not run, and
 // is passed over.
 fn tick_device(router: bool, d: usize, state: &mut [u32], told: &mut [u32], count: usize) -> usize
-    requires { ⌜ (length (now state) ≡ 2080) × (d < 32) × (count ≤ 1024) × Rests (now state) d ⌝ }
+    requires { ⌜ (length (now state) ≡ words) × (d < 32) × (count ≤ 1024) × Rests (now state) d ⌝ }
     ensures { λ r. ⌜ Follows (upTo (tick router d) 32) (seen (now (state .entry)) (now (told .entry)) count) (seen (now (state .exit)) (now (told .exit)) r) × (r ≤ count + 32) ⌝ }
 {
     let mut count = count;
@@ -103,7 +110,7 @@ fn tick_device(router: bool, d: usize, state: &mut [u32], told: &mut [u32], coun
 
 // All timers, by device then identifier.
 fn tick_all(n: usize, role: &[u8; 32], state: &mut [u32], told: &mut [u32]) -> usize
-    requires { ⌜ (length (now state) ≡ 2080) × (n ≤ 32) × ((d : ℕ) → d < n → Rests (now state) d) ⌝ }
+    requires { ⌜ (length (now state) ≡ words) × (n ≤ 32) × ((d : ℕ) → d < n → Rests (now state) d) ⌝ }
     ensures { λ r. ⌜ Follows (upTo (λ i. tick (eqb (getD (now (role .entry)) (i / 32) 0) 1) (i / 32) (i % 32)) (32 * n)) (seen (now (state .entry)) (now (told .entry)) 0) (seen (now (state .exit)) (now (told .exit)) r) × (r ≤ 32 * n) ⌝ }
 {
     let mut count: usize = 0;
@@ -117,34 +124,37 @@ fn tick_all(n: usize, role: &[u8; 32], state: &mut [u32], told: &mut [u32]) -> u
 
 // The first identifier that waits at port q, at or after next.
 fn choice(q: usize, old: &[u32]) -> Found
-    requires { ⌜ (length (now old) ≡ 2080) × (q < 256) ⌝ }
+    requires { ⌜ (length (now old) ≡ words) × (q < 256) ⌝ }
     ensures { λ r. ⌜ r ≡ chosen (now (old .entry)) q ⌝ }
 {
     let at = PORTS + PORT * q;
-    bits::first(old[at] | old[at + 1], old[at + 2])
+    bits::first(
+        old[at + INTERRUPTS] | old[at + ACKNOWLEDGES],
+        old[at + NEXT],
+    )
 }
 
 // The byte of interrupt 0, and how far behind an interrupt's byte the acknowledge's is.
-const INTERRUPTS: u32 = codes::INTERRUPTS as u32;
+const FIRST: u32 = codes::INTERRUPTS as u32;
 
-const APART: u32 = codes::ACKNOWLEDGES as u32 - INTERRUPTS;
+const APART: u32 = codes::ACKNOWLEDGES as u32 - FIRST;
 
 // What port q sends, chosen from the old state; in the next one it leaves its set, and next moves.
 fn post_one(q: usize, old: &[u32], next: &mut [u32]) -> u32
-    requires { ⌜ (length (now old) ≡ 2080) × (length (now next) ≡ 2080) × (q < 256) ⌝ }
+    requires { ⌜ (length (now old) ≡ words) × (length (now next) ≡ words) × (q < 256) ⌝ }
     ensures { λ r. ⌜ (r ≡ sends (now (old .entry)) q) × (now (next .exit) ≡ unqueued (now (old .entry)) q (now (next .entry))) ⌝ }
 {
     let at = PORTS + PORT * q;
     let found = choice(q, old);
     let Found::At(k) = found else {
-        return 256;
+        return NOTHING;
     };
-    next[at] = bits::leave(next[at], k);
-    next[at + 1] = bits::leave(next[at + 1], k);
-    next[at + 2] = (k + 1) % 32;
+    next[at + INTERRUPTS] = bits::leave(next[at + INTERRUPTS], k);
+    next[at + ACKNOWLEDGES] = bits::leave(next[at + ACKNOWLEDGES], k);
+    next[at + NEXT] = (k + 1) % 32;
     // The kind is counted: of two kinds as likely a branch would guess wrong half the time.
-    let kind = 1 - bits::get(old[at], k);
-    INTERRUPTS + APART * kind + k
+    let kind = 1 - bits::get(old[at + INTERRUPTS], k);
+    FIRST + APART * kind + k
 }
 
 // The number of a device's ports, widened. That it fits is known of a parameter, and not of an element
@@ -155,16 +165,14 @@ fn wide(ports: u8) -> usize
     ports as usize
 }
 
-// All ports, by device; 256 where nothing is sent. A port that its device lacks has nothing to send,
-// and is passed over.
-fn post_all(n: usize, ports: &[u8; 32], old: &[u32], next: &mut [u32], sent: &mut [u32])
-    requires { ⌜ (n ≤ 32) × ((d : ℕ) → d < n → Unused (now old) d (getD (now ports) d 0)) × (length (now old) ≡ 2080) × (length (now next) ≡ 2080) × (length (now sent) ≡ 256) ⌝ }
-    ensures { λ _. ⌜ (now (next .exit) ≡ upTo (unqueued (now (old .entry))) (8 * n) (now (next .entry))) × (now (sent .exit) ≡ table 256 (λ q. cond (ltb q (8 * n)) (sends (now (old .entry)) q) 256)) ⌝ }
+// All ports, by device. A port that its device lacks has nothing to send, and is passed over.
+fn post_all(core: Core, peers: &[[u16; 8]; 32], old: &[u32], next: &mut [u32], sent: &mut [u32])
+    requires { ⌜ Laid (record { core = core; peers = now peers }) × Idles (record { core = core; peers = now peers }) (now old) × (length (now next) ≡ words) × Silent (core .devices) (core .ports) (now sent) ⌝ }
+    ensures { λ _. ⌜ (now (next .exit) ≡ posted (record { core = core; peers = now (peers .entry) }) (now (old .entry)) (now (next .entry))) × (now (sent .exit) ≡ sentBytes (record { core = core; peers = now (peers .entry) }) (now (old .entry))) ⌝ }
 {
-    areas::fill(sent, 256);
-    for d in 0..n {
+    for d in 0..core.devices {
         let first = 8 * d;
-        let end = first + wide(ports[d]);
+        let end = first + wide(core.ports[d]);
         for q in first..end {
             sent[q] = post_one(q, old, next);
         }
@@ -174,12 +182,14 @@ fn post_all(n: usize, ports: &[u8; 32], old: &[u32], next: &mut [u32], sent: &mu
 // ---- 3. arrivals
 
 // An accepted code loads its timer or stops it.
-fn time(code: Code, load: u32, d: usize, state: &mut [u32])
-    requires { ⌜ (length (now state) ≡ 2080) × (d < 32) ⌝ }
-    ensures { λ _. ⌜ now (state .exit) ≡ timed (λ _. load) d code (now (state .entry)) ⌝ }
+fn time(code: Code, loads: [u16; 2], role: u8, d: usize, state: &mut [u32])
+    requires { ⌜ (length (now state) ≡ words) × (d < 32) ⌝ }
+    ensures { λ _. ⌜ now (state .exit) ≡ timed (loadFor loads role) d code (now (state .entry)) ⌝ }
 {
     match code {
-        Code::Interrupt(k) => state[DEVICE * d + 1 + k as usize] = load,
+        Code::Interrupt(k) => {
+            state[DEVICE * d + 1 + k as usize] = state::load_for(loads, role, k as u32)
+        }
         Code::Acknowledge(k) => state[DEVICE * d + 1 + k as usize] = 0,
         Code::Time(_) => {}
         Code::Reserved => {}
@@ -188,12 +198,12 @@ fn time(code: Code, load: u32, d: usize, state: &mut [u32])
 
 // A forwarded code waits at every other port of the device.
 fn forward(code: Code, permissions: &[u8; 256], q: usize, state: &mut [u32])
-    requires { ⌜ (length (now state) ≡ 2080) × (q < 256) ⌝ }
+    requires { ⌜ (length (now state) ≡ words) × (q < 256) ⌝ }
     ensures { λ _. ⌜ now (state .exit) ≡ forwarded (now (permissions .entry)) q code (now (state .entry)) ⌝ }
 {
     match code {
-        Code::Interrupt(k) => port::queue_all(state, permissions, q / 8, q, 0, k as u32),
-        Code::Acknowledge(k) => port::queue_all(state, permissions, q / 8, q, 1, k as u32),
+        Code::Interrupt(k) => state::queue_all(state, permissions, q / 8, q, 0, k as u32),
+        Code::Acknowledge(k) => state::queue_all(state, permissions, q / 8, q, 1, k as u32),
         Code::Time(_) => {}
         Code::Reserved => {}
     }
@@ -215,24 +225,25 @@ fn inform(code: Code, d: usize, told: &mut [u32], count: usize) -> usize
 // What the reaction of a device asks for.
 fn act(
     action: Action,
-    load: u32,
+    loads: [u16; 2],
+    role: u8,
     permissions: &[u8; 256],
     q: usize,
     state: &mut [u32],
     told: &mut [u32],
     count: usize,
 ) -> usize
-    requires { ⌜ (length (now state) ≡ 2080) × (q < 256) × (count < 4096) ⌝ }
-    ensures { λ r. ⌜ Follows (acted (λ _. load) (now (permissions .entry)) q action) (seen (now (state .entry)) (now (told .entry)) count) (seen (now (state .exit)) (now (told .exit)) r) × (r ≤ count + 1) ⌝ }
+    requires { ⌜ (length (now state) ≡ words) × (q < 256) × (count < 4096) ⌝ }
+    ensures { λ r. ⌜ Follows (acted (loadFor loads role) (now (permissions .entry)) q action) (seen (now (state .entry)) (now (told .entry)) count) (seen (now (state .exit)) (now (told .exit)) r) × (r ≤ count + 1) ⌝ }
 {
     match action {
         Action::Forwarded(code) => {
-            time(code, load, q / 8, state);
+            time(code, loads, role, q / 8, state);
             forward(code, permissions, q, state);
             count
         }
         Action::Told(code) => {
-            time(code, load, q / 8, state);
+            time(code, loads, role, q / 8, state);
             inform(code, q / 8, told, count)
         }
         Action::Named(_) => count,
@@ -251,8 +262,8 @@ fn widened(permissions: u8) -> u32
 
 // A byte arrives at port q, and its device reacts.
 fn arrive_one(
-    router: bool,
-    load: u32,
+    loads: [u16; 2],
+    role: u8,
     permissions: &[u8; 256],
     q: usize,
     byte: u8,
@@ -260,72 +271,58 @@ fn arrive_one(
     told: &mut [u32],
     count: usize,
 ) -> usize
-    requires { ⌜ (length (now state) ≡ 2080) × (q < 256) × (count < 4096) ⌝ }
-    ensures { λ r. ⌜ Follows (arrived (λ _. load) (now (permissions .entry)) q router byte) (seen (now (state .entry)) (now (told .entry)) count) (seen (now (state .exit)) (now (told .exit)) r) × (r ≤ count + 1) ⌝ }
+    requires { ⌜ (length (now state) ≡ words) × (q < 256) × (count < 4096) ⌝ }
+    ensures { λ r. ⌜ Follows (arrived (loadFor loads role) (now (permissions .entry)) q (eqb role 1) byte) (seen (now (state .entry)) (now (told .entry)) count) (seen (now (state .exit)) (now (told .exit)) r) × (r ≤ count + 1) ⌝ }
 {
     let home = DEVICE * (q / 8);
     let running = state[PORTS + PORT * q + RUNNING] == 1;
     let side = Side {
-        router: router,
+        router: role == 1,
         running: running,
         permissions: widened(permissions[q]),
     };
     let reaction = device::react(side, state[home], byte);
     state[home] = reaction.register;
     let action = reaction.action;
-    act(action, load, permissions, q, state, told, count)
+    act(action, loads, role, permissions, q, state, told, count)
 }
 
-// The byte that a port sent; 256 for none, and for no port.
+// The byte that a port sent, or nothing; no port sends nothing.
 fn heard(peer: u16, sent: &[u32]) -> u32
-    ensures { λ r. ⌜ r ≡ getD (now (sent .entry)) peer 256 ⌝ }
+    ensures { λ r. ⌜ r ≡ getD (now (sent .entry)) peer nothing ⌝ }
 {
     let at = peer as usize;
     if at < sent.len() {
         return sent[at];
     }
-    256
-}
-
-// What the timers of a device with the role are loaded with.
-fn load_of(loads: [u16; 2], role: u8) -> u32
-    ensures { λ r. ⌜ r ≡ getD loads role 0 ⌝ }
-{
-    if role < 2 {
-        return loads[role as usize] as u32;
-    }
-    0
+    NOTHING
 }
 
 // What the far ends sent arrives, by receiving device, then port. A port that its device lacks leads
 // nowhere, and is passed over.
 fn arrive_all(
-    n: usize,
-    loads: [u16; 2],
-    roles: &[u8; 32],
-    ports: &[u8; 32],
-    permissions: &[u8; 256],
+    core: Core,
     peers: &[[u16; 8]; 32],
     sent: &[u32],
     state: &mut [u32],
     told: &mut [u32],
     count: usize,
 ) -> usize
-    requires { ⌜ Laid n (now ports) (now peers) × (length (now sent) ≡ 256) × (length (now state) ≡ 2080) × (count ≤ 1024) ⌝ }
-    ensures { λ r. ⌜ Follows (reached (bare n loads (now (roles .entry)) (now (ports .entry)) (now (permissions .entry)) (now (peers .entry))) (now (sent .entry))) (seen (now (state .entry)) (now (told .entry)) count) (seen (now (state .exit)) (now (told .exit)) r) ⌝ }
+    requires { ⌜ Laid (record { core = core; peers = now peers }) × (length (now sent) ≡ sentWords) × (length (now state) ≡ words) × (count ≤ 1024) ⌝ }
+    ensures { λ r. ⌜ Follows (reached (record { core = core; peers = now (peers .entry) }) (now (sent .entry))) (seen (now (state .entry)) (now (told .entry)) count) (seen (now (state .exit)) (now (told .exit)) r) ⌝ }
 {
     let mut count = count;
-    for d in 0..n {
-        let role = roles[d];
+    for d in 0..core.devices {
+        let role = core.role[d];
         let first = 8 * d;
-        let past = first + wide(ports[d]);
+        let past = first + wide(core.ports[d]);
         for q in first..past {
             let byte = heard(peers[d][q % 8], sent);
-            if byte < 256 {
+            if byte < NOTHING {
                 count = arrive_one(
-                    role == 1,
-                    load_of(loads, role),
-                    permissions,
+                    core.loads,
+                    role,
+                    &core.permissions,
                     q,
                     byte as u8,
                     state,
@@ -340,59 +337,44 @@ fn arrive_all(
 
 // ---- the round
 
-// The words of a state by value, and put into an area. A state is copied by way of its value: of two
-// lent areas the compiler does not know that they lie apart, and so cannot copy them in one go.
-fn words_of(state: &[u32]) -> [u32; 2080]
-    requires { ⌜ length (now state) ≡ 2080 ⌝ }
-    ensures { λ r. ⌜ r ≡ now (state .entry) ⌝ }
+// The words of a state from one place to another.
+fn copy(from: usize, to: usize, old: &[u32], next: &mut [u32])
+    requires { ⌜ (from ≤ to) × (to ≤ length (now old)) × (to ≤ length (now next)) ⌝ }
+    ensures { λ _. ⌜ Copies from to (now (old .entry)) (now (next .entry)) (now (next .exit)) ⌝ }
 {
-    let mut words = [0u32; 2080];
-    for i in 0..2080 {
-        words[i] = state[i];
-    }
-    words
-}
-
-fn put_words(words: [u32; 2080], state: &mut [u32])
-    requires { ⌜ length (now state) ≡ 2080 ⌝ }
-    ensures { λ _. ⌜ now (state .exit) ≡ words ⌝ }
-{
-    for i in 0..2080 {
-        state[i] = words[i];
+    let mut i = from;
+    while i < to {
+        next[i] = old[i];
+        i += 1;
     }
 }
 
-// The round, with no checks, from the parts of a plan that it reads.
+// The words of n devices and of their ports. Both areas are 0 elsewhere, so the states are then equal.
+fn bring(n: usize, old: &[u32], next: &mut [u32])
+    requires { ⌜ (n ≤ 32) × Blank n (now old) × Blank n (now next) ⌝ }
+    ensures { λ _. ⌜ now (next .exit) ≡ now (old .entry) ⌝ }
+{
+    copy(0, DEVICE * n, old, next);
+    copy(PORTS, PORTS + PORT * (8 * n), old, next);
+}
+
+// The round, with no checks. It copies and looks at the devices that exist, and no more: next is 0
+// elsewhere already, and sent has nothing there.
 pub(crate) fn play(
-    n: usize,
-    loads: [u16; 2],
-    roles: &[u8; 32],
-    ports: &[u8; 32],
-    permissions: &[u8; 256],
+    core: Core,
     peers: &[[u16; 8]; 32],
     old: &[u32],
     next: &mut [u32],
     sent: &mut [u32],
     told: &mut [u32],
 ) -> usize
-    requires { ⌜ Laid n (now ports) (now peers) × Idles n (now ports) (now old) × (length (now next) ≡ 2080) × (length (now sent) ≡ 256) ⌝ }
-    ensures { λ r. ⌜ Played (bare n loads (now (roles .entry)) (now (ports .entry)) (now (permissions .entry)) (now (peers .entry))) (now (old .entry)) (now (told .entry)) (now (next .exit)) (now (sent .exit)) (now (told .exit)) r ⌝ }
+    requires { ⌜ Laid (record { core = core; peers = now peers }) × Idles (record { core = core; peers = now peers }) (now old) × Blank (core .devices) (now next) × Silent (core .devices) (core .ports) (now sent) ⌝ }
+    ensures { λ r. ⌜ Played (record { core = core; peers = now (peers .entry) }) (now (old .entry)) (now (told .entry)) (now (next .exit)) (now (sent .exit)) (now (told .exit)) r ⌝ }
 {
-    put_words(words_of(old), next);
-    let count = tick_all(n, roles, next, told);
-    post_all(n, ports, old, next, sent);
-    arrive_all(
-        n,
-        loads,
-        roles,
-        ports,
-        permissions,
-        peers,
-        sent,
-        next,
-        told,
-        count,
-    )
+    bring(core.devices, old, next);
+    let count = tick_all(core.devices, &core.role, next, told);
+    post_all(core, peers, old, next, sent);
+    arrive_all(core, peers, sent, next, told, count)
 }
 
 // ---- the public door
@@ -418,40 +400,25 @@ pub fn round(
 ) -> Answer
     ensures { λ r. ⌜ Plays plan (now (old .entry)) (areas (now (next .entry)) (now (sent .entry)) (now (told .entry))) (r .number) (r .value) (areas (now (next .exit)) (now (sent .exit)) (now (told .exit))) ⌝ }
 {
-    if !plan::is_held(plan) {
-        return refused(1);
+    let number = state::refusal(plan, old);
+    if number != 0 {
+        return refused(number);
     }
-    if !state::is_sound(plan, old) {
-        return refused(2);
-    }
-    if next.len() != 2080 {
+    if next.len() != WORDS {
         return refused(3);
     }
-    if sent.len() != 256 {
+    if sent.len() != SENT {
         return refused(3);
     }
-    if told.len() != 1056 {
+    if told.len() != TOLD {
         return refused(3);
     }
+    areas::fill(next, 0);
+    areas::fill(sent, NOTHING);
     areas::fill(told, 0);
     let core = plan.core;
     let peers = plan::peers_of(plan);
-    let loads = core.loads;
-    let roles = core.role;
-    let ports = core.ports;
-    let permissions = core.permissions;
-    let count = play(
-        core.devices,
-        loads,
-        &roles,
-        &ports,
-        &permissions,
-        &peers,
-        old,
-        next,
-        sent,
-        told,
-    );
+    let count = play(core, &peers, old, next, sent, told);
     Answer {
         number: 0,
         value: count as u32,

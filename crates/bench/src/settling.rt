@@ -7,29 +7,36 @@ ghost use lib.ListN.{length};
 ghost use Rattle.answers.specs.Decides.{Decides};
 ghost use Rattle.areas.specs.Table.{table};
 ghost use Rattle.plan.specs.Reading.{Held};
-ghost use Rattle.bench.specs.Sound.{Sound};
+ghost use Rattle.state.specs.State.{words};
+ghost use Rattle.state.specs.Sound.{Sound};
 ghost use Rattle.bench.specs.Round.{round};
-ghost use Rattle.bench.specs.Idle.{Laid, Idles, bare};
-ghost use Rattle.bench.specs.Settling.{Quiet, Settles};
-ghost use Rattle.bench.specs.Telling.{pair};
+ghost use Rattle.bench.specs.Idle.{Blank, Laid, Idles, Silent};
+ghost use Rattle.bench.specs.Settling.{Quiet, mostRounds, Settles, Ends};
+ghost use Rattle.bench.specs.Shown.{pair};
 use crate::Answer;
-use crate::PORT;
-use crate::PORTS;
+use crate::NOTHING;
+use crate::ROUNDS;
+use crate::SENT;
 use crate::rounds;
-use crate::state;
 use plan::Core;
 use plan::Plan;
+use state::ACKNOWLEDGES;
+use state::INTERRUPTS;
+use state::PORT;
+use state::PORTS;
+use state::WORDS;
 
-// Does no port wait?
-fn quiet(state: &[u32]) -> bool
-    requires { ⌜ length (now state) ≡ 2080 ⌝ }
+// Does no port wait, where there are n devices?
+fn quiet(n: usize, state: &[u32]) -> bool
+    requires { ⌜ (n ≤ 32) × Blank n (now state) ⌝ }
     ensures { λ r. ⌜ Decides (Quiet (now (state .entry))) r ⌝ }
 {
-    for q in 0..256 {
-        if state[PORTS + PORT * q] != 0 {
+    for q in 0..8 * n {
+        let at = PORTS + PORT * q;
+        if state[at + INTERRUPTS] != 0 {
             return false;
         }
-        if state[PORTS + PORT * q + 1] != 0 {
+        if state[at + ACKNOWLEDGES] != 0 {
             return false;
         }
     }
@@ -37,23 +44,19 @@ fn quiet(state: &[u32]) -> bool
 }
 
 // Does no port wait in the area in use: state where it is home, else second?
-fn quiet_in(home: bool, state: &[u32], second: &[u32]) -> bool
-    requires { ⌜ (length (now state) ≡ 2080) × (length (now second) ≡ 2080) ⌝ }
+fn quiet_in(n: usize, home: bool, state: &[u32], second: &[u32]) -> bool
+    requires { ⌜ (n ≤ 32) × Blank n (now state) × Blank n (now second) ⌝ }
     ensures { λ r. ⌜ Decides (Quiet (cond home (now (state .entry)) (now (second .entry)))) r ⌝ }
 {
     if home {
-        return quiet(state);
+        return quiet(n, state);
     }
-    quiet(second)
+    quiet(n, second)
 }
 
 // A round from the area in use to the other.
 fn advance(
-    n: usize,
-    loads: [u16; 2],
-    roles: &[u8; 32],
-    ports: &[u8; 32],
-    permissions: &[u8; 256],
+    core: Core,
     peers: &[[u16; 8]; 32],
     home: bool,
     state: &mut [u32],
@@ -61,42 +64,20 @@ fn advance(
     sent: &mut [u32],
     told: &mut [u32],
 )
-    requires { ⌜ Laid n (now ports) (now peers) × Idles n (now ports) (cond home (now state) (now second)) × (length (now state) ≡ 2080) × (length (now second) ≡ 2080) × (length (now sent) ≡ 256) ⌝ }
-    ensures { λ _. ⌜ cond home (now (second .exit)) (now (state .exit)) ≡ round (bare n loads (now (roles .entry)) (now (ports .entry)) (now (permissions .entry)) (now (peers .entry))) (cond home (now (state .entry)) (now (second .entry))) .next ⌝ }
+    requires { ⌜ Laid (record { core = core; peers = now peers }) × Idles (record { core = core; peers = now peers }) (cond home (now state) (now second)) × Blank (core .devices) (cond home (now second) (now state)) × Silent (core .devices) (core .ports) (now sent) ⌝ }
+    ensures { λ _. ⌜ (cond home (now (second .exit)) (now (state .exit)) ≡ round (record { core = core; peers = now (peers .entry) }) (cond home (now (state .entry)) (now (second .entry))) .next) × (cond home (now (state .exit)) (now (second .exit)) ≡ cond home (now (state .entry)) (now (second .entry))) × Silent (core .devices) (core .ports) (now (sent .exit)) ⌝ }
 {
     if home {
-        rounds::play(
-            n,
-            loads,
-            roles,
-            ports,
-            permissions,
-            peers,
-            state,
-            second,
-            sent,
-            told,
-        );
+        rounds::play(core, peers, state, second, sent, told);
         return;
     }
-    rounds::play(
-        n,
-        loads,
-        roles,
-        ports,
-        permissions,
-        peers,
-        second,
-        state,
-        sent,
-        told,
-    );
+    rounds::play(core, peers, second, state, sent, told);
 }
 
 // The answer is given, where the area in use ends in state, and second as zeros.
 fn finish(home: bool, state: &mut [u32], second: &mut [u32], number: u32, value: u32) -> Answer
-    requires { ⌜ (length (now state) ≡ 2080) × (length (now second) ≡ 2080) ⌝ }
-    ensures { λ r. ⌜ (r ≡ record { number = number; value = value }) × (pair (now (state .exit)) (now (second .exit)) ≡ pair (cond home (now (state .entry)) (now (second .entry))) (table 2080 (λ i. 0))) ⌝ }
+    requires { ⌜ (length (now state) ≡ words) × (length (now second) ≡ words) ⌝ }
+    ensures { λ r. ⌜ (r ≡ record { number = number; value = value }) × (pair (now (state .exit)) (now (second .exit)) ≡ pair (cond home (now (state .entry)) (now (second .entry))) (table words (λ i. 0))) ⌝ }
 {
     if !home {
         areas::copy(second, state);
@@ -108,7 +89,7 @@ fn finish(home: bool, state: &mut [u32], second: &mut [u32], number: u32, value:
     }
 }
 
-// The settling, with no checks.
+// The settling, with no checks; second is all zeros.
 pub(crate) fn run(
     core: Core,
     peers: [[u16; 8]; 32],
@@ -116,34 +97,18 @@ pub(crate) fn run(
     second: &mut [u32],
     allowance: u32,
 ) -> Answer
-    requires { ⌜ Held (record { core = core; peers = peers }) × Sound (record { core = core; peers = peers }) (now state) × (length (now second) ≡ 2080) × (allowance ≤ 4096) ⌝ }
-    ensures { λ r. ⌜ Settles (record { core = core; peers = peers }) (pair (now (state .entry)) (now (second .entry))) allowance (r .number) (r .value) (pair (now (state .exit)) (now (second .exit))) ⌝ }
+    requires { ⌜ Held (record { core = core; peers = peers }) × Sound (record { core = core; peers = peers }) (now state) × (now second ≡ table words (λ _. 0)) × (allowance ≤ mostRounds) ⌝ }
+    ensures { λ r. ⌜ Ends (record { core = core; peers = peers }) (now (state .entry)) allowance (r .number) (r .value) (pair (now (state .exit)) (now (second .exit))) ⌝ }
 {
-    let loads = core.loads;
-    let roles = core.role;
-    let ports = core.ports;
-    let permissions = core.permissions;
-    let mut sent = [0u32; 256];
+    let mut sent = [NOTHING; SENT];
     let mut told = [0u32; 1];
     let mut home = true;
     let mut n: u32 = 0;
-    while !quiet_in(home, state, second) {
+    while !quiet_in(core.devices, home, state, second) {
         if n == allowance {
             return finish(home, state, second, 12, n);
         }
-        advance(
-            core.devices,
-            loads,
-            &roles,
-            &ports,
-            &permissions,
-            &peers,
-            home,
-            state,
-            second,
-            &mut sent,
-            &mut told[..0],
-        );
+        advance(core, &peers, home, state, second, &mut sent, &mut told[..0]);
         home = !home;
         n += 1;
     }
@@ -157,18 +122,17 @@ pub(crate) fn run(
 pub fn settle(plan: Plan, state: &mut [u32], second: &mut [u32], allowance: u32) -> Answer
     ensures { λ r. ⌜ Settles plan (pair (now (state .entry)) (now (second .entry))) allowance (r .number) (r .value) (pair (now (state .exit)) (now (second .exit))) ⌝ }
 {
-    if !plan::is_held(plan) {
-        return rounds::refused(1);
+    let number = state::refusal(plan, state);
+    if number != 0 {
+        return rounds::refused(number);
     }
-    if !state::is_sound(plan, state) {
-        return rounds::refused(2);
-    }
-    if second.len() != 2080 {
+    if second.len() != WORDS {
         return rounds::refused(3);
     }
-    if allowance > 4096 {
+    if allowance > ROUNDS {
         return rounds::refused(11);
     }
+    areas::fill(second, 0);
     let core = plan.core;
     run(core, plan::peers_of(plan), state, second, allowance)
 }

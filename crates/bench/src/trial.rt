@@ -5,15 +5,17 @@ ghost use Prim.Native.Nat.{_≤_, _<_};
 ghost use lib.ListN.{length, getD};
 ghost use Rattle.answers.specs.Decides.{Decides};
 ghost use Rattle.answers.specs.Ordered.{Ordered};
+ghost use Rattle.areas.specs.Table.{table};
 ghost use Rattle.plan.specs.Reading.{Held};
-ghost use Rattle.bench.specs.Steps.{placeAsks, lent};
-ghost use Rattle.bench.specs.Trials.{holders as Trials·holders, Tries, Finds, Fits as Trials·Fits, TriesAll};
-use crate::DEVICE;
-use crate::calls;
+ghost use Rattle.state.specs.State.{words};
+ghost use Rattle.bench.specs.Trials.{holders as Trials·holders, Tries, foundWords, Finds, Fits as Trials·Fits, TriesAll, placeAsks, lent};
+use crate::FOUND;
+use crate::ROUNDS;
 use crate::settling;
-use crate::state;
 use plan::Core;
 use plan::Plan;
+use state::DEVICE;
+use state::WORDS;
 
 // What is found of one place.
 struct Tried {
@@ -22,12 +24,9 @@ struct Tried {
     held: u32,
 }
 
-// The most rounds that are played.
-const ALLOWANCE: u32 = 4096;
-
 // How many of the first n devices hold identifier k.
 fn holders(n: usize, state: &[u32], k: u32) -> u32
-    requires { ⌜ (n ≤ 32) × (length (now state) ≡ 2080) ⌝ }
+    requires { ⌜ (n ≤ 32) × (length (now state) ≡ words) ⌝ }
     ensures { λ r. ⌜ r ≡ Trials·holders n k (now (state .entry)) ⌝ }
 {
     let mut held: u32 = 0;
@@ -68,16 +67,16 @@ fn attempt(
     d: usize,
     k: u32,
 ) -> Tried
-    requires { ⌜ Held (record { core = core; peers = peers }) × (length (now state) ≡ 2080) × (length (now second) ≡ 2080) × (d < 32) × Ordered (placeAsks (core .devices) d (getD (core .source) d 0) k) 0 ⌝ }
-    ensures { λ r. ⌜ Tries (record { core = core; peers = peers }) d k (r .number) (r .rounds) (r .held) ⌝ }
+    requires { ⌜ Held (record { core = core; peers = peers }) × (length (now state) ≡ words) × (now second ≡ table words (λ _. 0)) × (d < 32) × Ordered (placeAsks (core .devices) d (getD (core .source) d 0) k) 0 ⌝ }
+    ensures { λ r. ⌜ Tries (record { core = core; peers = peers }) d k (r .number) (r .rounds) (r .held) × (now (second .exit) ≡ table words (λ _. 0)) ⌝ }
 {
-    state::write_first(&peers, state);
+    state::begin(&peers, state);
     let number = calls::send_refusal(state, &core.permissions, d, 0, k);
     if number != 0 {
         return refused(number);
     }
     calls::take(core, 0, state, d, k);
-    let answer = settling::run(core, peers, state, second, ALLOWANCE);
+    let answer = settling::run(core, peers, state, second, ROUNDS);
     let held = holders(core.devices, state, k);
     Tried {
         number: answer.number,
@@ -95,8 +94,8 @@ fn try_all(
     second: &mut [u32],
     found: &mut [u32],
 )
-    requires { ⌜ Held (record { core = core; peers = peers }) × (length (now state) ≡ 2080) × (length (now second) ≡ 2080) × (length (now found) ≡ 3072) ⌝ }
-    ensures { λ _. ⌜ Finds (record { core = core; peers = peers }) (now (found .exit)) ⌝ }
+    requires { ⌜ Held (record { core = core; peers = peers }) × (length (now state) ≡ words) × (now second ≡ table words (λ _. 0)) × (length (now found) ≡ foundWords) ⌝ }
+    ensures { λ _. ⌜ Finds (record { core = core; peers = peers }) (now (found .exit)) × (now (second .exit) ≡ table words (λ _. 0)) ⌝ }
 {
     for i in 0..1024 {
         let d = i / 32;
@@ -115,13 +114,13 @@ fn try_all(
 fn fits(state: usize, second: usize, found: usize) -> bool
     ensures { λ r. ⌜ Decides (Trials·Fits state second found) r ⌝ }
 {
-    if state != 2080 {
+    if state != WORDS {
         return false;
     }
-    if second != 2080 {
+    if second != WORDS {
         return false;
     }
-    found == 3072
+    found == FOUND
 }
 
 // ---- the public door
@@ -139,9 +138,9 @@ pub fn trials(plan: Plan, state: &mut [u32], second: &mut [u32], found: &mut [u3
     if !fits(state.len(), second.len(), found.len()) {
         return 3;
     }
+    areas::fill(second, 0);
     let core = plan.core;
     try_all(core, plan::peers_of(plan), state, second, found);
     areas::fill(state, 0);
-    areas::fill(second, 0);
     0
 }

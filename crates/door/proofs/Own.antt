@@ -7,21 +7,21 @@ use native.Mathlib.Omega.{arith}
 use lib.ListN.{length}
 use Rattle.areas.proofs.Tables.{length-table}
 use Rattle.plan.specs.declared.Plan.{Plan}
-use Rattle.bench.specs.State.{State}
+use Rattle.state.specs.State.{State, words}
 use Rattle.bench.specs.Settling.{Pair, Settles}
-use Rattle.bench.specs.Telling.{pair}
+use Rattle.bench.specs.Shown.{pair}
 use Rattle.report.specs.Report.{Areas, Reports}
-use Rattle.report.specs.Steps.{lent}
+use Rattle.report.specs.Pieces.{lent}
 use Rattle.door.specs.Own.{own, SettlesOwn, ReportsOwn}
 
-own-long : length own ≡ 2080
-own-long = length-table 2080 (λ i. 0)
+own-long : length own ≡ words
+own-long = length-table words (λ i. 0)
 
-as-long : (area : List ℕ) → length area ≡ 2080 → length area ≡ length own
+as-long : (area : List ℕ) → length area ≡ words → length area ≡ length own
 as-long area long = long ∙ sym own-long
 
 module _ {plan : Plan} {before after : State} {allowance number value : ℕ} where
-  pub settles-own : (first last : List ℕ) → length first ≡ 2080 → Settles plan (pair before first) allowance number value (pair after last)
+  pub settles-own : (first last : List ℕ) → length first ≡ words → Settles plan (pair before first) allowance number value (pair after last)
       → SettlesOwn plan before allowance number value after
   settles-own first last long s =
       record {
@@ -49,7 +49,7 @@ module _ {plan : Plan} {before after : State} {allowance number value : ℕ} whe
       ]
 
 module _ {file before after : List ℕ} {number value : ℕ} where
-  pub reports-own : (one other then last : List ℕ) → length one ≡ 2080 → length other ≡ 2080
+  pub reports-own : (one other then last : List ℕ) → length one ≡ words → length other ≡ words
       → Reports file (lent one other before) number value (lent then last after) → ReportsOwn file before number value after
   reports-own one other then last p q r =
       record {

@@ -2,22 +2,26 @@
 -- outcome for a plan, and a file has only one plan.
 use mathlib.Core.Path.{_≡_, sym, ap, _∙_}
 use mathlib.Core.List.{List}
-use Prim.Native.Nat.{ℕ, _+_, _*_}
+use Prim.Native.Nat.{ℕ}
 use Rattle.answers.specs.Answer.{Answer}
 use Rattle.codes.specs.Codes.{reads, writes}
 use Rattle.device.specs.Reaction.{reacts}
 use Rattle.device.specs.declared.Reaction.{Reaction}
 use Rattle.plan.specs.Refusals.{verdict}
-use Rattle.bench.specs.State.{State}
-use Rattle.bench.specs.Calls.{started, startAsks, called, callAsks, unlinked, linked, linkAsks, reset, resetAsks}
-use Rattle.bench.specs.Playing.{Areas, Plays}
+use Rattle.state.specs.State.{State}
+use Rattle.state.specs.Start.{Starts}
+use Rattle.state.proofs.Unique.{start-unique}
+use Rattle.calls.specs.Calls.{Takes, Stops, Links, Resets}
+use Rattle.calls.proofs.Unique.{Once, call-unique, link-stop-unique, link-start-unique, reset-unique}
+use Rattle.bench.specs.Round.{Areas}
+use Rattle.bench.specs.RoundCall.{Plays}
 use Rattle.bench.specs.Settling.{Pair}
-use Rattle.bench.specs.Telling.{pair}
-use Rattle.bench.proofs.Unique.{Once, start-unique, request-unique, acknowledge-unique, link-stop-unique, link-start-unique, reset-unique, round-unique, settle-unique}
+use Rattle.bench.specs.Shown.{pair}
+use Rattle.bench.proofs.Unique.{round-unique, settle-unique}
 use Rattle.reach.specs.Reach.{Reaches}
 use Rattle.reach.proofs.Unique.{reach-unique}
 use Rattle.report.specs.Report.{Areas as Texts}
-use Rattle.report.specs.Steps.{lent}
+use Rattle.report.specs.Pieces.{lent}
 use Rattle.report.proofs.Unique.{report-unique}
 use Rattle.door.specs.Numbers.{kindOf, valueOf, codeOf, actionOf, sideOf, planIn}
 use Rattle.door.specs.Own.{own, SettlesOwn, ReportsOwn}
@@ -52,29 +56,28 @@ module _ (file : List ℕ) where
   pub bench-for-header-plan-read-unique : Two (verdict file .number) (verdict file .at)
   bench-for-header-plan-read-unique = two (verdict file .number) (verdict file .at)
 
-  module _ (state : State) where
-    pub bench-for-header-start-unique : Once (startAsks (planIn file) state) state (started (planIn file))
-    bench-for-header-start-unique = start-unique (planIn file) state
+  pub bench-for-header-start-unique : Once (Starts (planIn file))
+  bench-for-header-start-unique = start-unique (planIn file)
 
-    module _ (device : ℕ) where
-      pub bench-for-header-request-unique : (k : ℕ) → Once (callAsks (planIn file) 0 device k state) state (called (planIn file) 0 device k state)
-      bench-for-header-request-unique = request-unique (planIn file) state device
+  module _ (device : ℕ) where
+    pub bench-for-header-request-unique : (k : ℕ) → Once (Takes (planIn file) 0 device k)
+    bench-for-header-request-unique = call-unique (planIn file) device 0
 
-      pub bench-for-header-acknowledge-unique : (k : ℕ) → Once (callAsks (planIn file) 1 device k state) state (called (planIn file) 1 device k state)
-      bench-for-header-acknowledge-unique = acknowledge-unique (planIn file) state device
+    pub bench-for-header-acknowledge-unique : (k : ℕ) → Once (Takes (planIn file) 1 device k)
+    bench-for-header-acknowledge-unique = call-unique (planIn file) device 1
 
-      pub bench-for-header-link-stop-unique : (port : ℕ) → Once (linkAsks (planIn file) 1 device port state) state (unlinked (planIn file) (8 * device + port) state)
-      bench-for-header-link-stop-unique = link-stop-unique (planIn file) state device
+    pub bench-for-header-link-stop-unique : (port : ℕ) → Once (Stops (planIn file) device port)
+    bench-for-header-link-stop-unique = link-stop-unique (planIn file) device
 
-      pub bench-for-header-link-start-unique : (port : ℕ) → Once (linkAsks (planIn file) 0 device port state) state (linked (planIn file) (8 * device + port) state)
-      bench-for-header-link-start-unique = link-start-unique (planIn file) state device
+    pub bench-for-header-link-start-unique : (port : ℕ) → Once (Links (planIn file) device port)
+    bench-for-header-link-start-unique = link-start-unique (planIn file) device
 
-      pub bench-for-header-reset-unique : Once (resetAsks (planIn file) device state) state (reset (planIn file) device state)
-      bench-for-header-reset-unique = reset-unique (planIn file) state device
+    pub bench-for-header-reset-unique : Once (Resets (planIn file) device)
+    bench-for-header-reset-unique = reset-unique (planIn file) device
 
-      pub bench-for-header-reach-unique : (k m n v w x y : ℕ)
-          → Reaches (planIn file) state device k m v x → Reaches (planIn file) state device k n w y → (m ≡ n) × (v ≡ w) × (x ≡ y)
-      bench-for-header-reach-unique = reach-unique (planIn file) state device
+    pub bench-for-header-reach-unique : (state : State) (k m n v w x y : ℕ)
+        → Reaches (planIn file) state device k m v x → Reaches (planIn file) state device k n w y → (m ≡ n) × (v ≡ w) × (x ≡ y)
+    bench-for-header-reach-unique state = reach-unique (planIn file) state device
 
   pub bench-for-header-round-unique : (old : State) (before : Areas) (m n v w : ℕ) (a b : Areas)
       → Plays (planIn file) old before m v a → Plays (planIn file) old before n w b → (m ≡ n) × (v ≡ w) × (a ≡ b)

@@ -3,15 +3,15 @@ use mathlib.Core.List.{List}
 use Prim.Native.Nat.{ℕ}
 use Rattle.areas.specs.Table.{table}
 use Rattle.plan.specs.declared.Plan.{Plan}
-use Rattle.bench.specs.State.{State}
+use Rattle.state.specs.State.{State, words}
 use Rattle.bench.specs.Settling.{Settles}
-use Rattle.bench.specs.Telling.{pair}
+use Rattle.bench.specs.Shown.{pair}
 use Rattle.report.specs.Report.{Reports}
-use Rattle.report.specs.Steps.{lent}
+use Rattle.report.specs.Pieces.{lent}
 
 -- an area for a state
 abbrev pub own : List ℕ
-own = table 2080 (λ i. 0)
+own = table words (λ i. 0)
 
 -- settling, with a second area of its own
 abbrev pub SettlesOwn : Plan → State → ℕ → ℕ → ℕ → State → Type 0

@@ -3,14 +3,13 @@
 // does not; the header tests it. A plan is the bytes of its file. Where the file is not accepted the
 // reader gives the plan of zeros, which no file holds, so that each call refuses it by 1.
 ghost use mathlib.Core.Path.{_≡_};
-ghost use Prim.Native.Nat.{_+_, _*_};
-ghost use Rattle.answers.specs.Ordered.{Outcome};
 ghost use Rattle.codes.specs.Codes.{reads, writes};
 ghost use Rattle.device.specs.Reaction.{reacts};
 ghost use Rattle.plan.specs.Refusals.{verdict};
-ghost use Rattle.bench.specs.Calls.{started, startAsks, called, callAsks, unlinked, linked, linkAsks, reset, resetAsks};
-ghost use Rattle.bench.specs.Playing.{Plays};
-ghost use Rattle.bench.specs.Telling.{areas};
+ghost use Rattle.state.specs.Start.{Starts};
+ghost use Rattle.calls.specs.Calls.{Takes, Stops, Links, Resets};
+ghost use Rattle.bench.specs.RoundCall.{Plays};
+ghost use Rattle.bench.specs.Shown.{areas};
 ghost use Rattle.reach.specs.Reach.{Reaches};
 ghost use Rattle.door.specs.Numbers.{kindOf, valueOf, codeOf, actionOf, sideOf, planIn};
 ghost use Rattle.door.specs.Own.{SettlesOwn, ReportsOwn};
@@ -141,7 +140,7 @@ pub extern "C" fn bench_for_header_plan_read(file: &[u8], block: &mut u32) -> u3
 
 #[no_mangle]
 pub extern "C" fn bench_for_header_start(plan: &[u8], state: &mut [u32]) -> u32
-    ensures { λ r. ⌜ Outcome (startAsks (planIn (now (plan .entry))) (now (state .entry))) (now (state .entry)) (started (planIn (now (plan .entry)))) r (now (state .exit)) ⌝ }
+    ensures { λ r. ⌜ Starts (planIn (now (plan .entry))) (now (state .entry)) r (now (state .exit)) ⌝ }
 {
     bench::start(plan_in(plan), state)
 }
@@ -153,7 +152,7 @@ pub extern "C" fn bench_for_header_request(
     device: usize,
     k: u32,
 ) -> u32
-    ensures { λ r. ⌜ Outcome (callAsks (planIn (now (plan .entry))) 0 device k (now (state .entry))) (now (state .entry)) (called (planIn (now (plan .entry))) 0 device k (now (state .entry))) r (now (state .exit)) ⌝ }
+    ensures { λ r. ⌜ Takes (planIn (now (plan .entry))) 0 device k (now (state .entry)) r (now (state .exit)) ⌝ }
 {
     bench::request(plan_in(plan), state, device, k)
 }
@@ -165,7 +164,7 @@ pub extern "C" fn bench_for_header_acknowledge(
     device: usize,
     k: u32,
 ) -> u32
-    ensures { λ r. ⌜ Outcome (callAsks (planIn (now (plan .entry))) 1 device k (now (state .entry))) (now (state .entry)) (called (planIn (now (plan .entry))) 1 device k (now (state .entry))) r (now (state .exit)) ⌝ }
+    ensures { λ r. ⌜ Takes (planIn (now (plan .entry))) 1 device k (now (state .entry)) r (now (state .exit)) ⌝ }
 {
     bench::acknowledge(plan_in(plan), state, device, k)
 }
@@ -177,7 +176,7 @@ pub extern "C" fn bench_for_header_link_stop(
     device: usize,
     port: usize,
 ) -> u32
-    ensures { λ r. ⌜ Outcome (linkAsks (planIn (now (plan .entry))) 1 device port (now (state .entry))) (now (state .entry)) (unlinked (planIn (now (plan .entry))) (8 * device + port) (now (state .entry))) r (now (state .exit)) ⌝ }
+    ensures { λ r. ⌜ Stops (planIn (now (plan .entry))) device port (now (state .entry)) r (now (state .exit)) ⌝ }
 {
     bench::link_stop(plan_in(plan), state, device, port)
 }
@@ -189,14 +188,14 @@ pub extern "C" fn bench_for_header_link_start(
     device: usize,
     port: usize,
 ) -> u32
-    ensures { λ r. ⌜ Outcome (linkAsks (planIn (now (plan .entry))) 0 device port (now (state .entry))) (now (state .entry)) (linked (planIn (now (plan .entry))) (8 * device + port) (now (state .entry))) r (now (state .exit)) ⌝ }
+    ensures { λ r. ⌜ Links (planIn (now (plan .entry))) device port (now (state .entry)) r (now (state .exit)) ⌝ }
 {
     bench::link_start(plan_in(plan), state, device, port)
 }
 
 #[no_mangle]
 pub extern "C" fn bench_for_header_reset(plan: &[u8], state: &mut [u32], device: usize) -> u32
-    ensures { λ r. ⌜ Outcome (resetAsks (planIn (now (plan .entry))) device (now (state .entry))) (now (state .entry)) (reset (planIn (now (plan .entry))) device (now (state .entry))) r (now (state .exit)) ⌝ }
+    ensures { λ r. ⌜ Resets (planIn (now (plan .entry))) device (now (state .entry)) r (now (state .exit)) ⌝ }
 {
     bench::reset(plan_in(plan), state, device)
 }
@@ -231,7 +230,7 @@ pub extern "C" fn bench_for_header_settle(
 ) -> u32
     ensures { λ r. ⌜ SettlesOwn (planIn (now (plan .entry))) (now (state .entry)) allowance r (now (rounds .exit)) (now (state .exit)) ⌝ }
 {
-    let mut second = [0u32; 2080];
+    let mut second = [0u32; bench::WORDS];
     let answer = bench::settle(plan_in(plan), state, &mut second, allowance);
     *rounds = answer.value;
     answer.number
@@ -261,8 +260,8 @@ pub extern "C" fn bench_for_header_reach(
 pub extern "C" fn bench_for_header_report(file: &[u8], text: &mut [u8], used: &mut u32) -> u32
     ensures { λ r. ⌜ ReportsOwn (now (file .entry)) (now (text .entry)) r (now (used .exit)) (now (text .exit)) ⌝ }
 {
-    let mut state = [0u32; 2080];
-    let mut second = [0u32; 2080];
+    let mut state = [0u32; bench::WORDS];
+    let mut second = [0u32; bench::WORDS];
     let answer = report::report(file, &mut state, &mut second, text);
     *used = answer.value;
     answer.number

@@ -12,7 +12,7 @@ use Rattle.codes.specs.Codes.{reads}
 use Rattle.codes.specs.declared.Code.{Code}
 use Rattle.codes.specs.declared.Code.the-variants.{Time, Interrupt, Acknowledge, Reserved}
 use Rattle.device.specs.Reaction.{marked}
-use Rattle.bench.specs.State.{State, word, put, registerAt, register, timer}
+use Rattle.state.specs.State.{State, word, put, registerAt, register, timer}
 use Rattle.bench.specs.Round.{tick, timed}
 
 -- what a port with these waiting sends, and its next afterwards

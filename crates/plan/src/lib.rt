@@ -32,7 +32,10 @@ pub struct Header {
     pub loads: [u16; 2],
 }
 
-// The whole plan. A peer is 8 x its device + its port; 256 is no peer.
+// The number for no peer.
+pub const NOBODY: u16 = 256;
+
+// The whole plan. A peer is 8 x its device + its port, or nobody.
 pub struct Plan {
     pub core: Core,
     pub peers: [[u16; 8]; 32],

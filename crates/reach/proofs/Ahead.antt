@@ -7,8 +7,8 @@ use borrow.Author.Tests.{eq-eqb, lt-ltb}
 use Rattle.areas.proofs.Facts.{facts}
 use Rattle.plan.specs.Fields.{nobody}
 use Rattle.plan.specs.declared.Plan.{Plan}
-use Rattle.bench.specs.State.{State, running}
-use Rattle.bench.specs.Network.{peer}
+use Rattle.state.specs.State.{State, running}
+use Rattle.state.specs.Network.{peer}
 use Rattle.reach.specs.Walk.{Leads}
 use Rattle.reach.specs.Visits.{leads, ahead, aheadIn}
 

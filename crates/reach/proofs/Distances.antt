@@ -10,13 +10,13 @@ use Rattle.device.specs.Permissions.{maySend, mayReceive}
 use Rattle.plan.specs.Fields.{nobody}
 use Rattle.plan.specs.Reading.{Held}
 use Rattle.plan.specs.declared.Plan.{Plan}
-use Rattle.bench.specs.State.{State, running}
-use Rattle.bench.specs.Network.{devices, router, exists, peer, permissions}
-use Rattle.bench.proofs.Plans.{few, owned, absent-loose, far-end}
+use Rattle.state.specs.State.{State, running}
+use Rattle.state.specs.Network.{devices, router, exists, peer, permissions}
+use Rattle.state.proofs.Plans.{few, owned, absent-loose, far-end}
 use Rattle.reach.specs.Walk.{Leads, Walk, stay, cross}
 use Rattle.reach.specs.Reach.{Reached}
-use Rattle.reach.proofs.Found.{none-away}
 use Rattle.reach.specs.Away.{Away, Farthest}
+use Rattle.reach.proofs.Found.{none-away}
 use Rattle.reach.proofs.Deciding.{either?, some-below, first-up-to, count, count-le, count-gains}
 
 -- ---- one crossing

@@ -7,8 +7,8 @@ use native.Mathlib.Omega.{arith}
 use Rattle.bits.specs.Set.{bit, join}
 use Rattle.bits.proofs.Sets.{bit-zero, join-same, join-lt}
 use Rattle.plan.specs.declared.Plan.{Plan}
-use Rattle.bench.specs.State.{State}
-use Rattle.bench.specs.Network.{router}
+use Rattle.state.specs.State.{State}
+use Rattle.state.specs.Network.{router}
 use Rattle.reach.specs.Walk.{Walk, stay, cross}
 use Rattle.reach.specs.Reach.{Reached}
 use Rattle.reach.specs.Visits.{aheadIn, visited}

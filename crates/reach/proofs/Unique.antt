@@ -7,7 +7,7 @@ use Rattle.answers.proofs.Unique.{ordered-once}
 use Rattle.bits.specs.Set.{bit, size}
 use Rattle.bits.proofs.Sets.{bit-two, same-members}
 use Rattle.plan.specs.declared.Plan.{Plan}
-use Rattle.bench.specs.State.{State}
+use Rattle.state.specs.State.{State}
 use Rattle.reach.specs.Reach.{Reached, reachAsks, Reaches}
 
 module _ (plan : Plan) (s : State) (d k : ℕ) where

@@ -1,7 +1,7 @@
 -- RULES, "How an interrupt spreads": D, the most crossings that a code needs to any device it can reach.
 use Prim.Native.Nat.{ℕ, _≤_, _<_}
 use Rattle.plan.specs.declared.Plan.{Plan}
-use Rattle.bench.specs.State.{State}
+use Rattle.state.specs.State.{State}
 use Rattle.reach.specs.Walk.{Walk}
 
 module _ (plan : Plan) (s : State) (kind k from : ℕ) where

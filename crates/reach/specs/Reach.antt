@@ -1,14 +1,13 @@
 -- RULES, "Reach": what the call answers.
 use mathlib.Core.Path.{_≡_}
-use mathlib.Core.List.{List, [], _∷_}
+use mathlib.Core.List.{List, [], _∷_, _++_}
 use Prim.Native.Nat.{ℕ, _^_, _<_}
 use Rattle.answers.specs.Ordered.{Condition, ask, Ordered}
 use Rattle.bits.specs.Set.{bit, size}
-use Rattle.plan.specs.Reading.{Held}
 use Rattle.plan.specs.declared.Plan.{Plan}
-use Rattle.bench.specs.State.{State}
-use Rattle.bench.specs.Network.{devices, source}
-use Rattle.bench.specs.Sound.{Sound}
+use Rattle.state.specs.State.{State}
+use Rattle.state.specs.Network.{devices, source}
+use Rattle.state.specs.Sound.{stateAsks}
 use Rattle.reach.specs.Walk.{Walk}
 
 -- the devices that interrupts of identifier k reach from device d, as a set
@@ -19,7 +18,7 @@ pub record Reached (plan : Plan) (s : State) (d k set : ℕ) : Type 0 where
 
 abbrev pub reachAsks : Plan → State → ℕ → ℕ → List Condition
 reachAsks plan s d k =
-    ask 1 (Held plan) ∷ ask 2 (Sound plan s) ∷ ask 4 (d < devices plan) ∷ ask 5 (k < 32) ∷ ask 6 (bit (source plan d) k ≡ 1) ∷ []
+    stateAsks plan s ++ (ask 4 (d < devices plan) ∷ ask 5 (k < 32) ∷ ask 6 (bit (source plan d) k ≡ 1) ∷ [])
 
 -- done, the value is how many devices there are in the set of those reached; refused, both are 0
 pub record Reaches (plan : Plan) (s : State) (d k number value set : ℕ) : Type 0 where

@@ -1,30 +1,28 @@
 -- RULES, "Reach": the walk by visits. It goes from a device to its ports, and from a port to the device that it leads to, and never
 -- enters a device again.
 use mathlib.Core.Bool.{Bool, cond, _&&_}
-use mathlib.Core.List.{List, []}
-use Prim.Native.Nat.{ℕ, zero, suc, _+_, _*_, _/_, _%_}
+use mathlib.Core.List.{List}
+use Prim.Native.Nat.{ℕ, zero, suc, _+_, _*_, _/_}
 use lib.Dec.{eqb, ltb}
 use lib.ListN.{getD}
 use Rattle.bits.specs.Set.{bit, join}
 use Rattle.device.specs.Permissions.{maySend, mayReceive}
 use Rattle.plan.specs.Fields.{nobody}
 use Rattle.plan.specs.declared.Plan.{Plan}
-use Rattle.bench.specs.State.{State, running}
+use Rattle.state.specs.State.{State, running}
+use Rattle.state.specs.Network.{peerIn}
 
 -- ---- by what stands in the arrays of a plan
-
-abbrev pub farEnd : List (List ℕ) → ℕ → ℕ
-farEnd peers q = getD (getD peers (q / 8) []) (q % 8) 0
 
 -- for interrupts of identifier k, as in `Walk`
 module _ (permissions : List ℕ) (peers : List (List ℕ)) (s : State) (k : ℕ) where
   -- port q leads somewhere
   abbrev pub leads : ℕ → Bool
-  leads q = eqb (running s q) 1 && maySend 0 (getD permissions q 0) && ltb (farEnd peers q) nobody && mayReceive 0 (getD permissions (farEnd peers q) 0)
+  leads q = eqb (running s q) 1 && maySend 0 (getD permissions q 0) && ltb (peerIn peers q) nobody && mayReceive 0 (getD permissions (peerIn peers q) 0)
 
   -- the device that port q leads to, or 32
   unfoldable pub ahead : ℕ → ℕ
-  ahead q = cond (leads q) (farEnd peers q / 8) 32
+  ahead q = cond (leads q) (peerIn peers q / 8) 32
 
 -- ---- by what is ahead of each port
 

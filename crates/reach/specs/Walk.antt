@@ -6,8 +6,8 @@ use Prim.Native.Nat.{ℕ, suc, _+_, _*_, _/_, _<_}
 use Rattle.device.specs.Permissions.{maySend, mayReceive}
 use Rattle.plan.specs.Fields.{nobody}
 use Rattle.plan.specs.declared.Plan.{Plan}
-use Rattle.bench.specs.State.{State, running}
-use Rattle.bench.specs.Network.{router, peer, permissions}
+use Rattle.state.specs.State.{State, running}
+use Rattle.state.specs.Network.{router, peer, permissions}
 
 -- for codes of a kind and of identifier k: no rule tells identifiers apart, but where a code goes is asked of one code, which has both
 module _ (plan : Plan) (s : State) (kind k : ℕ) where

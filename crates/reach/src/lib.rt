@@ -12,11 +12,9 @@ use plan::Plan;
 pub fn reach(plan: Plan, state: &[u32], device: usize, k: u32) -> Reach
     ensures { λ r. ⌜ Reaches plan (now (state .entry)) device k (r .number) (r .value) (r .set) ⌝ }
 {
-    if !plan::is_held(plan) {
-        return answer::refused(1);
-    }
-    if !bench::is_sound(plan, state) {
-        return answer::refused(2);
+    let number = state::refusal(plan, state);
+    if number != 0 {
+        return answer::refused(number);
     }
     let core = plan.core;
     if core.devices <= device {

@@ -5,9 +5,13 @@ ghost use Prim.Native.Nat.{_+_, _-_, _≤_, _<_};
 ghost use lib.Dec.{eqb};
 ghost use lib.ListN.{length, getD};
 ghost use Rattle.device.specs.Permissions.{maySend, mayReceive};
-ghost use Rattle.bench.specs.State.{portAt};
+ghost use Rattle.state.specs.State.{words, portAt, runningAt};
+ghost use Rattle.state.specs.Network.{peerIn};
 ghost use Rattle.reach.specs.Depth.{left, Finds};
-ghost use Rattle.reach.specs.Visits.{farEnd, ahead as Visits·ahead, deviceVisit, portVisit};
+ghost use Rattle.reach.specs.Visits.{ahead as Visits·ahead, deviceVisit, portVisit};
+
+// As wide as a port's number here is.
+const NOBODY: usize = plan::NOBODY as usize;
 
 // An element of a lent array is known to fit its type only once it is an argument, so these three
 // take one: a peer's number, and what a port with some permissions may do.
@@ -31,10 +35,10 @@ fn may_receive(permissions: u8) -> bool
 
 // What stands of port q in each area.
 fn runs(state: &[u32], q: usize) -> bool
-    requires { ⌜ (length (now state) ≡ 2080) × (q < 256) ⌝ }
-    ensures { λ r. ⌜ r ≡ eqb (getD (now (state .entry)) (portAt q 3) 0) 1 ⌝ }
+    requires { ⌜ (length (now state) ≡ words) × (q < 256) ⌝ }
+    ensures { λ r. ⌜ r ≡ eqb (getD (now (state .entry)) (portAt q runningAt) 0) 1 ⌝ }
 {
-    state[bench::PORTS + bench::PORT * q + bench::RUNNING] == 1
+    state[state::PORTS + state::PORT * q + state::RUNNING] == 1
 }
 
 fn sends(permissions: &[u8; 256], q: usize) -> bool
@@ -53,14 +57,14 @@ fn receives(permissions: &[u8; 256], q: usize) -> bool
 
 fn far_end(peers: &[[u16; 8]; 32], q: usize) -> usize
     requires { ⌜ q < 256 ⌝ }
-    ensures { λ r. ⌜ r ≡ farEnd (now (peers .entry)) q ⌝ }
+    ensures { λ r. ⌜ r ≡ peerIn (now (peers .entry)) q ⌝ }
 {
     wide(peers[q / 8][q % 8])
 }
 
 // The device that port q leads to for k, or 32. No test asks for k: no rule tells identifiers apart.
 fn ahead(permissions: &[u8; 256], peers: &[[u16; 8]; 32], state: &[u32], k: u32, q: usize) -> usize
-    requires { ⌜ (length (now state) ≡ 2080) × (q < 256) ⌝ }
+    requires { ⌜ (length (now state) ≡ words) × (q < 256) ⌝ }
     ensures { λ r. ⌜ r ≡ Visits·ahead (now (permissions .entry)) (now (peers .entry)) (now (state .entry)) k q ⌝ }
 {
     if !runs(state, q) {
@@ -70,7 +74,7 @@ fn ahead(permissions: &[u8; 256], peers: &[[u16; 8]; 32], state: &[u32], k: u32,
         return 32;
     }
     let far = far_end(peers, q);
-    if 256 <= far {
+    if NOBODY <= far {
         return 32;
     }
     if !receives(permissions, far) {
@@ -89,7 +93,7 @@ fn device(
     d: usize,
     set: u32,
 ) -> u32
-    requires { ⌜ length (now state) ≡ 2080 ⌝ }
+    requires { ⌜ length (now state) ≡ words ⌝ }
     ensures { λ r. ⌜ Finds (λ depth. deviceVisit (now (role .entry)) (Visits·ahead (now (permissions .entry)) (now (peers .entry)) (now (state .entry)) k) depth d set) (left set) r ⌝ }
 {
     if 31 < d {
@@ -116,7 +120,7 @@ pub(crate) fn port(
     p: usize,
     set: u32,
 ) -> u32
-    requires { ⌜ (length (now state) ≡ 2080) × (d < 32) × (p ≤ 8) ⌝ }
+    requires { ⌜ (length (now state) ≡ words) × (d < 32) × (p ≤ 8) ⌝ }
     ensures { λ r. ⌜ Finds (λ depth. portVisit (now (role .entry)) (Visits·ahead (now (permissions .entry)) (now (peers .entry)) (now (state .entry)) k) depth d p set) (left set + (9 - p)) r ⌝ }
 {
     if p == 8 {

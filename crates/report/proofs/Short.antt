@@ -6,7 +6,6 @@ use Prim.Native.Nat.{ℕ, _+_, _/_, _%_, _≤_, _<_}
 use native.Mathlib.Numerals.{add-one}
 use native.Mathlib.Omega.{arith}
 use lib.ListN.{length, length-append}
-use Rattle.answers.specs.Ordered.{Ordered}
 use Rattle.areas.specs.Put.{Puts}
 use Rattle.areas.proofs.Puts.{joined, same-size, next-place}
 use Rattle.bits.specs.Set.{bit}
@@ -15,39 +14,36 @@ use Rattle.plan.specs.declared.Plan.{Plan}
 use Rattle.plan.proofs.BothWays.{held-devices}
 use Rattle.text.specs.Text.{ascii}
 use Rattle.text.proofs.Decimal.{decimal-short}
-use Rattle.bench.specs.State.{State}
-use Rattle.bench.specs.Network.{devices, source}
-use Rattle.bench.specs.Calls.{started, callAsks}
-use Rattle.bench.specs.Settling.{rounds}
-use Rattle.bench.specs.Trials.{allowance, requested, Tries, refused, settled, waiting}
+use Rattle.state.specs.Network.{devices, source}
+use Rattle.bench.specs.Settling.{rounds, mostRounds}
+use Rattle.bench.specs.Trials.{requested, Answered, Tries, refused, settled, waiting}
 use Rattle.bench.proofs.Tried.{holders-few}
 use Rattle.report.specs.Report.{field, line, none, pass, more}
-use Rattle.report.specs.Steps.{PutsPlace, PutsLines}
+use Rattle.report.specs.Pieces.{longestLine, longestLines, PutsPlace, PutsLines}
 use Rattle.report.proofs.Parts.{puts-nothing, field-refused}
 
--- no call is refused by a number above 9
-number-few : (plan : Plan) (kind d k : ℕ) (s : State) {n : ℕ} → Ordered (callAsks plan kind d k s) n → n ≤ 9
-number-few plan kind d k s (inl p) = omega (arith, p .1)
-number-few plan kind d k s (inr (_, inl p)) = omega (arith, p .1)
-number-few plan kind d k s (inr (_, inr (_, inl p))) = omega (arith, p .1)
-number-few plan kind d k s (inr (_, inr (_, inr (_, inl p)))) = omega (arith, p .1)
-number-few plan kind d k s (inr (_, inr (_, inr (_, inr (_, inl p))))) = omega (arith, p .1)
-number-few plan kind d k s (inr (_, inr (_, inr (_, inr (_, inr (_, inl p)))))) = omega (arith, p .1)
-number-few plan kind d k s (inr (_, inr (_, inr (_, inr (_, inr (_, inr (_, inl p))))))) = omega (arith, p .1)
-number-few plan kind d k s (inr (_, inr (_, inr (_, inr (_, inr (_, inr (_, inr (_, inl p)))))))) = omega (arith, p .1)
-number-few plan kind d k s (inr (_, inr (_, inr (_, inr (_, inr (_, inr (_, inr (_, inr p)))))))) = omega (arith, p .1)
+-- no request is refused by a number above 9
+number-few : (plan : Plan) (d k : ℕ) {n : ℕ} → Answered plan d k n → n ≤ 9
+number-few plan d k (inl p) = omega (arith, p .1)
+number-few plan d k (inr (_, inl p)) = omega (arith, p .1)
+number-few plan d k (inr (_, inr (_, inl p))) = omega (arith, p .1)
+number-few plan d k (inr (_, inr (_, inr (_, inl p)))) = omega (arith, p .1)
+number-few plan d k (inr (_, inr (_, inr (_, inr (_, inl p))))) = omega (arith, p .1)
+number-few plan d k (inr (_, inr (_, inr (_, inr (_, inr (_, inl p)))))) = omega (arith, p .1)
+number-few plan d k (inr (_, inr (_, inr (_, inr (_, inr (_, inr (_, inl p))))))) = omega (arith, p .1)
+number-few plan d k (inr (_, inr (_, inr (_, inr (_, inr (_, inr (_, inr (_, inl p)))))))) = omega (arith, p .1)
+number-few plan d k (inr (_, inr (_, inr (_, inr (_, inr (_, inr (_, inr (_, inr p)))))))) = omega (arith, p .1)
 
 module _ (plan : Plan) (held : Held plan) (d k : ℕ) where
   field-short : {number n count : ℕ} → Tries plan d k number n count → (length (field number n) ≤ 4) × (count ≤ 32)
   unfolding field ascii
   field-short (refused {number} o z) =
-      let few = number-few plan 0 d k (started plan) o in
+      let few = number-few plan d k o in
       (rw (field-refused number 0 z (λ e. omega arith)) (omega (arith, decimal-short 0 number (omega arith))), omega arith)
   field-short (settled {n} o l _) = (decimal-short 3 n (omega (arith, l)), omega (arith, holders-few (devices plan) k (rounds plan n (requested plan d k)), held-devices plan held .1))
-  field-short (waiting o _) = (omega arith, omega (arith, holders-few (devices plan) k (rounds plan allowance (requested plan d k)), held-devices plan held .1))
+  field-short (waiting o _) = (omega arith, omega (arith, holders-few (devices plan) k (rounds plan mostRounds (requested plan d k)), held-devices plan held .1))
 
-  -- no line is longer than `31 31 4096 32` and its end
-  pub line-short : {number n count : ℕ} → d < 32 → k < 32 → Tries plan d k number n count → length (line d k number n count) ≤ 14
+  pub line-short : {number n count : ℕ} → d < 32 → k < 32 → Tries plan d k number n count → length (line d k number n count) ≤ longestLine
   unfolding line ascii
   line-short {count = count} h l t =
       let f = field-short t in
@@ -83,7 +79,7 @@ module _ {plan : Plan} {before : List ℕ} {at : ℕ} where
   lines-none = record { lines = []; right = none; short = omega arith; put = puts-nothing before at }
 
   -- the lines of one place more, where there is room for all
-  pub lines-more : {i : ℕ} {text last : List ℕ} {end place : ℕ} → at + 14336 ≤ length before → i < 1024
+  pub lines-more : {i : ℕ} {text last : List ℕ} {end place : ℕ} → at + longestLines ≤ length before → i < 1024
       → PutsLines plan i before at text end → PutsPlace plan i text end last place → PutsLines plan (i + 1) before at last place
   lines-more {i} room h v p =
       let e = length-append (v .lines) (p .added) in
@@ -96,7 +92,7 @@ module _ {plan : Plan} {before : List ℕ} {at : ℕ} where
 
   -- the place and the area, as the loop goes on
   module _ {i : ℕ} {text : List ℕ} {end : ℕ} (v : PutsLines plan i before at text end) where
-    pub lines-room : at + 14336 ≤ length before → i < 1024 → end + 14 ≤ length text
+    pub lines-room : at + longestLines ≤ length before → i < 1024 → end + longestLine ≤ length text
     lines-room room h =
         omega (arith, v .short, same-size (v .put), next-place (v .put) (omega (arith, v .short, room)), room)
 

@@ -16,10 +16,11 @@ use Rattle.plan.specs.declared.Read.{Read}
 use Rattle.plan.proofs.BothWays.{read-held, held-devices}
 use Rattle.text.specs.Text.{ascii}
 use Rattle.text.proofs.Decimal.{decimal-short}
-use Rattle.bench.specs.Network.{devices}
+use Rattle.state.specs.State.{words}
+use Rattle.state.specs.Network.{devices}
 use Rattle.bench.specs.Trials.{Finds, Lent, Fits as Trials·Fits, TriesAll}
 use Rattle.report.specs.Report.{Lines, heading, bad, Prints, refused, network, Areas, longest, Fits, Reports}
-use Rattle.report.specs.Steps.{PutsLines, PutsText, lent}
+use Rattle.report.specs.Pieces.{PutsLines, PutsText, lent}
 
 -- ---- how long the first line is, and the text of a refused file
 
@@ -93,7 +94,7 @@ module _ (file state second text : List ℕ) where
   misfits m = record { answers = inl (m, refl); made = λ z. absurd (omega (arith, z)); kept = λ _. (refl, refl) }
 
   pub reports : {s u t : List ℕ} {value : ℕ} → Fits (length state) (length second) (length text) → PutsText file text 0 t value
-      → s ≡ table 2080 (λ i. 0) → u ≡ table 2080 (λ i. 0) → Reports file (lent state second text) 0 value (lent s u t)
+      → s ≡ table words (λ i. 0) → u ≡ table words (λ i. 0) → Reports file (lent state second text) 0 value (lent s u t)
   reports {value = value} fits v e f =
       let room : length (v .text) ≤ length text = omega (arith, v .short, fits .2) in
       let size : value ≡ length (v .text) = next-place (v .put) (omega (arith, room)) ∙ zero-add _ in

@@ -9,7 +9,8 @@ use Rattle.areas.specs.Put.{over}
 use Rattle.areas.specs.Table.{table}
 use Rattle.plan.specs.Reading.{planOf}
 use Rattle.plan.specs.declared.Plan.{Plan}
-use Rattle.bench.specs.Network.{devices}
+use Rattle.state.specs.State.{words}
+use Rattle.state.specs.Network.{devices}
 use Rattle.bench.proofs.Unique.{tries-once}
 use Rattle.report.specs.Report.{line, Lines, none, pass, more, heading, Prints, refused, network, Areas, reportAsks, Reports}
 
@@ -35,7 +36,7 @@ prints-once file (network e l) (network f m) = ap (λ t. heading (devices (planO
 module _ (file : List ℕ) (before : Areas) where
   -- done, the areas are as the text has them
   abbrev exit : List ℕ → Areas
-  exit text = record { state = table 2080 (λ i. 0); second = table 2080 (λ i. 0); text = over text (before .text) }
+  exit text = record { state = table words (λ i. 0); second = table words (λ i. 0); text = over text (before .text) }
 
   pub report-unique : (m n v w : ℕ) (a b : Areas) → Reports file before m v a → Reports file before n w b → (m ≡ n) × (v ≡ w) × (a ≡ b)
   report-unique m n v w a b r s =

@@ -1,2 +1,2 @@
 pub mod Report
-pub mod Steps
+pub mod Pieces

@@ -13,7 +13,8 @@ use Rattle.text.specs.Text.{ascii, decimal}
 use Rattle.plan.specs.Refusals.{verdict}
 use Rattle.plan.specs.Reading.{planOf}
 use Rattle.plan.specs.declared.Plan.{Plan}
-use Rattle.bench.specs.Network.{devices, source}
+use Rattle.state.specs.State.{words}
+use Rattle.state.specs.Network.{devices, source}
 use Rattle.bench.specs.Trials.{Tries}
 
 -- what stands for n rounds, where the request is answered with a number; 12 says that something waits still
@@ -57,7 +58,7 @@ longest = 14347
 
 -- their lengths are right
 abbrev pub Fits : ℕ → ℕ → ℕ → Type 0
-Fits state second text = (state ≡ 2080) × (second ≡ 2080) × (longest ≤ text)
+Fits state second text = (state ≡ words) × (second ≡ words) × (longest ≤ text)
 
 abbrev pub reportAsks : Areas → List Condition
 reportAsks areas = ask 3 (Fits (length (areas .state)) (length (areas .second)) (length (areas .text))) ∷ []
@@ -67,5 +68,5 @@ pub record Reports (file : List ℕ) (before : Areas) (number value : ℕ) (afte
   pub answers : Ordered (reportAsks before) number
   pub made : number ≡ 0
       → (text : List ℕ) × Prints file text × (value ≡ length text)
-      × (after ≡ record { state = table 2080 (λ i. 0); second = table 2080 (λ i. 0); text = over text (before .text) })
+      × (after ≡ record { state = table words (λ i. 0); second = table words (λ i. 0); text = over text (before .text) })
   pub kept : (number ≡ 0 → ⊥) → (value ≡ 0) × (after ≡ before)

@@ -1,11 +1,9 @@
 // What the program `settle` prints: the bytes of a plan file go in, the whole text comes out, in a
 // lent area.
-ghost use mathlib.Core.Path.{_≡_};
-ghost use Prim.Native.Nat.{_≤_};
 ghost use lib.ListN.{length};
 ghost use Rattle.answers.specs.Decides.{Decides};
 ghost use Rattle.report.specs.Report.{Fits, Reports};
-ghost use Rattle.report.specs.Steps.{PutsText, lent};
+ghost use Rattle.report.specs.Pieces.{PutsText, lent};
 
 mod lines;
 
@@ -38,10 +36,10 @@ pub fn report(file: &[u8], state: &mut [u32], second: &mut [u32], text: &mut [u8
 fn fits(state: usize, second: usize, text: usize) -> bool
     ensures { λ r. ⌜ Decides (Fits state second text) r ⌝ }
 {
-    if state != 2080 {
+    if state != bench::WORDS {
         return false;
     }
-    if second != 2080 {
+    if second != bench::WORDS {
         return false;
     }
     LONGEST <= text
@@ -49,7 +47,7 @@ fn fits(state: usize, second: usize, text: usize) -> bool
 
 // The text of a file, put at the front of an area that has room for the longest.
 fn put_text(file: &[u8], state: &mut [u32], second: &mut [u32], text: &mut [u8]) -> usize
-    requires { ⌜ (length (now state) ≡ 2080) × (length (now second) ≡ 2080) × (14347 ≤ length (now text)) ⌝ }
+    requires { ⌜ Fits (length (now state)) (length (now second)) (length (now text)) ⌝ }
     ensures { λ r. ⌜ PutsText (now (file .entry)) (now (text .entry)) 0 (now (text .exit)) r ⌝ }
 {
     let read = planfile::read(file);
@@ -58,7 +56,7 @@ fn put_text(file: &[u8], state: &mut [u32], second: &mut [u32], text: &mut [u8])
     }
     let plan = read.plan;
     let core = plan.core;
-    let mut found = [0u32; 3072];
+    let mut found = [0u32; bench::FOUND];
     bench::trials(plan, state, second, &mut found);
     let at = lines::put_heading(text, 0, core.devices as u32);
     lines::put_lines(plan, &found, text, at)

@@ -6,10 +6,10 @@ ghost use lib.ListN.{length};
 ghost use Rattle.areas.specs.Put.{Puts};
 ghost use Rattle.text.specs.Text.{decimal};
 ghost use Rattle.plan.specs.Reading.{Held};
-ghost use Rattle.bench.specs.Network.{devices};
-ghost use Rattle.bench.specs.Trials.{Finds};
+ghost use Rattle.state.specs.Network.{devices};
+ghost use Rattle.bench.specs.Trials.{foundWords, Finds};
 ghost use Rattle.report.specs.Report.{field, line, heading, bad};
-ghost use Rattle.report.specs.Steps.{front, lineAt, PutsLines};
+ghost use Rattle.report.specs.Pieces.{front, lineAt, longestLines, PutsLines};
 use plan::Plan;
 
 // A number, and a word behind it.
@@ -78,7 +78,7 @@ fn put_line(text: &mut [u8], at: usize, d: u32, k: u32, number: u32, n: u32, hel
 
 // The line of place i, which is device i / 32 and identifier i % 32, by what is found of it.
 fn put_place(found: &[u32], i: usize, text: &mut [u8], at: usize) -> usize
-    requires { ⌜ (i < 1024) × (length (now found) ≡ 3072) × (at + length (lineAt (now found) i) ≤ length (now text)) ⌝ }
+    requires { ⌜ (i < 1024) × (length (now found) ≡ foundWords) × (at + length (lineAt (now found) i) ≤ length (now text)) ⌝ }
     ensures { λ r. ⌜ Puts (now (text .entry)) at (lineAt (now (found .entry)) i) (now (text .exit)) r ⌝ }
 {
     let number = found[3 * i];
@@ -90,7 +90,7 @@ fn put_place(found: &[u32], i: usize, text: &mut [u8], at: usize) -> usize
 // All lines, by device then identifier; a place has one where its device is a source of its
 // identifier.
 pub(crate) fn put_lines(plan: Plan, found: &[u32], text: &mut [u8], at: usize) -> usize
-    requires { ⌜ Held plan × Finds plan (now found) × (at + 14336 ≤ length (now text)) ⌝ }
+    requires { ⌜ Held plan × Finds plan (now found) × (at + longestLines ≤ length (now text)) ⌝ }
     ensures { λ r. ⌜ PutsLines plan (32 * devices plan) (now (text .entry)) at (now (text .exit)) r ⌝ }
 {
     let core = plan.core;

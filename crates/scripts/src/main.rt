@@ -1,18 +1,16 @@
 // Plays the scripts of data/scripts.txt, line by line, and prints every call's answer and, round by
 // round, every byte sent and every word told. A line is a word and up to two numbers; a call is
 // printed as its line stands. A state goes by value: a proof pays for each thing that is lent.
+use bench::NOTHING;
+use bench::SENT;
+use bench::TOLD;
+use bench::WORDS;
 use bytes::scan;
 use libc::STDOUT_FILENO;
 use plan::Plan;
 ghost use Prim.Native.Nat.{_<_};
 
-// The lengths of a state and of the areas for what is sent and told, and wrong ones.
-const WORDS: usize = 2080;
-
-const SENT: usize = 256;
-
-const TOLD: usize = 1056;
-
+// Lengths that are wrong for a state and for the areas of what is sent and told.
 const SHORT_WORDS: usize = WORDS - 1;
 
 const LONG_SENT: usize = SENT + 1;
@@ -237,7 +235,7 @@ fn rounds(plan: Plan, state: [u32; WORDS], n: u32) -> [u32; WORDS] {
 // One round, printed; where it is refused the state stays.
 fn round(plan: Plan, state: [u32; WORDS]) -> [u32; WORDS] {
     let mut next = [0u32; WORDS];
-    let mut sent = [256u32; SENT];
+    let mut sent = [NOTHING; SENT];
     let mut told = [0u32; TOLD];
     let r = bench::round(plan, &state, &mut next, &mut sent, &mut told);
     said(b"round", r.number, r.value, 0);
@@ -335,7 +333,7 @@ fn row(word: &[u8], a: u32, b: u32, c: u32) {
 
 // What port q sends, where it is a byte.
 fn sent_by(q: usize, byte: u32) {
-    if byte < 256 {
+    if byte < NOTHING {
         row(b"sent", (q / 8 % 32) as u32, (q % 8) as u32, byte);
     }
 }

@@ -50,8 +50,8 @@ fn read_file(file: &mut [u8]) -> Input
 
 // Writes the text of a file, or says that it could not.
 fn settle(file: &[u8]) {
-    let mut state = [0u32; 2080];
-    let mut second = [0u32; 2080];
+    let mut state = [0u32; bench::WORDS];
+    let mut second = [0u32; bench::WORDS];
     let mut text = [0u8; report::LONGEST];
     if !show(file, &mut state, &mut second, &mut text) {
         io::write_all(

@@ -7,14 +7,15 @@ use Rattle.bits.specs.Set.{bit}
 use Rattle.bits.proofs.Sets.{bit-zero}
 use Rattle.device.specs.Permissions.{maySend}
 use Rattle.plan.specs.Fields.{nobody}
-use Rattle.bench.specs.State.{State, registerAt, register, waiting, running}
-use Rattle.bench.specs.Network.{devices, peer}
-use Rattle.bench.specs.Sound.{Sound}
-use Rattle.bench.specs.Calls.{started, called}
-use Rattle.bench.specs.Alike.{Alike}
-use Rattle.bench.proofs.Apart.{alike-same, call-apart}
-use Rattle.bench.proofs.Called.{call-sound}
-use Rattle.bench.proofs.Started.{start-device, start-port, start-joined, started-sound}
+use Rattle.state.specs.State.{State, registerAt, register, waiting, running}
+use Rattle.state.specs.Network.{devices, peer}
+use Rattle.state.specs.Sound.{Sound}
+use Rattle.state.specs.Start.{started}
+use Rattle.state.proofs.Started.{start-device, start-port, start-joined, started-sound}
+use Rattle.calls.specs.Calls.{called}
+use Rattle.calls.proofs.Called.{call-sound}
+use Rattle.laws.specs.Alike.{Alike}
+use Rattle.laws.proofs.Apart.{alike-same, call-apart}
 use Rattle.assurance.proofs.Meanwhile.{alike-then}
 use Rattle.assurance.proofs.Taking.{called-took}
 use Rattle.witness.specs.Line.{line, busy}

@@ -14,12 +14,12 @@ use Rattle.areas.specs.Table.{every}
 use Rattle.areas.proofs.Tests.{both, every-at}
 use Rattle.bits.specs.Set.{bit}
 use Rattle.device.specs.Permissions.{maySend, mayReceive}
-use Rattle.bench.specs.State.{State, register, running}
-use Rattle.bench.specs.Network.{peer, source, loadOf}
-use Rattle.bench.specs.Sound.{Sound}
-use Rattle.bench.specs.Calls.{callAsks, called}
-use Rattle.bench.proofs.Apart.{call-apart}
-use Rattle.bench.proofs.Called.{call-sound}
+use Rattle.state.specs.State.{State, register, running}
+use Rattle.state.specs.Network.{peer, source, loadFor, loadOf}
+use Rattle.state.specs.Sound.{Sound}
+use Rattle.calls.specs.Calls.{callAsks, called}
+use Rattle.calls.proofs.Called.{call-sound}
+use Rattle.laws.proofs.Apart.{call-apart}
 use Rattle.reach.specs.Walk.{Leads, Walk, stay, cross}
 use Rattle.reach.specs.Away.{Farthest}
 use Rattle.reach.proofs.Found.{none-away}
@@ -118,7 +118,7 @@ begins =
 -- ---- all that is asked
 
 pub given : Given line 31 0 2 busy course
-unfolding line course every loadOf
+unfolding line course every loadFor
 given =
     record {
       held = line-held;

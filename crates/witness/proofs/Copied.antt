@@ -4,11 +4,11 @@ use mathlib.Core.Logic.{_≢_}
 use Prim.Native.Nat.{ℕ, zero, suc, _≤_, _<_}
 use native.Mathlib.Omega.{arith}
 use Rattle.bits.specs.Set.{bit}
-use Rattle.bench.specs.State.{State, register}
-use Rattle.bench.specs.Network.{devices}
-use Rattle.bench.specs.Sound.{Sound}
-use Rattle.bench.specs.Calls.{called}
-use Rattle.bench.specs.Alike.{Alike}
+use Rattle.state.specs.State.{State, register}
+use Rattle.state.specs.Network.{devices}
+use Rattle.state.specs.Sound.{Sound}
+use Rattle.calls.specs.Calls.{called}
+use Rattle.laws.specs.Alike.{Alike}
 use Rattle.assurance.specs.Demand3.{none, crossing, window, Follows}
 use Rattle.assurance.proofs.Meanwhile.{alike-then, calls-beside}
 use Rattle.assurance.proofs.Taking.{called-took}

@@ -3,16 +3,17 @@ use mathlib.Core.Path.{_≡_, refl}
 use Prim.Native.Nat.{ℕ, _-_, _<_}
 use native.Mathlib.Omega.{arith}
 use Rattle.areas.specs.Loop.{upTo}
-use Rattle.areas.specs.Table.{table}
+use Rattle.areas.specs.Table.{table, joined}
 use Rattle.bits.specs.Set.{bit, join, leave}
 use Rattle.bits.specs.First.{searched, firstFrom, following}
 use Rattle.codes.specs.Codes.{reads}
 use Rattle.device.specs.Permissions.{maySend, mayReceive}
 use Rattle.device.specs.Reaction.{marked, ruled, reactsTo, reacts}
-use Rattle.bench.specs.State.{word, put, register}
-use Rattle.bench.specs.Network.{loadOf}
-use Rattle.bench.specs.Queue.{queueAt, queueAllAt}
-use Rattle.bench.specs.Calls.{started, called, mark}
+use Rattle.state.specs.State.{word, put, register, stateOf}
+use Rattle.state.specs.Network.{loadFor}
+use Rattle.state.specs.Queue.{queueAt, queueAllAt}
+use Rattle.state.specs.Mark.{mark}
+use Rattle.calls.specs.Calls.{called}
 use Rattle.bench.specs.Round.{tick, chosen, sends, unqueued, timed, forwarded, tells, acted, arrived, ticked, sentBytes, posted, arrives, reached, round}
 use Rattle.assurance.specs.Demand3.{crossing, Demand3}
 use Rattle.assurance.proofs.Demand.{demand-3}
@@ -26,7 +27,7 @@ enough plan k source D s at x = demand-3 plan k source D s at x .holds
 
 -- computed: the router is one crossing away, and a round before the end of that crossing it does not hold 31
 late : bit (register (course (crossing - 1)) 1) 31 ≡ 0
-unfolding course busy line upTo table bit join leave searched firstFrom following reads maySend mayReceive marked ruled reactsTo reacts word put loadOf queueAt queueAllAt started called mark tick chosen sends unqueued timed forwarded tells acted arrived ticked sentBytes posted arrives reached round
+unfolding course busy line upTo table joined bit join leave searched firstFrom following reads maySend mayReceive marked ruled reactsTo reacts word put stateOf loadFor queueAt queueAllAt called mark tick chosen sends unqueued timed forwarded tells acted arrived ticked sentBytes posted arrives reached round
 late = refl
 
 pub no-fewer : (W : ℕ) → W < crossing → Enough W → ⊥

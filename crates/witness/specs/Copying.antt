@@ -1,7 +1,7 @@
 -- No rules: what the course of demand 3 would be if a round copied the state.
 use Prim.Native.Nat.{ℕ, suc, _<_}
 use Rattle.plan.specs.declared.Plan.{Plan}
-use Rattle.bench.specs.State.{State}
+use Rattle.state.specs.State.{State}
 use Rattle.assurance.specs.Demand3.{Calls}
 
 -- so many rounds that leave the state as it was, each with calls after it

@@ -5,8 +5,9 @@ use lib.ListN.{replicate}
 use Rattle.areas.specs.Loop.{upTo}
 use Rattle.plan.specs.Fields.{nobody}
 use Rattle.plan.specs.declared.Plan.{Plan}
-use Rattle.bench.specs.State.{State}
-use Rattle.bench.specs.Calls.{started, called}
+use Rattle.state.specs.State.{State}
+use Rattle.state.specs.Start.{started}
+use Rattle.calls.specs.Calls.{called}
 use Rattle.bench.specs.Round.{round}
 
 -- some numbers, and so many zeros behind them

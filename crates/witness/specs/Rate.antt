@@ -3,7 +3,7 @@ use mathlib.Core.Path.{_≡_}
 use Prim.Native.Nat.{ℕ, _*_, _≤_}
 use Rattle.bits.specs.Set.{bit}
 use Rattle.plan.specs.declared.Plan.{Plan}
-use Rattle.bench.specs.State.{State, register}
+use Rattle.state.specs.State.{State, register}
 use Rattle.reach.specs.Walk.{Walk}
 use Rattle.assurance.specs.Demand3.{Given, window}
 

@@ -1,7 +1,7 @@
 use mathlib.Core.Path.{refl}
 use native.Mathlib.Omega.{arith}
 use Rattle.bench.specs.Round.{acted}
-use Rattle.bench.proofs.Tellings.{silent, noted}
+use Rattle.bench.proofs.Following.{silent, noted}
 use Rattle.bench.proofs.Stepped.{acted-forwards, acted-tells}
 use borrow.Author.Needs.{needs}
 use Rattle.bench.proofs.rounds.act.Statement.{statement}

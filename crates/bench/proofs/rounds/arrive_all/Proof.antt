@@ -1,4 +1,4 @@
-use mathlib.Core.Path.{_≡_, ap, _∙_}
+use mathlib.Core.Path.{_≡_, refl, ap, _∙_}
 use mathlib.Core.List.{List, []}
 use mathlib.Core.Logic.{⊎-elim}
 use Prim.Native.Nat.{ℕ, _+_, _-_, _*_, _/_, _%_, _≤_, _<_}
@@ -6,11 +6,11 @@ use native.Mathlib.Omega.{arith}
 use lib.ListN.{length, getD}
 use Rattle.areas.specs.Loop.{upTo}
 use Rattle.plan.specs.declared.Plan.{Plan}
-use Rattle.bench.specs.Network.{devices, role, router}
-use Rattle.bench.specs.Round.{World, arrived, arrives, reached}
-use Rattle.bench.specs.Idle.{bare}
-use Rattle.bench.specs.Telling.{Seen, seen, Follows}
-use Rattle.bench.proofs.Tellings.{leads, silent, lands, follows-none, follows-more, follows-still, follows-done}
+use Rattle.state.specs.State.{words}
+use Rattle.state.specs.Network.{devices, router, loadOf}
+use Rattle.bench.specs.Round.{World, arrived, arrives, reached, nothing}
+use Rattle.bench.specs.Shown.{Seen, seen, Follows}
+use Rattle.bench.proofs.Following.{leads, silent, lands, follows-none, follows-more, follows-still, follows-done}
 use Rattle.bench.proofs.Stepped.{arrives-nothing, arrives-byte}
 use Rattle.bench.proofs.Idles.{arrives-unused}
 use borrow.Author.Needs.{needs}
@@ -22,7 +22,7 @@ record Reached (plan : Plan) (sent : List ℕ) (size : ℕ) (x : Seen) (q : ℕ)
   within : q ≤ 8 * devices plan
   few : devices plan ≤ 32
   count : y .count ≤ 1024 + q
-  state : length (y .state) ≡ 2080
+  state : length (y .state) ≡ words
   area : length (y .area) ≡ size
   follows : Follows (upTo (arrives plan sent) q) x y
 
@@ -52,58 +52,60 @@ module _ {plan : Plan} {sent : List ℕ} {size : ℕ} {x : Seen} {q : ℕ} {y : 
       }
 
 -- port q is one of device d
-module _ (plan : Plan) (sent : List ℕ) (q d byte : ℕ) (device : q / 8 ≡ d) (e : byte ≡ getD sent (getD (getD (plan .peers) d []) (q % 8) 0) 256) where
-  here-byte : (load : ℕ) → load ≡ getD (plan .core .loads) (role plan d) 0 → byte < 256 → (w : World)
-      → arrives plan sent q w ≡ arrived (λ _. load) (plan .core .permissions) q (router plan d) byte w
-  here-byte load l h w = rw (← device) (arrives-byte plan sent q byte (rw device e) w load h (rw device l))
+module _ (plan : Plan) (sent : List ℕ) (q d byte : ℕ) (device : q / 8 ≡ d) (e : byte ≡ getD sent (getD (getD (plan .peers) d []) (q % 8) 0) nothing) where
+  here-byte : byte < nothing → (w : World) → arrives plan sent q w ≡ arrived (loadOf plan d) (plan .core .permissions) q (router plan d) byte w
+  here-byte h w = rw (← device) (arrives-byte plan sent q byte (rw device e) w h)
 
-  here-nothing : 256 ≤ byte → (w : World) → arrives plan sent q w ≡ w
+  here-nothing : nothing ≤ byte → (w : World) → arrives plan sent q w ≡ w
   here-nothing h w = arrives-nothing plan sent q byte (rw device e) w h
 
 abbrev Inv-loop2 : tie.InvT-loop2
-Inv-loop2 n loads roles ports permissions peers sent state₀ told₀ count count₀ d role first past q₀ state told count' q =
-    ((size : ℕ) (x : Seen) → Reached (bare n loads roles ports permissions peers) sent size x first (seen state₀ told₀ count₀) → Reached (bare n loads roles ports permissions peers) sent size x q (seen state told count'))
+Inv-loop2 peers sent state₀ told₀ count core count₀ d role first past q₀ d-end state told count' q =
+    ((size : ℕ) (x : Seen) → Reached (record { core = core; peers = peers }) sent size x first (seen state₀ told₀ count₀)
+    → Reached (record { core = core; peers = peers }) sent size x q (seen state told count'))
     × (first ≤ q)
     × (q ≤ past)
-    × (past ≤ 8 * n)
+    × (past ≤ 8 * core .devices)
 
 abbrev μ-loop2 : tie.MeasureT-loop2
-μ-loop2 n loads roles ports permissions peers sent state₀ told₀ count count₀ d role first past q₀ state told count' q =
-    past - q
+μ-loop2 peers sent state₀ told₀ count core count₀ d role first past q₀ d-end state told count' q = past - q
 
 abbrev Inv-loop : tie.InvT-loop
-Inv-loop n loads roles ports permissions peers sent state₀ told₀ count count₀ d₀ state told count' d =
-    Reached (bare n loads roles ports permissions peers) sent (length told₀) (seen state₀ told₀ count) (8 * d) (seen state told count')
+Inv-loop peers sent state₀ told₀ count core count₀ d₀ d-end state told count' d =
+    Reached (record { core = core; peers = peers }) sent (length told₀) (seen state₀ told₀ count) (8 * d) (seen state told count') × (d-end ≡ core .devices)
 
 abbrev μ-loop : tie.MeasureT-loop
-μ-loop n loads roles ports permissions peers sent state₀ told₀ count count₀ d₀ state told count' d =
-    n - d
+μ-loop peers sent state₀ told₀ count core count₀ d₀ d-end state told count' d = d-end - d
 
 loop-holds : tie.Need-loop-holds Inv-loop2 μ-loop2 Inv-loop μ-loop
 loop-holds c =
     let s = c .before .before .before in
-    record { within = omega arith; few = s .pre .0 .few; count = omega arith; state = search needs; area = search needs; follows = follows-none _ }
+    (record { within = omega arith; few = s .pre .0 .few; count = omega arith; state = s .pre .2; area = refl; follows = follows-none _ }, refl)
 
 element-copy-out-role : tie.Need-element-copy-out-role Inv-loop2 μ-loop2 Inv-loop μ-loop
-element-copy-out-role c = search needs
+element-copy-out-role c = omega (arith, c .before .before .before .before .before .pre .0 .few, c .before .loop .inv .1)
 
 mul-first : tie.Need-mul-first Inv-loop2 μ-loop2 Inv-loop μ-loop
-mul-first c = search needs
+mul-first c = omega (arith, c .before .before .before .before .before .before .pre .0 .few, c .before .before .loop .inv .1)
 
 element-copy-out-wide : tie.Need-element-copy-out-wide Inv-loop2 μ-loop2 Inv-loop μ-loop
-element-copy-out-wide c = search needs
+element-copy-out-wide c = omega (arith, c .before .before .before .before .before .before .pre .0 .few, c .before .before .loop .inv .1)
 
 wide-requires : tie.Need-wide-requires Inv-loop2 μ-loop2 Inv-loop μ-loop
 wide-requires c κs = search needs
 
 add-past : tie.Need-add-past Inv-loop2 μ-loop2 Inv-loop μ-loop
-add-past c = omega (arith, c .before .before .before .before .before .before .before .before .pre .0 .most (c .before .before .before .before .loop .d) (omega arith), c .before .before .before .before .before .before .before .before .pre .0 .few, c .wide .ensures)
+add-past c =
+    let s = c .before .before .before .before .before .before .before .before in
+    let l = c .before .before .before .before .loop in
+    omega (arith, s .pre .0 .most (l .d) (omega (arith, l .inv .1)), s .pre .0 .few, l .inv .1, c .wide .ensures)
 
 loop2-holds : tie.Need-loop2-holds Inv-loop2 μ-loop2 Inv-loop μ-loop
 loop2-holds c =
     let s = c .before .before .before .before .before .before .before .before in
-    let most = s .pre .0 .most (c .before .before .before .before .loop .d) (omega arith) in
-    (λ size x v. v, omega arith, omega arith, omega (arith, most, c .wide .ensures))
+    let l = c .before .before .before .before .loop in
+    let most = s .pre .0 .most (l .d) (omega (arith, l .inv .1)) in
+    (λ size x v. v, omega arith, omega arith, omega (arith, most, l .inv .1, c .wide .ensures))
 
 mul-heard : tie.Need-mul-heard Inv-loop2 μ-loop2 Inv-loop μ-loop
 mul-heard c = search needs
@@ -120,17 +122,14 @@ index-2-heard c = search needs
 heard-requires : tie.Need-heard-requires Inv-loop2 μ-loop2 Inv-loop μ-loop
 heard-requires c κs = search needs
 
-load-of-requires : tie.Need-load-of-requires Inv-loop2 μ-loop2 Inv-loop μ-loop
-load-of-requires c κs = search needs
-
 cast-arrive-one : tie.Need-cast-arrive-one Inv-loop2 μ-loop2 Inv-loop μ-loop
 cast-arrive-one c = search needs
 
 arrive-one-requires : tie.Need-arrive-one-requires Inv-loop2 μ-loop2 Inv-loop μ-loop
 arrive-one-requires c κs =
-    let l = c .before .before .before .before .before .before .before in
-    let v = l .loop2 .inv .0 _ _ (l .before .before .before .before .before .loop .inv) in
-    (v .state, omega (arith, v .few), omega (arith, v .count, v .few))
+    let l = c .before .before .before .before .before .before .before .before .before in
+    let v = l .loop2 .inv .0 _ _ (l .before .before .before .before .before .loop .inv .0) in
+    (v .state, omega (arith, v .few, l .loop2 .inv .3), omega (arith, v .count, v .few, l .loop2 .inv .3))
 
 add-q : tie.Need-add-q Inv-loop2 μ-loop2 Inv-loop μ-loop
 add-q c = search needs
@@ -142,18 +141,18 @@ loop2-again : tie.Need-loop2-again Inv-loop2 μ-loop2 Inv-loop μ-loop
 loop2-again c =
     let l = c .before .before .before .before in
     let o = l .before .before .before .before .before in
-    let most = o .before .before .before .before .pre .0 .most (o .loop .d) (omega arith) in
+    let most = o .before .before .before .before .pre .0 .most (o .loop .d) (omega (arith, o .loop .inv .1)) in
     let ports = l .before .wide .ensures in
     let device : l .loop2 .q / 8 ≡ o .loop .d = omega arith in
     let byte = c .before .heard .ensures in (
       λ size x v. let u = l .loop2 .inv .0 size x v in
           ⊎-elim
-          (λ w. again u (omega arith)
-          (lands (w .9) (w .10) (w .11) (leads (λ told. here-byte _ _ _ _ _ device byte _ (w .1 .ensures) (w .0 .taken) _) (w .4 .ensures .0)))
-          (omega (arith, w .11, w .4 .ensures .1))
-          (ap length (w .9) ∙ w .4 .kept .1 .1 .1 .1 .1 .0)
-          (ap length (w .10) ∙ w .4 .kept .1 .1 .1 .1 .1 .1 .0))
-          (λ w. again u (omega arith) (lands (w .1) (w .2) (w .3) (silent (λ told. here-nothing _ _ _ _ _ device byte (w .0 .left) _))) (omega (arith, w .3)) (ap length (w .1)) (ap length (w .2)))
+          (λ w. again u (omega (arith, l .loop2 .inv .3))
+          (lands (w .11) (w .12) (w .13) (leads (λ told. here-byte _ _ _ _ _ device byte (w .0 .taken) _) (w .6 .ensures .0)))
+          (omega (arith, w .13, w .6 .ensures .1))
+          (ap length (w .11) ∙ w .6 .kept .1 .1 .1 .1 .1 .0)
+          (ap length (w .12) ∙ w .6 .kept .1 .1 .1 .1 .1 .1 .0))
+          (λ w. again u (omega (arith, l .loop2 .inv .3)) (lands (w .1) (w .2) (w .3) (silent (λ told. here-nothing _ _ _ _ _ device byte (w .0 .left) _))) (omega (arith, w .3)) (ap length (w .1)) (ap length (w .2)))
           (c .if1 .came),
       omega arith,
       omega arith,
@@ -171,10 +170,12 @@ loop-again c =
     let l = c .before in
     let o = l .before .before .before .before .before in
     let s = o .before .before .before .before in
-    let most = s .pre .0 .most (o .loop .d) (omega arith) in
-    let ports = l .before .wide .ensures in
-    skip (l .loop2 .inv .0 _ _ (o .loop .inv)) (omega arith) (omega arith)
-    (λ j a b. arrives-unused _ (s .pre .0) _ (s .pre .1) (o .loop .d) j (omega arith) (omega arith) (omega arith))
+    let most = s .pre .0 .most (o .loop .d) (omega (arith, o .loop .inv .1)) in
+    let ports = l .before .wide .ensures in (
+      skip (l .loop2 .inv .0 _ _ (o .loop .inv .0)) (omega arith) (omega arith)
+          (λ j a b. arrives-unused _ (s .pre .0) _ (s .pre .1) (o .loop .d) j (omega (arith, o .loop .inv .1)) (omega arith) (omega arith)),
+      o .loop .inv .1,
+    )
 
 same-length : tie.Need-same-length Inv-loop2 μ-loop2 Inv-loop μ-loop
 same-length c = search needs
@@ -184,7 +185,7 @@ same-length-2 c = search needs
 
 returns : tie.Need-returns Inv-loop2 μ-loop2 Inv-loop μ-loop
 unfolding reached
-returns c = follows-done _ (c .before .loop .inv .follows) (omega (arith, c .before .loop .inv .within))
+returns c = follows-done _ (c .before .loop .inv .0 .follows) (omega (arith, c .before .loop .inv .0 .within, c .before .loop .inv .1))
 
 pub arrive-all-spec : {M : Type 1} → statement M
 arrive-all-spec =
@@ -206,7 +207,6 @@ arrive-all-spec =
     index-1-heard
     index-2-heard
     heard-requires
-    load-of-requires
     cast-arrive-one
     arrive-one-requires
     add-q

@@ -1,8 +1,9 @@
 use mathlib.Core.Path.{_∙_}
 use lib.ListN.{length-set}
-use Rattle.bench.specs.State.{word, put}
-use Rattle.bench.proofs.Tellings.{leads}
+use Rattle.state.specs.State.{word, put}
+use Rattle.bench.proofs.Following.{leads}
 use Rattle.bench.proofs.Stepped.{arrived-acts}
+use lib.Dec.{eqb}
 use borrow.Author.Needs.{needs}
 use Rattle.bench.proofs.rounds.arrive_one.Statement.{statement}
 use Rattle.bench.proofs.rounds.arrive_one.Tie as tie
@@ -50,7 +51,7 @@ act-requires : tie.Need-act-requires
 act-requires c κs = search needs
 
 same-length : tie.Need-same-length
-same-length c = c .before .before .before .before .act .kept .1 .1 .1 .1 .0 ∙ length-set (c .before .before .before .before .before .before .before .before .before .before .before .before .before .before .args .state .now) _ _
+same-length c = c .before .before .before .before .act .kept .1 .1 .1 .1 .1 .0 ∙ length-set (c .before .before .before .before .before .before .before .before .before .before .before .before .before .before .args .state .now) _ _
 
 same-length-2 : tie.Need-same-length-2
 same-length-2 c = search needs
@@ -60,7 +61,7 @@ unfolding word put
 returns c =
     let b = c .before .before .before .before .before .before .before in
     let a = b .before .before .before .before .before .before .before .args in (
-      leads (λ told. arrived-acts _ (a .permissions .now) (a .q) (a .state .now) (a .router) (a .byte) (b .react .result) told
+      leads (λ told. arrived-acts _ (a .permissions .now) (a .q) (a .state .now) (eqb (a .role) 1) (a .byte) (b .react .result) told
           (rw (b .before .before .widened .ensures) at (b .react .ensures))) (c .before .before .before .before .act .ensures .0),
       c .before .before .before .before .act .ensures .1,
     )

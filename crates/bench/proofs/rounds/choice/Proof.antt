@@ -1,4 +1,4 @@
-use Rattle.bench.specs.State.{word}
+use Rattle.state.specs.State.{word}
 use Rattle.bench.proofs.Stepped.{chosen-is}
 use borrow.Author.Needs.{needs}
 use Rattle.bench.proofs.rounds.choice.Statement.{statement}
@@ -10,14 +10,17 @@ mul-at c = search needs
 add-at : tie.Need-add-at
 add-at c = search needs
 
+add-first : tie.Need-add-first
+add-first c = search needs
+
 mul-first : tie.Need-mul-first
 mul-first c = search needs
 
 shared-slice-read-first : tie.Need-shared-slice-read-first
 shared-slice-read-first c = search needs
 
-add-first : tie.Need-add-first
-add-first c = search needs
+add-first-2 : tie.Need-add-first-2
+add-first-2 c = search needs
 
 mul-first-2 : tie.Need-mul-first-2
 mul-first-2 c = search needs
@@ -25,8 +28,8 @@ mul-first-2 c = search needs
 shared-slice-read-first-2 : tie.Need-shared-slice-read-first-2
 shared-slice-read-first-2 c = search needs
 
-add-first-2 : tie.Need-add-first-2
-add-first-2 c = search needs
+add-first-3 : tie.Need-add-first-3
+add-first-3 c = search needs
 
 mul-first-3 : tie.Need-mul-first-3
 mul-first-3 c = search needs
@@ -47,12 +50,13 @@ choice-spec =
     (tie.spec
     mul-at
     add-at
+    add-first
     mul-first
     shared-slice-read-first
-    add-first
+    add-first-2
     mul-first-2
     shared-slice-read-first-2
-    add-first-2
+    add-first-3
     mul-first-3
     shared-slice-read-first-3
     first-requires

@@ -1,6 +1,8 @@
 use mathlib.Core.Path.{sym, ap, _∙_}
 use Rattle.codes.specs.declared.Code.{Code}
 use Rattle.bench.specs.Round.{forwarded}
+use native.Mathlib.Omega.{arith}
+use Rattle.state.proofs.Queues.{queued-in}
 use borrow.Author.Needs.{needs}
 use Rattle.bench.proofs.rounds.forward.Statement.{statement}
 use Rattle.bench.proofs.rounds.forward.Tie as tie
@@ -34,14 +36,14 @@ same-length c = search needs
 
 returns : tie.Need-returns
 unfolding forwarded
-returns c = c .before .before .queue-all .ensures ∙ sym (ap (λ (x : Code). forwarded (c .before .before .before .before .before .before .before .before .args .permissions .now) (c .before .before .before .before .before .before .before .before .args .q) x (c .before .before .before .before .before .before .before .before .args .state .now)) (c .before .before .before .before .before .code .given .1))
+returns c = c .before .before .queue-all .ensures ∙ queued-in _ _ _ _ _ _ (search needs) (omega arith) (omega arith) ∙ sym (ap (λ (x : Code). forwarded (c .before .before .before .before .before .before .before .before .args .permissions .now) (c .before .before .before .before .before .before .before .before .args .q) x (c .before .before .before .before .before .before .before .before .args .state .now)) (c .before .before .before .before .before .code .given .1))
 
 same-length-2 : tie.Need-same-length-2
 same-length-2 c = search needs
 
 returns-2 : tie.Need-returns-2
 unfolding forwarded
-returns-2 c = c .before .before .queue-all2 .ensures ∙ sym (ap (λ (x : Code). forwarded (c .before .before .before .before .before .before .before .before .args .permissions .now) (c .before .before .before .before .before .before .before .before .args .q) x (c .before .before .before .before .before .before .before .before .args .state .now)) (c .before .before .before .before .before .code2 .given .1))
+returns-2 c = c .before .before .queue-all2 .ensures ∙ queued-in _ _ _ _ _ _ (search needs) (omega arith) (omega arith) ∙ sym (ap (λ (x : Code). forwarded (c .before .before .before .before .before .before .before .before .args .permissions .now) (c .before .before .before .before .before .before .before .before .args .q) x (c .before .before .before .before .before .before .before .before .args .state .now)) (c .before .before .before .before .before .code2 .given .1))
 
 returns-3 : tie.Need-returns-3
 unfolding forwarded

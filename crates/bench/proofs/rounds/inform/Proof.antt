@@ -1,6 +1,6 @@
 use native.Mathlib.Omega.{arith}
 use Rattle.bench.specs.Round.{tells}
-use Rattle.bench.proofs.Tellings.{note-none}
+use Rattle.bench.proofs.Following.{note-none}
 use borrow.Author.Needs.{needs}
 use Rattle.bench.proofs.rounds.inform.Statement.{statement}
 use Rattle.bench.proofs.rounds.inform.Tie as tie

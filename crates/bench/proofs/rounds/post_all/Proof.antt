@@ -1,104 +1,124 @@
-use mathlib.Core.Path.{_≡_, sym, ap, _∙_}
+-- `bench::rounds::post_all` meets its contract. The invariant: the ports before port q have sent, and those that are lacking have sent nothing. Assumes nothing.
+use mathlib.Core.Path.{_≡_, refl, sym, ap, _∙_}
 use mathlib.Core.List.{List}
-use Prim.Native.Nat.{ℕ, _+_, _-_, _*_, _≤_, _<_}
+use mathlib.Core.Logic.{dite}
+use Prim.Native.Nat.{ℕ, _+_, _-_, _*_, _/_, _≤_, _<_}
+use native.Mathlib.Decide.{decLt, ℕ-discrete}
 use native.Mathlib.Omega.{arith}
-use lib.ListN.{length, set, length-set}
-use borrow.Author.Tests.{le-ltb}
-use Rattle.areas.specs.Table.{table}
-use Rattle.areas.proofs.Filled.{Filled, filling, filled-more, filled-still, filled-all}
-use Rattle.areas.proofs.Loops.{After, none, turn, still, done}
-use Rattle.areas.proofs.Tables.{length-table, same-table}
+use lib.ListN.{length, getD, set, length-set}
+use lib.Seq.{getD-set-same, getD-set-other}
+use borrow.Author.Tests.{lt-ltb, le-ltb}
+use Rattle.areas.proofs.Loops.{After, none, turn, done, still}
+use Rattle.areas.proofs.Tables.{is-table}
 use Rattle.bits.specs.declared.Found.the-variants.{Nowhere}
-use Rattle.bench.specs.State.{State, waiting}
-use Rattle.bench.specs.Round.{chosen, sends, unqueued}
+use Rattle.plan.specs.declared.Plan.{Plan}
+use Rattle.state.specs.State.{State, words, waiting}
+use Rattle.state.specs.Network.{devices, portsOf}
+use Rattle.bench.specs.Round.{nothing, sentWords, chosen, sends, unqueued, sentBytes, posted}
+use Rattle.bench.specs.Idle.{Silent}
 use Rattle.bench.proofs.Stepped.{chosen-none, post-nothing, post-same}
 use borrow.Author.Needs.{needs}
 use Rattle.bench.proofs.rounds.post_all.Statement.{statement}
 use Rattle.bench.proofs.rounds.post_all.Tie as tie
 
+-- port j is none, or its device lacks it
+abbrev Lacking : Plan → ℕ → Type 0
+Lacking plan j = j < 8 * devices plan → 8 * (j / 8) + portsOf plan (j / 8) ≤ j
+
 -- the ports before q have sent: what waited there has left, and their bytes stand in front
-record Posted (old : State) (n : ℕ) (next₀ : State) (q : ℕ) (next : State) (sent : List ℕ) : Type 0 where
-  after : After (unqueued old) (8 * n) q next₀ next
-  filled : Filled 256 (8 * n) 256 (sends old) q sent
-  long : length next ≡ 2080
-  room : length sent ≡ 256
+record Posted (plan : Plan) (old next₀ : State) (q : ℕ) (next : State) (sent : List ℕ) : Type 0 where
+  after : After (unqueued old) (8 * devices plan) q next₀ next
+  long : length next ≡ words
+  room : length sent ≡ sentWords
+  front : (j : ℕ) → j < q → getD sent j nothing ≡ sends old j
+  rest : (j : ℕ) → q ≤ j → j < sentWords → Lacking plan j → getD sent j nothing ≡ nothing
 
-begun : (old : State) (n : ℕ) (next sent : List ℕ) → n ≤ 32 → length next ≡ 2080 → sent ≡ table 256 (λ _. 256) → Posted old n next 0 next sent
-begun old n next sent h l e =
-    record {
-      after = none;
-      filled =
-          record {
-            within = omega arith;
-            room = omega arith;
-            same = e ∙ same-table 256 (λ _. 256) (filling 256 (sends old) 0) (λ k g. sym (rw (le-ltb k 0 (omega arith))));
-          };
-      long = l;
-      room = ap length e ∙ length-table 256 (λ _. 256);
-    }
+begun : (plan : Plan) (old next : State) (sent : List ℕ) → length next ≡ words → Silent (devices plan) (plan .core .ports) sent → Posted plan old next 0 next sent
+begun plan old next sent l x =
+    record { after = none; long = l; room = x .size; front = λ j h. absurd (omega arith); rest = λ j a b h. x .unsent j b h }
 
-module _ {old : State} {n : ℕ} {next₀ : State} {q : ℕ} {next : State} {sent : List ℕ} (v : Posted old n next₀ q next sent) where
-  again : q < 8 * n → {byte : ℕ} → byte ≡ sends old q → {t : State} → t ≡ unqueued old q next → length t ≡ length next → Posted old n next₀ (q + 1) t (set sent q byte)
-  again h p e l =
+module _ {plan : Plan} {old next₀ : State} {q : ℕ} {next : State} {sent : List ℕ} (few : devices plan ≤ 32) (v : Posted plan old next₀ q next sent) where
+  again : q < 8 * devices plan → {byte : ℕ} → byte ≡ sends old q → {t : State} → t ≡ unqueued old q next → length t ≡ length next
+      → Posted plan old next₀ (q + 1) t (set sent q byte)
+  again h {byte} p e l =
       record {
         after = turn (v .after) h e;
-        filled = filled-more (v .filled) h p;
         long = l ∙ v .long;
-        room = length-set sent _ _ ∙ v .room;
+        room = length-set sent q byte ∙ v .room;
+        front = λ j m. elim (ℕ-discrete j q) [
+          | yes z ↦ rw z (getD-set-same sent q byte nothing (omega (arith, v .room)) ∙ p)
+          | no n ↦ getD-set-other sent q j byte nothing n ∙ v .front j (omega arith)
+        ];
+        rest = λ j a b m. getD-set-other sent q j byte nothing (omega arith) ∙ v .rest j (omega arith) b m;
       }
 
-  -- at the ports up to e nothing waits
-  skip : {e : ℕ} → q ≤ e → e ≤ 8 * n → ((j kind : ℕ) → q ≤ j → j < e → kind < 2 → waiting old kind j ≡ 0) → Posted old n next₀ e next sent
-  skip {e} l h w =
-      let none : (j : ℕ) → q ≤ j → j < e → chosen old j ≡ Nowhere = λ j a b. chosen-none old j (λ kind k. w j kind a b k) in
+  -- at the ports up to e nothing waits, since they are lacking
+  skip : {e : ℕ} → q ≤ e → e ≤ 8 * devices plan → ((j kind : ℕ) → q ≤ j → j < e → kind < 2 → waiting old kind j ≡ 0) → ((j : ℕ) → q ≤ j → j < e → Lacking plan j)
+      → Posted plan old next₀ e next sent
+  skip {e} l h w lacks =
+      let nowhere : (j : ℕ) → q ≤ j → j < e → chosen old j ≡ Nowhere = λ j a b. chosen-none old j (λ kind k. w j kind a b k) in
       record {
-        after = still (unqueued old) (v .after) l h (λ j a b. post-same old j next (none j a b));
-        filled = filled-still (v .filled) l h (λ j a b. post-nothing old j (none j a b));
+        after = still (unqueued old) (v .after) l h (λ j a b. post-same old j next (nowhere j a b));
         long = v .long;
         room = v .room;
+        front = λ j m. dite (decLt j q) (v .front j)
+            (λ n. v .rest j (omega arith) (omega arith) (lacks j (omega arith) m) ∙ sym (post-nothing old j (nowhere j (omega arith) m)));
+        rest = λ j a b m. v .rest j (omega arith) b m;
       }
 
+  -- all ports
+  all-sent : q ≡ 8 * devices plan → sent ≡ sentBytes plan old
+  unfolding sentBytes
+  all-sent e =
+      is-table sentWords _ sent nothing (v .room)
+      (λ j l. dite (decLt j (8 * devices plan)) (λ h. v .front j (omega arith) ∙ rw (lt-ltb j (8 * devices plan) h))
+      (λ h. v .rest j (omega arith) l (λ m. absurd (omega arith)) ∙ rw (le-ltb j (8 * devices plan) (omega arith))))
+
 abbrev Inv-loop2 : tie.InvT-loop2
-Inv-loop2 n ports old next₀ sent₀ d first end q₀ next sent q = ((start : State) → Posted old n start first next₀ sent₀ → Posted old n start q next sent) × (q ≤ end) × (end ≤ 8 * n)
+Inv-loop2 peers old next₀ sent₀ core d first end q₀ d-end next sent q =
+    ((start : State) → Posted (record { core = core; peers = peers }) old start first next₀ sent₀ → Posted (record { core = core; peers = peers }) old start q next sent)
+    × (q ≤ end)
+    × (end ≤ 8 * core .devices)
 
 abbrev μ-loop2 : tie.MeasureT-loop2
-μ-loop2 n ports old next₀ sent₀ d first end q₀ next sent q = end - q
+μ-loop2 peers old next₀ sent₀ core d first end q₀ d-end next sent q = end - q
 
 abbrev Inv-loop : tie.InvT-loop
-Inv-loop n ports old next₀ sent₀ d₀ next sent d = Posted old n next₀ (8 * d) next sent × (d ≤ n)
+Inv-loop peers old next₀ sent₀ core d₀ d-end next sent d =
+    Posted (record { core = core; peers = peers }) old next₀ (8 * d) next sent × (d ≤ d-end) × (d-end ≡ core .devices)
 
 abbrev μ-loop : tie.MeasureT-loop
-μ-loop n ports old next₀ sent₀ d₀ next sent d = n - d
-
-fill-requires : tie.Need-fill-requires Inv-loop2 μ-loop2 Inv-loop μ-loop
-fill-requires c κs = search needs
+μ-loop peers old next₀ sent₀ core d₀ d-end next sent d = d-end - d
 
 loop-holds : tie.Need-loop-holds Inv-loop2 μ-loop2 Inv-loop μ-loop
-loop-holds c =
-    let a = c .before .before .before .before .before .before .before .args in
-    (begun (a .old .now) (a .n) (a .next .now) (c .before .before .fill .last .0) (search needs) (search needs) (c .before .before .fill .ensures ∙ ap (λ (k : ℕ). table k (λ _. 256)) (omega arith)), omega arith)
+loop-holds c = let s = c .before .before .before in (begun _ _ _ _ (s .pre .2) (s .pre .3), omega arith, refl)
 
 mul-first : tie.Need-mul-first Inv-loop2 μ-loop2 Inv-loop μ-loop
-mul-first c = search needs
+mul-first c = omega (arith, c .before .before .before .before .before .pre .0 .few, c .before .loop .inv .2)
 
 element-copy-out-wide : tie.Need-element-copy-out-wide Inv-loop2 μ-loop2 Inv-loop μ-loop
-element-copy-out-wide c = search needs
+element-copy-out-wide c = omega (arith, c .before .before .before .before .before .pre .0 .few, c .before .loop .inv .2)
 
 wide-requires : tie.Need-wide-requires Inv-loop2 μ-loop2 Inv-loop μ-loop
 wide-requires c κs = search needs
 
 add-end : tie.Need-add-end Inv-loop2 μ-loop2 Inv-loop μ-loop
-add-end c = omega (arith, c .before .before .before .before .before .before .before .before .before .before .before .pre .1 (c .before .before .before .loop .d) (omega arith) .most)
+add-end c =
+    let s = c .before .before .before .before .before .before .before in
+    let l = c .before .before .before .loop in
+    omega (arith, s .pre .0 .few, l .inv .2, c .wide .ensures, s .pre .0 .most (l .d) (omega (arith, l .inv .2)))
 
 loop2-holds : tie.Need-loop2-holds Inv-loop2 μ-loop2 Inv-loop μ-loop
 loop2-holds c =
-    let most = c .before .before .before .before .before .before .before .before .before .before .before .pre .1 (c .before .before .before .loop .d) (omega arith) .most in
-    (λ start v. v, omega arith, omega arith)
+    let s = c .before .before .before .before .before .before .before in
+    let l = c .before .before .before .loop in
+    (λ start v. v, omega arith, omega (arith, l .inv .2, c .wide .ensures, s .pre .0 .most (l .d) (omega (arith, l .inv .2))))
 
 post-one-requires : tie.Need-post-one-requires Inv-loop2 μ-loop2 Inv-loop μ-loop
 post-one-requires c κs =
+    let s = c .before .before .before .before .before .before .before .before .before .before in
     let l = c .before .before in
-    (search needs, l .loop2 .inv .0 _ (l .before .before .before .before .loop .inv .0) .long, omega arith)
+    (s .pre .1 .absent .size, l .loop2 .inv .0 _ (l .before .before .before .before .loop .inv .0) .long, omega (arith, s .pre .0 .few, l .loop2 .inv .2))
 
 mul-sent : tie.Need-mul-sent Inv-loop2 μ-loop2 Inv-loop μ-loop
 mul-sent c = search needs
@@ -116,9 +136,10 @@ loop2-less c = search needs
 
 loop2-again : tie.Need-loop2-again Inv-loop2 μ-loop2 Inv-loop μ-loop
 loop2-again c =
+    let s = c .before .before .before .before .before .before .before .before .before .before .before .before .before in
     let b = c .before .before in
     let l = b .before .before .before .loop2 in
-    (λ start v. again (l .inv .0 start v) (omega arith) (b .post-one .ensures .0) (b .post-one .ensures .1) (b .post-one .kept .1 .1 .0), omega arith, l .inv .2)
+    (λ start v. again (s .pre .0 .few) (l .inv .0 start v) (omega (arith, l .inv .2)) (b .post-one .ensures .0) (b .post-one .ensures .1) (b .post-one .kept .1 .1 .0), omega arith, l .inv .2)
 
 add-d : tie.Need-add-d Inv-loop2 μ-loop2 Inv-loop μ-loop
 add-d c = search needs
@@ -130,9 +151,14 @@ loop-again : tie.Need-loop-again Inv-loop2 μ-loop2 Inv-loop μ-loop
 loop-again c =
     let l = c .before in
     let o = l .before .before .before .before in
-    let u = o .before .before .before .before .before .before .before .before .pre .1 (o .loop .d) (omega arith) in
-    let ports = l .before .wide .ensures in
-    (skip (l .loop2 .inv .0 _ (o .loop .inv .0)) (omega (arith, u .most)) (omega arith) (λ j kind a b. u .unused j kind (omega arith) (omega arith)), omega arith)
+    let s = o .before .before .before .before in
+    let u = s .pre .1 .unused (o .loop .d) (omega (arith, o .loop .inv .2)) in
+    let ports = l .before .wide .ensures in (
+      skip (s .pre .0 .few) (l .loop2 .inv .0 _ (o .loop .inv .0)) (omega (arith, u .most)) (omega arith) (λ j kind a b. u .unused j kind (omega arith) (omega arith))
+          (λ j a b _. let device : j / 8 ≡ o .loop .d = omega (arith, u .most) in rw device (omega arith)),
+      omega arith,
+      o .loop .inv .2,
+    )
 
 same-length : tie.Need-same-length Inv-loop2 μ-loop2 Inv-loop μ-loop
 same-length c = search needs
@@ -141,9 +167,11 @@ same-length-2 : tie.Need-same-length-2 Inv-loop2 μ-loop2 Inv-loop μ-loop
 same-length-2 c = search needs
 
 returns : tie.Need-returns Inv-loop2 μ-loop2 Inv-loop μ-loop
+unfolding posted
 returns c =
+    let s = c .before .before .before .before .before in
     let v = c .before .loop .inv in
-    (done (v .0 .after) (omega arith), filled-all (v .0 .filled) (omega arith))
+    (done (v .0 .after) (omega (arith, v .2)), all-sent (s .pre .0 .few) (v .0) (omega (arith, v .2)))
 
 pub post-all-spec : {M : Type 1} → statement M
 post-all-spec =
@@ -153,7 +181,6 @@ post-all-spec =
     μ-loop2
     Inv-loop
     μ-loop
-    fill-requires
     loop-holds
     mul-first
     element-copy-out-wide

@@ -8,8 +8,8 @@ use Rattle.bits.specs.Set.{bit}
 use Rattle.bits.proofs.Sets.{bit-two}
 use Rattle.bits.specs.declared.Found.the-variants.{At, Nowhere}
 use Rattle.codes.specs.Codes.{byteOf}
-use Rattle.bench.specs.State.{State, word, put}
-use Rattle.bench.specs.Round.{chosen, sends, unqueued}
+use Rattle.state.specs.State.{State, word, put, waiting}
+use Rattle.bench.specs.Round.{nothing, chosen, sends, unqueued}
 use Rattle.bench.proofs.Stepped.{chosen-place, post-nothing, post-same, post-interrupt, post-acknowledge, post-leaves}
 use borrow.Author.Needs.{needs}
 use Rattle.bench.proofs.rounds.post_one.Statement.{statement}
@@ -17,7 +17,7 @@ use Rattle.bench.proofs.rounds.post_one.Tie as tie
 
 -- of what the call found, by search and not by a path: a choice from another area is refused at this fact, and not for its shape
 module _ (old : State) (q : ℕ) (r : Found) (e : r ≡ chosen old q) where
-  none-sent : r ≡ Nowhere → 256 ≡ sends old q
+  none-sent : r ≡ Nowhere → nothing ≡ sends old q
   none-sent h = sym (post-nothing old q (sym e ∙ h))
 
   none-left : (s : State) → r ≡ Nowhere → s ≡ unqueued old q s
@@ -27,13 +27,16 @@ small : (x k : ℕ) {b : ℕ} → b ≡ bit x k → b < 2
 small x k e = omega (arith, e, bit-two x k)
 
 -- an interrupt's bit is 1, and its kind 0
-byte-sent : (old : State) (q : ℕ) {k b : ℕ} → chosen old q ≡ At k → b ≡ bit (word old (1056 + 4 * q)) k → byteOf (1 - b) k ≡ sends old q
+byte-sent : (old : State) (q : ℕ) {k b : ℕ} → chosen old q ≡ At k → b ≡ bit (waiting old 0 q) k → byteOf (1 - b) k ≡ sends old q
 byte-sent old q {k} e f =
-    let two = bit-two (word old (1056 + 4 * q)) k in
-    elim (ℕ-discrete (bit (word old (1056 + 4 * q)) k) 1) [
+    let two = bit-two (waiting old 0 q) k in
+    elim (ℕ-discrete (bit (waiting old 0 q) k) 1) [
       | yes h ↦ omega (arith, f, h) ∙ sym (post-interrupt old q e h)
       | no n ↦ omega (arith, f, n, two) ∙ sym (post-acknowledge old q e n)
     ]
+
+found : (c : tie.After-found) → chosen (c .before .before .before .before .before .args .old .now) (c .before .before .before .before .before .args .q) ≡ At (c .found .given .0 .0)
+found c = sym (c .before .before .choice .ensures) ∙ c .found .given .1
 
 mul-at : tie.Need-mul-at
 mul-at c = search needs
@@ -53,8 +56,8 @@ enum-told c = search needs
 returns : tie.Need-returns
 returns c = (search none-sent, search none-left)
 
-found : (c : tie.After-found) → chosen (c .before .before .before .before .before .args .old .now) (c .before .before .before .before .before .args .q) ≡ At (c .found .given .0 .0)
-found c = sym (c .before .before .choice .ensures) ∙ c .found .given .1
+add-leave : tie.Need-add-leave
+add-leave c = search needs
 
 mul-leave : tie.Need-mul-leave
 mul-leave c = search needs
@@ -65,14 +68,17 @@ slice-read-leave c = search needs
 leave-requires : tie.Need-leave-requires
 leave-requires c κs = search needs
 
+add-next : tie.Need-add-next
+add-next c = search needs
+
 mul-next : tie.Need-mul-next
 mul-next c = search needs
 
 slice-write-next : tie.Need-slice-write-next
 slice-write-next c = search needs
 
-add-leave : tie.Need-add-leave
-add-leave c = search needs
+add-leave-2 : tie.Need-add-leave-2
+add-leave-2 c = search needs
 
 mul-leave-2 : tie.Need-mul-leave-2
 mul-leave-2 c = search needs
@@ -83,8 +89,8 @@ slice-read-leave-2 c = simp length-set (omega arith)
 leave-requires-2 : tie.Need-leave-requires-2
 leave-requires-2 c κs = search needs
 
-add-next : tie.Need-add-next
-add-next c = search needs
+add-next-2 : tie.Need-add-next-2
+add-next-2 c = search needs
 
 mul-next-2 : tie.Need-mul-next-2
 mul-next-2 c = search needs
@@ -92,17 +98,20 @@ mul-next-2 c = search needs
 slice-write-next-2 : tie.Need-slice-write-next-2
 slice-write-next-2 c = simp length-set (omega arith)
 
-add-next-2 : tie.Need-add-next-2
-add-next-2 c = omega (arith, chosen-place _ _ (found (c .before .before .before .before .before)))
-
 add-next-3 : tie.Need-add-next-3
-add-next-3 c = search needs
+add-next-3 c = omega (arith, chosen-place _ _ (found (c .before .before .before .before .before)))
+
+add-next-4 : tie.Need-add-next-4
+add-next-4 c = search needs
 
 mul-next-3 : tie.Need-mul-next-3
 mul-next-3 c = search needs
 
 slice-write-next-3 : tie.Need-slice-write-next-3
 slice-write-next-3 c = simp length-set (omega arith)
+
+add-get : tie.Need-add-get
+add-get c = search needs
 
 mul-get : tie.Need-mul-get
 mul-get c = search needs
@@ -147,22 +156,25 @@ post-one-spec =
     enum-known-found
     enum-told
     returns
+    add-leave
     mul-leave
     slice-read-leave
     leave-requires
+    add-next
     mul-next
     slice-write-next
-    add-leave
+    add-leave-2
     mul-leave-2
     slice-read-leave-2
     leave-requires-2
-    add-next
+    add-next-2
     mul-next-2
     slice-write-next-2
-    add-next-2
     add-next-3
+    add-next-4
     mul-next-3
     slice-write-next-3
+    add-get
     mul-get
     shared-slice-read-get
     get-requires

@@ -3,7 +3,7 @@ use mathlib.Core.Logic.{⊎-elim}
 use lib.ListN.{length, set, length-set}
 use lib.Seq.{set-out}
 use Rattle.bench.specs.Round.{toldWord}
-use Rattle.bench.proofs.Tellings.{note-one}
+use Rattle.bench.proofs.Following.{note-one}
 use borrow.Author.Needs.{needs}
 use Rattle.bench.proofs.rounds.tell.Statement.{statement}
 use Rattle.bench.proofs.rounds.tell.Tie as tie

@@ -6,9 +6,10 @@ use native.Mathlib.Omega.{arith}
 use lib.Dec.{eqb}
 use lib.ListN.{length, getD}
 use Rattle.areas.specs.Loop.{upTo}
+use Rattle.state.specs.State.{words}
 use Rattle.bench.specs.Round.{tick}
-use Rattle.bench.specs.Telling.{Seen, seen, Follows}
-use Rattle.bench.proofs.Tellings.{follows-none, follows-block, follows-done}
+use Rattle.bench.specs.Shown.{Seen, seen, Follows}
+use Rattle.bench.proofs.Following.{follows-none, follows-block, follows-done}
 use Rattle.bench.proofs.Idles.{ticks, ticks-of, rests-yet}
 use borrow.Author.Needs.{needs}
 use Rattle.bench.proofs.rounds.tick_all.Statement.{statement}
@@ -21,7 +22,7 @@ router role d = eqb (getD role d 0) 1
 record Ticked (role : List ℕ) (n size : ℕ) (x : Seen) (d : ℕ) (y : Seen) : Type 0 where
   within : d ≤ n
   count : y .count ≤ 32 * d
-  state : length (y .state) ≡ 2080
+  state : length (y .state) ≡ words
   area : length (y .area) ≡ size
   follows : Follows (upTo (ticks (router role)) (32 * d)) x y
 

@@ -10,10 +10,10 @@ use Rattle.areas.specs.Loop.{upTo}
 use Rattle.bits.specs.Set.{bit, leave}
 use Rattle.bits.proofs.Sets.{bit-zero, leave-same, leave-other, leave-lt, leave-less}
 use Rattle.bits.proofs.Trailing.{trailing-below, trailing-at, trailing-lt}
-use Rattle.bench.specs.State.{word, timer}
+use Rattle.state.specs.State.{words, word, timer}
 use Rattle.bench.specs.Round.{tick}
-use Rattle.bench.specs.Telling.{Seen, seen, Follows}
-use Rattle.bench.proofs.Tellings.{follows-none, follows-more}
+use Rattle.bench.specs.Shown.{Seen, seen, Follows}
+use Rattle.bench.proofs.Following.{follows-none, follows-more}
 use Rattle.bench.proofs.Idles.{rests-follows}
 use borrow.Author.Needs.{needs}
 use Rattle.bench.proofs.rounds.tick_device.Statement.{statement}
@@ -27,7 +27,7 @@ record Ticking (router : Bool) (d size : ℕ) (x : Seen) (rest : ℕ) (y : Seen)
   past : (k : ℕ) → k < at → bit rest k ≡ 0
   idle : (k : ℕ) → at ≤ k → k < 32 → bit rest k ≡ 0 → timer (x .state) d k ≡ 0
   count : y .count ≤ x .count + at
-  state : length (y .state) ≡ 2080
+  state : length (y .state) ≡ words
   area : length (y .area) ≡ size
   follows : Follows (upTo (tick router d) at) x y
 

@@ -1,7 +1,7 @@
 use native.Mathlib.Omega.{arith}
 use lib.ListN.{length-set}
-use Rattle.bench.specs.State.{word, put}
-use Rattle.bench.proofs.Tellings.{silent, noted}
+use Rattle.state.specs.State.{word, put}
+use Rattle.bench.proofs.Following.{silent, noted}
 use Rattle.bench.proofs.Stepped.{tick-idle, tick-falls, tick-ends, tick-tells}
 use borrow.Author.Needs.{needs}
 use Rattle.bench.proofs.rounds.tick_one.Statement.{statement}

@@ -1,6 +1,7 @@
-use mathlib.Core.Path.{sym, ap}
+use mathlib.Core.Path.{sym, ap, _∙_}
 use Rattle.codes.specs.declared.Code.{Code}
-use Rattle.bench.specs.State.{put}
+use Rattle.state.specs.State.{put}
+use Rattle.state.specs.Network.{loadFor}
 use Rattle.bench.specs.Round.{timed}
 use borrow.Author.Needs.{needs}
 use Rattle.bench.proofs.rounds.time.Statement.{statement}
@@ -8,6 +9,12 @@ use Rattle.bench.proofs.rounds.time.Tie as tie
 
 enum-known-code : tie.Need-enum-known-code
 enum-known-code c = search needs
+
+cast-load-for : tie.Need-cast-load-for
+cast-load-for c = search needs
+
+load-for-requires : tie.Need-load-for-requires
+load-for-requires c κs = search needs
 
 mul-state : tie.Need-mul-state
 mul-state c = search needs
@@ -59,28 +66,38 @@ same-length c = search needs
 
 returns : tie.Need-returns
 unfolding put timed
-returns c = sym (ap (λ (x : Code). timed (λ _. c .before .before .before .args .load) (c .before .before .before .args .d) x (c .before .before .before .args .state .now)) (c .before .code .given .1))
+returns c =
+    let a = c .before .before .before .before .before .args in
+    sym (ap (λ (x : Code). timed (loadFor (a .loads) (a .role)) (a .d) x (a .state .now)) (c .before .before .code .given .1) ∙ ap (put (a .state .now) _) (sym (c .load-for .ensures)))
 
 same-length-2 : tie.Need-same-length-2
 same-length-2 c = search needs
 
 returns-2 : tie.Need-returns-2
 unfolding put timed
-returns-2 c = sym (ap (λ (x : Code). timed (λ _. c .before .before .before .args .load) (c .before .before .before .args .d) x (c .before .before .before .args .state .now)) (c .before .code2 .given .1))
+returns-2 c =
+    let a = c .before .before .before .before .args in
+    sym (ap (λ (x : Code). timed (loadFor (a .loads) (a .role)) (a .d) x (a .state .now)) (c .before .code2 .given .1))
 
 returns-3 : tie.Need-returns-3
 unfolding timed
-returns-3 c = sym (ap (λ (x : Code). timed (λ _. c .before .before .args .load) (c .before .before .args .d) x (c .before .before .args .state .now)) (c .enum-told .given .1))
+returns-3 c =
+    let a = c .before .before .before .args in
+    sym (ap (λ (x : Code). timed (loadFor (a .loads) (a .role)) (a .d) x (a .state .now)) (c .enum-told .given .1))
 
 returns-4 : tie.Need-returns-4
 unfolding timed
-returns-4 c = sym (ap (λ (x : Code). timed (λ _. c .before .before .args .load) (c .before .before .args .d) x (c .before .before .args .state .now)) (c .enum-told2 .given .1))
+returns-4 c =
+    let a = c .before .before .before .args in
+    sym (ap (λ (x : Code). timed (loadFor (a .loads) (a .role)) (a .d) x (a .state .now)) (c .enum-told2 .given .1))
 
 pub time-spec : {M : Type 1} → statement M
 time-spec =
     tie.close
     (tie.spec
     enum-known-code
+    cast-load-for
+    load-for-requires
     mul-state
     add-state
     cast-state

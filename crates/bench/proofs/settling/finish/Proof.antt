@@ -1,14 +1,15 @@
 use mathlib.Core.Path.{_≡_, refl, ap, _∙_}
 use mathlib.Core.Bool.{cond}
+use mathlib.Core.List.{List}
 use mathlib.Core.Logic.{⊎-elim}
 use Prim.Native.Nat.{ℕ}
 use native.Mathlib.Omega.{arith}
 use lib.ListN.{length}
 use borrow.Author.Tests.{not-true, not-false}
 use Rattle.areas.specs.Table.{table}
-use Rattle.bench.specs.Telling.{pair}
-use Rattle.bench.proofs.Played.{copied-same}
-use Rattle.bench.proofs.Settled.{both-long}
+use Rattle.bench.specs.Shown.{pair}
+use Rattle.state.specs.State.{words}
+use Rattle.bench.proofs.SettlingLoop.{of-either, copied-same}
 use borrow.Author.Needs.{needs}
 use Rattle.bench.proofs.settling.finish.Statement.{statement}
 use Rattle.bench.proofs.settling.finish.Tie as tie
@@ -19,10 +20,10 @@ used c =
     let home = c .before .before .before .args .home in
     ⊎-elim (λ w. rw (not-true home (w .0 .taken)) (w .6 ∙ w .3 .ensures ∙ copied-same _ _ (omega arith))) (λ w. rw (not-false home (w .0 .left)) (w .1)) (c .if1 .came)
 
-long : (c : tie.Joined1) → length (c .if1 .state) ≡ 2080
+long : (c : tie.Joined1) → length (c .if1 .state) ≡ words
 long c =
     let a = c .before .before .before in
-    ap length (used c) ∙ both-long (a .args .home) _ _ (a .pre .0) (a .pre .1)
+    ap length (used c) ∙ of-either (λ (l : List ℕ). length l ≡ words) (a .args .home) _ _ (a .pre .0) (a .pre .1)
 
 copy-requires : tie.Need-copy-requires
 copy-requires c κs = search needs

@@ -1,17 +1,21 @@
-use mathlib.Core.Path.{_≡_, sym, ap, subst, _∙_}
-use mathlib.Core.Bool.{Bool, cond}
+-- `bench::settling::run` meets its contract: the two areas take turns. Assumes nothing.
+use mathlib.Core.Path.{_≡_, sym, subst, _∙_}
+use mathlib.Core.Bool.{Bool, cond, not}
 use mathlib.Core.List.{List}
-use Prim.Native.Nat.{ℕ, _-_}
+use Prim.Native.Nat.{ℕ, _+_, _-_, _<_}
 use native.Mathlib.Omega.{arith}
-use lib.ListN.{length}
+use Rattle.answers.proofs.Outcomes.{granted, denied}
+use Rattle.plan.specs.Reading.{Held}
 use Rattle.plan.specs.declared.Plan.{Plan}
-use Rattle.bench.specs.State.{State}
-use Rattle.bench.specs.Sound.{Sound}
-use Rattle.bench.specs.Round.{Round}
-use Rattle.bench.proofs.Idles.{held-laid, sound-idles}
-use Rattle.bench.proofs.Playings.{decided, refuted, round-stripped}
-use Rattle.bench.proofs.Settled.{flip, Ran, ran-none, ran-more, settled, spent}
-use Rattle.bench.proofs.Timers.{rounds-sound}
+use Rattle.state.specs.State.{State}
+use Rattle.state.specs.Network.{devices}
+use Rattle.state.specs.Sound.{Sound}
+use Rattle.bench.specs.Round.{round}
+use Rattle.bench.specs.Idle.{Blank, Silent}
+use Rattle.bench.specs.Settling.{Quiet}
+use Rattle.bench.proofs.Idles.{held-laid, sound-idles, sound-blank, zeros-blank, silent-repeat}
+use Rattle.bench.proofs.RoundSound.{round-sound, rounds-sound}
+use Rattle.bench.proofs.SettlingLoop.{flip, of-either, of-both, Ran, ran-none, ran-more, settled, spent}
 use borrow.Author.Needs.{needs}
 use Rattle.bench.proofs.settling.run.Statement.{statement}
 use Rattle.bench.proofs.settling.run.Tie as tie
@@ -19,37 +23,64 @@ use Rattle.bench.proofs.settling.run.Tie as tie
 -- the invariant: what is known before each round
 record Known (plan : Plan) (s : State) (allowance n : ℕ) (home : Bool) (state second sent : List ℕ) : Type 0 where
   ran : Ran plan s allowance n (cond home state second)
-  long : length state ≡ 2080
-  long-second : length second ≡ 2080
-  long-sent : length sent ≡ 256
+  blank : Blank (devices plan) state
+  blank-second : Blank (devices plan) second
+  silent : Silent (devices plan) (plan .core .ports) sent
+
+module _ {plan : Plan} (held : Held plan) {s : State} (sound : Sound plan s) {allowance n : ℕ} {home : Bool} {state second sent : List ℕ}
+    (k : Known plan s allowance n home state second sent)
+  where
+    -- the state in use is sound
+    in-use : Sound plan (cond home state second)
+    in-use = subst (Sound plan) (sym (k .ran .is)) (rounds-sound plan held s sound n)
+
+    other : Blank (devices plan) (cond home second state)
+    other = of-either (Blank (devices plan)) home second state (k .blank-second) (k .blank)
+
+    -- a round leads to the other area, and leaves the one in use
+    known-more : {state' second' sent' : List ℕ} → (Quiet (cond home state second) → ⊥) → n < allowance
+        → cond home second' state' ≡ round plan (cond home state second) .next
+        → cond home state' second' ≡ cond home state second
+        → Silent (devices plan) (plan .core .ports) sent'
+        → Known plan s allowance (n + 1) (not home) state' second' sent'
+    known-more {state'} {second'} waits l next left mute =
+        let blanks =
+        of-both (Blank (devices plan)) home state' second' (subst (Blank (devices plan)) (sym left) (sound-blank plan held in-use))
+        (subst (Blank (devices plan)) (sym next) (sound-blank plan held (round-sound plan held _ in-use))) in
+        record {
+          ran = ran-more (k .ran) waits (omega arith) (flip home state' second' ∙ next);
+          blank = blanks .0;
+          blank-second = blanks .1;
+          silent = mute;
+        }
 
 abbrev Inv-loop : tie.InvT-loop
-Inv-loop core state₀ second₀ allowance peers loads roles ports permissions sent₀ told₀ home₀ n₀ state second sent told home n = Known (record { core = core; peers = peers }) state₀ allowance n home state second sent
+Inv-loop core state₀ second₀ allowance peers sent₀ told₀ home₀ n₀ state second sent told home n = Known (record { core = core; peers = peers }) state₀ allowance n home state second sent
 
 abbrev μ-loop : tie.MeasureT-loop
-μ-loop core state₀ second₀ allowance peers loads roles ports permissions sent₀ told₀ home₀ n₀ state second sent told home n = allowance - n
+μ-loop core state₀ second₀ allowance peers sent₀ told₀ home₀ n₀ state second sent told home n = allowance - n
 
 loop-holds : tie.Need-loop-holds Inv-loop μ-loop
-loop-holds c = record { ran = ran-none; long = c .before .before .before .before .before .before .pre .1 .size; long-second = search needs; long-sent = search needs }
+loop-holds c =
+    let p = c .before .before .pre in
+    record { ran = ran-none; blank = sound-blank _ (p .0) (p .1); blank-second = zeros-blank _ (p .2); silent = silent-repeat _ _ }
 
 quiet-in-requires : tie.Need-quiet-in-requires Inv-loop μ-loop
-quiet-in-requires c κs = search needs
+quiet-in-requires c κs = let l = c .before .before .loop in (held-laid _ (c .before .before .before .before .before .pre .0) .few, l .inv .blank, l .inv .blank-second)
 
 finish-requires : tie.Need-finish-requires Inv-loop μ-loop
-finish-requires c κs = search needs
+finish-requires c κs = let l = c .before .before .before .before .before .before .before .loop in (l .inv .blank .size, l .inv .blank-second .size)
 
 same-length : tie.Need-same-length Inv-loop μ-loop
 same-length c = search needs
 
 same-length-2 : tie.Need-same-length-2 Inv-loop μ-loop
-same-length-2 c = search needs
+same-length-2 c = c .before .before .before .before .finish .kept .1 .1 .0 ∙ c .before .before .before .before .before .before .before .before .before .before .before .before .loop .inv .blank-second .size ∙ sym (zeros-blank 0 (c .before .before .before .before .before .before .before .before .before .before .before .before .before .before .before .pre .2) .size)
 
 returns : tie.Need-returns Inv-loop μ-loop
 returns c =
-    let l = c .before .before .before .before .before .before .before .before .before .before .before .before .loop in
-    let p = c .before .before .before .before .before .before .before .before .before .before .before .before .before .before .before .before .before .before .before .pre in
     rw (c .before .before .before .before .finish .ensures .0)
-    (spent _ _ _ (p .0) (p .1) (p .2) (p .3) (l .inv .ran) (c .before .before .before .before .finish .ensures .1) (refuted (c .before .before .before .before .before .before .before .before .before .quiet-in .ensures) (c .before .before .before .before .before .before .before .before .if1 .taken)) (c .before .before .before .before .before .before .before .if2 .taken))
+    (spent (c .before .before .before .before .before .before .before .before .before .before .before .before .loop .inv .ran) (c .before .before .before .before .finish .ensures .1) (denied (c .before .before .before .before .before .before .before .before .before .quiet-in .ensures) (c .before .before .before .before .before .before .before .before .if1 .taken)) (c .before .before .before .before .before .before .before .if2 .taken))
 
 slice-aggregate-advance : tie.Need-slice-aggregate-advance Inv-loop μ-loop
 slice-aggregate-advance c = search needs
@@ -62,10 +93,9 @@ slice-aggregate-advance-2 c = search needs
 
 advance-requires : tie.Need-advance-requires Inv-loop μ-loop
 advance-requires c κs =
-    let l = c .before .before .before .before .before .before .before .before .before .before .before .before .before .loop in
-    let b = l .inv in
-    let p = c .before .before .before .before .before .before .before .before .before .before .before .before .before .before .before .before .before .before .before .before .pre in
-    (held-laid _ (p .0), sound-idles _ (p .0) (subst (Sound _) (sym (b .ran .is)) (rounds-sound _ (p .0) _ (p .1) (l .n))), b .long, b .long-second, b .long-sent)
+    let p = c .before .before .before .before .before .before .before .before .before .before .before .before .before .pre in
+    let k = c .before .before .before .before .before .before .before .before .before .before .loop .inv in
+    (held-laid _ (p .0), sound-idles _ (p .0) (in-use (p .0) (p .1) k), other (p .0) (p .1) k, k .silent)
 
 add-n : tie.Need-add-n Inv-loop μ-loop
 add-n c = search needs
@@ -75,32 +105,24 @@ loop-less c = search needs
 
 loop-again : tie.Need-loop-again Inv-loop μ-loop
 loop-again c =
-    let b = c .before .before .before .before .before .before .before .before .before .before .before .before .before .before .before in
-    let l = b .before .before .before .before .before .loop in
-    let v = c .before .before .before .before .before .before .advance in
-    let w = l .inv .ran .within in
-    record {
-      ran = ran-more (l .inv .ran) (refuted (b .before .before .quiet-in .ensures) (b .before .if1 .taken)) (omega (arith, b .if2 .left)) (flip (l .home) _ _ ∙ v .ensures ∙ ap (λ (r : Round). r .next) (round-stripped _ _));
-      long = v .kept .1 .1 .1 .1 .1 .1 .1 .0 ∙ l .inv .long;
-      long-second = v .kept .1 .1 .1 .1 .1 .1 .1 .1 .0 ∙ l .inv .long-second;
-      long-sent = v .kept .1 .1 .1 .1 .1 .1 .1 .1 .1 .0 ∙ l .inv .long-sent;
-    }
+    let p = c .before .before .before .before .before .before .before .before .before .before .before .before .before .before .before .before .before .before .before .before .pre in
+    let k = c .before .before .before .before .before .before .before .before .before .before .before .before .before .before .before .before .before .loop .inv in
+    let v = c .before .before .before .before .before .before .advance .ensures in
+    known-more (p .0) (p .1) k (denied (c .before .before .before .before .before .before .before .before .before .before .before .before .before .before .quiet-in .ensures) (c .before .before .before .before .before .before .before .before .before .before .before .before .before .if1 .taken)) (omega (arith, k .ran .within, c .before .before .before .before .before .before .before .before .before .before .before .before .if2 .left)) (v .0) (v .1) (v .2)
 
 finish-requires-2 : tie.Need-finish-requires-2 Inv-loop μ-loop
-finish-requires-2 c κs = search needs
+finish-requires-2 c κs = let l = c .before .before .before .before .before .before .loop in (l .inv .blank .size, l .inv .blank-second .size)
 
 same-length-3 : tie.Need-same-length-3 Inv-loop μ-loop
 same-length-3 c = search needs
 
 same-length-4 : tie.Need-same-length-4 Inv-loop μ-loop
-same-length-4 c = search needs
+same-length-4 c = c .before .before .before .before .finish2 .kept .1 .1 .0 ∙ c .before .before .before .before .before .before .before .before .before .before .before .loop .inv .blank-second .size ∙ sym (zeros-blank 0 (c .before .before .before .before .before .before .before .before .before .before .before .before .before .before .pre .2) .size)
 
 returns-2 : tie.Need-returns-2 Inv-loop μ-loop
 returns-2 c =
-    let l = c .before .before .before .before .before .before .before .before .before .before .before .loop in
-    let p = c .before .before .before .before .before .before .before .before .before .before .before .before .before .before .before .before .before .before .pre in
     rw (c .before .before .before .before .finish2 .ensures .0)
-    (settled _ _ _ (p .0) (p .1) (p .2) (p .3) (l .inv .ran) (c .before .before .before .before .finish2 .ensures .1) (decided (c .before .before .before .before .before .before .before .before .quiet-in .ensures) (c .before .before .before .before .before .before .before .if1 .left)))
+    (settled (c .before .before .before .before .before .before .before .before .before .before .before .loop .inv .ran) (c .before .before .before .before .finish2 .ensures .1) (granted (c .before .before .before .before .before .before .before .before .quiet-in .ensures) (c .before .before .before .before .before .before .before .if1 .left)))
 
 pub run-spec : {M : Type 1} → statement M
 run-spec =

@@ -1,14 +1,14 @@
-use mathlib.Core.Path.{refl}
+use mathlib.Core.Path.{_∙_}
 use native.Mathlib.Omega.{arith}
-use Rattle.plan.proofs.BothWays.{held-devices, held-few}
-use Rattle.bench.proofs.Started.{is-started}
-use Rattle.bench.proofs.Tried.{is-small, is-refused, is-sound, is-tried}
+use Rattle.plan.proofs.BothWays.{held-devices}
+use Rattle.calls.proofs.Asked.{called-in}
+use Rattle.bench.proofs.Tried.{is-begun, is-small, is-refused, is-sound, is-tried, ends-second}
 use borrow.Author.Needs.{needs}
 use Rattle.bench.proofs.trial.attempt.Statement.{statement}
 use Rattle.bench.proofs.trial.attempt.Tie as tie
 
-write-first-requires : tie.Need-write-first-requires
-write-first-requires c κs = search needs
+begin-requires : tie.Need-begin-requires
+begin-requires c κs = search needs
 
 send-refusal-requires : tie.Need-send-refusal-requires
 send-refusal-requires c κs = search needs
@@ -21,24 +21,24 @@ same-length c = search needs
 
 returns : tie.Need-returns
 returns c =
-    let e = c .before in
-    let a = e .before .before .before .before .before .before .before .before .before .before .before .before in
-    rw (c .refused .ensures)
-    (is-refused _ (a .pre .0) _ _ (a .pre .4) (is-started _ refl (e .before .before .before .before .before .before .before .write-first .ensures)) (e .before .send-refusal .ensures) (e .if1 .taken))
+    let s = c .before .before .before .before .before .before .before .before .before .before .before .before .before in
+    let p = s .pre in
+    let fresh = is-begun _ _ (p .1) (c .before .before .before .before .before .before .before .before .begin .ensures) in
+    let answer = c .before .before .send-refusal .ensures in
+    (rw (c .refused .ensures) (is-refused _ (p .0) _ _ (p .4) fresh answer (c .before .if1 .taken)), p .2)
 
 take-requires : tie.Need-take-requires
-take-requires c κs =
-    let e = c .before in
-    let a = e .before .before .before .before .before .before .before .before .before .before .before .before in
-    (search needs, a .pre .3, is-small _ (a .pre .0) _ _ (a .pre .4), held-few _ (a .pre .0) _ (a .pre .3) .0, omega arith)
+take-requires c κs = search needs
 
 run-requires : tie.Need-run-requires
 run-requires c κs =
-    let e = c .before .before .before .before .before .before in
-    let a = e .before .before .before .before .before .before .before .before .before .before .before .before in
-    let sound =
-    is-sound _ (a .pre .0) _ _ (a .pre .4) (is-started _ refl (e .before .before .before .before .before .before .before .write-first .ensures)) (e .before .send-refusal .ensures) (e .if1 .left) (c .before .before .before .before .take .ensures _)
-    in (a .pre .0, sound, search needs, omega arith)
+    let s = c .before .before .before .before .before .before .before .before .before .before .before .before .before .before .before .before .before .before in
+    let p = s .pre in
+    let fresh = is-begun _ _ (p .1) (c .before .before .before .before .before .before .before .before .before .before .before .before .before .begin .ensures) in
+    let answer = c .before .before .before .before .before .before .before .send-refusal .ensures in
+    let z = c .before .before .before .before .before .before .if1 .left in
+    let taken = c .before .before .before .before .take .ensures _ ∙ called-in _ _ _ _ _ (c .before .before .before .before .before .before .before .before .before .before .before .before .before .begin .kept .1 .0 ∙ p .1) (p .3) (is-small _ (p .0) _ _ (p .4)) (omega arith) in
+    (p .0, is-sound _ (p .0) _ _ (p .4) fresh answer z taken, p .2, omega arith)
 
 holders-requires : tie.Need-holders-requires
 holders-requires c κs = (held-devices _ (c .before .before .before .before .before .before .before .before .before .before .before .before .before .before .before .before .before .before .before .before .before .before .before .before .pre .0) .1, search needs)
@@ -51,16 +51,19 @@ same-length-3 c = search needs
 
 returns-2 : tie.Need-returns-2
 returns-2 c =
-    let e = c .before .before .before .before .before .before .before .before .before .before .before .before .before in
-    let a = e .before .before .before .before .before .before .before .before .before .before .before .before in
-    is-tried _ (a .pre .0) _ _ (a .pre .4) (is-started _ refl (e .before .before .before .before .before .before .before .write-first .ensures)) (e .before .send-refusal .ensures) (e .if1 .left) (c .before .before .before .before .before .before .before .before .before .before .before .take .ensures _)
-    (a .pre .2) (c .before .before .before .before .before .before .run .ensures) (c .holders .ensures)
+    let s = c .before .before .before .before .before .before .before .before .before .before .before .before .before .before .before .before .before .before .before .before .before .before .before .before .before in
+    let p = s .pre in
+    let fresh = is-begun _ _ (p .1) (c .before .before .before .before .before .before .before .before .before .before .before .before .before .before .before .before .before .before .before .before .begin .ensures) in
+    let answer = c .before .before .before .before .before .before .before .before .before .before .before .before .before .before .send-refusal .ensures in
+    let z = c .before .before .before .before .before .before .before .before .before .before .before .before .before .if1 .left in
+    let taken = c .before .before .before .before .before .before .before .before .before .before .before .take .ensures _ ∙ called-in _ _ _ _ _ (c .before .before .before .before .before .before .before .before .before .before .before .before .before .before .before .before .before .before .before .before .begin .kept .1 .0 ∙ p .1) (p .3) (is-small _ (p .0) _ _ (p .4)) (omega arith) in
+    (is-tried _ (p .0) _ _ (p .4) fresh answer z taken (c .before .before .before .before .before .before .run .ensures) (c .holders .ensures), ends-second (c .before .before .before .before .before .before .run .ensures))
 
 pub attempt-spec : {M : Type 1} → statement M
 attempt-spec =
     tie.close
     (tie.spec
-    write-first-requires
+    begin-requires
     send-refusal-requires
     refused-requires
     same-length

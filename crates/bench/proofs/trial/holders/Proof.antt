@@ -3,7 +3,7 @@ use Prim.Native.Nat.{_-_, _*_, _≤_}
 use lib.ListN.{getD}
 use native.Mathlib.Omega.{arith}
 use Rattle.bits.proofs.Sets.{bit-two}
-use Rattle.bench.specs.State.{word}
+use Rattle.state.specs.State.{word}
 use Rattle.bench.specs.Trials.{holders}
 use Rattle.bench.proofs.Tried.{holders-few, holders-more}
 use borrow.Author.Needs.{needs}

@@ -6,7 +6,9 @@ use native.Mathlib.Omega.{arith}
 use lib.ListN.{length, getD, set, length-set}
 use Rattle.answers.specs.Ordered.{Condition, Ordered}
 use Rattle.plan.specs.declared.Plan.{Plan}
-use Rattle.bench.specs.Steps.{placeAsks}
+use Rattle.areas.specs.Table.{table}
+use Rattle.state.specs.State.{words}
+use Rattle.bench.specs.Trials.{placeAsks}
 use Rattle.bench.specs.Trials.{Tries}
 use Rattle.bench.specs.declared.trial.Tried.{Tried}
 use Rattle.bench.proofs.Tried.{is-foreign, Found, found-none, found-more, found-all}
@@ -18,15 +20,15 @@ use Rattle.bench.proofs.trial.try_all.Tie as tie
 record Going (plan : Plan) (i : ℕ) (state second found : List ℕ) : Type 0 where
   within : i ≤ 1024
   so-far : Found plan i found
-  long : length state ≡ 2080
-  long-second : length second ≡ 2080
+  long : length state ≡ words
+  cleared : second ≡ table words (λ _. 0)
 
 -- one place more
 goes-on : {plan : Plan} {i : ℕ} {state second found after after-second : List ℕ} {t : Tried} → Going plan i state second found → i < 1024
-    → Tries plan (i / 32) (i % 32) (t .number) (t .rounds) (t .held) → length after ≡ length state → length after-second ≡ length second
+    → Tries plan (i / 32) (i % 32) (t .number) (t .rounds) (t .held) → length after ≡ length state → after-second ≡ table words (λ _. 0)
     → Going plan (i + 1) after after-second (set (set (set found (3 * i) (t .number)) (3 * i + 1) (t .rounds)) (3 * i + 2) (t .held))
 goes-on v l t p q =
-    record { within = omega arith; so-far = found-more (v .so-far) l t; long = p ∙ v .long; long-second = q ∙ v .long-second }
+    record { within = omega arith; so-far = found-more (v .so-far) l t; long = p ∙ v .long; cleared = q }
 
 as-tried : {plan : Plan} {d k : ℕ} {t u : Tried} → t ≡ u → Tries plan d k (u .number) (u .rounds) (u .held) → Tries plan d k (t .number) (t .rounds) (t .held)
 as-tried {plan} {d} {k} e x = subst (λ (t : Tried). Tries plan d k (t .number) (t .rounds) (t .held)) (sym e) x
@@ -44,7 +46,7 @@ abbrev μ-loop : tie.MeasureT-loop
 loop-holds : tie.Need-loop-holds Inv-loop μ-loop
 loop-holds c =
     let p = c .before .before .before .pre in
-    record { within = omega arith; so-far = found-none (p .3); long = p .1; long-second = p .2 }
+    record { within = omega arith; so-far = found-none (p .3); long = p .1; cleared = p .2 }
 
 cast-k : tie.Need-cast-k Inv-loop μ-loop
 cast-k c = search needs
@@ -67,7 +69,7 @@ attempt-requires c κs =
     let s = c .before .before .before .before .before .before .before .before .before .before .before .before in
     let core = s .args .t1 in
     let asks = placeAsks (core .devices) (l .i / 32) (getD (core .source) (l .i / 32) 0) (l .i % 32) in
-    (s .pre .0, l .inv .long, l .inv .long-second, omega arith, answered-none asks (c .before .before .before .before .refused .ensures) (c .before .before .if1 .taken) (c .before .before .before .before .before .foreign .ensures))
+    (s .pre .0, l .inv .long, l .inv .cleared, omega arith, answered-none asks (c .before .before .before .before .refused .ensures) (c .before .before .if1 .taken) (c .before .before .before .before .before .foreign .ensures))
 
 mul-found : tie.Need-mul-found Inv-loop μ-loop
 mul-found c = search needs
@@ -115,21 +117,21 @@ loop-again c =
     let e = c .before .before .refused .ensures in
     let h = c .before .before .before .before .before .before .before .before .before .before .pre .0 in
     ⊎-elim
-    (λ w. goes-on (l .inv) (omega arith) (as-tried (w .10) (w .3 .ensures)) (ap length (w .8) ∙ w .3 .kept .1 .1 .0) (ap length (w .9) ∙ w .3 .kept .1 .1 .1 .0))
-    (λ w. goes-on (l .inv) (omega arith) (as-tried (w .3 ∙ e) (is-foreign _ h _ _ _ f (λ z. w .0 .left (ap (λ (t : Tried). t .number) e ∙ z)))) (ap length (w .1)) (ap length (w .2)))
+    (λ w. goes-on (l .inv) (omega arith) (as-tried (w .10) (w .3 .ensures .0)) (ap length (w .8) ∙ w .3 .kept .1 .1 .0) (w .9 ∙ w .3 .ensures .1))
+    (λ w. goes-on (l .inv) (omega arith) (as-tried (w .3 ∙ e) (is-foreign _ h _ _ _ f (λ z. w .0 .left (ap (λ (t : Tried). t .number) e ∙ z)))) (ap length (w .1)) (w .2 ∙ l .inv .cleared))
     (c .if1 .came)
 
 same-length : tie.Need-same-length Inv-loop μ-loop
 same-length c = search needs
 
 same-length-2 : tie.Need-same-length-2 Inv-loop μ-loop
-same-length-2 c = search needs
+same-length-2 c = ap length (c .before .loop .inv .cleared ∙ sym (c .before .before .before .before .before .pre .2))
 
 same-length-3 : tie.Need-same-length-3 Inv-loop μ-loop
 same-length-3 c = search needs
 
 returns : tie.Need-returns Inv-loop μ-loop
-returns c = found-all (c .before .loop .inv .so-far) (omega arith)
+returns c = (found-all (c .before .loop .inv .so-far) (omega arith), c .before .loop .inv .cleared)
 
 pub try-all-spec : {M : Type 1} → statement M
 try-all-spec =

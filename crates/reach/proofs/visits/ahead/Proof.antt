@@ -9,13 +9,14 @@ use borrow.Author.Needs.{needs}
 use borrow.Author.Tests.{lt-ltb, le-ltb, not-true, not-false}
 use Rattle.device.specs.Permissions.{maySend, mayReceive}
 use Rattle.plan.specs.Fields.{nobody}
-use Rattle.bench.specs.State.{State, word, running}
-use Rattle.reach.specs.Visits.{farEnd, ahead}
+use Rattle.state.specs.State.{State, word, running}
+use Rattle.state.specs.Network.{peerIn}
+use Rattle.reach.specs.Visits.{ahead}
 use Rattle.reach.proofs.visits.ahead.Statement.{statement}
 use Rattle.reach.proofs.visits.ahead.Tie as tie
 
 -- by the answers to the four tests; those after one that fails do not matter
-answered : (permissions : List ℕ) (peers : List (List ℕ)) (s : State) (k q far : ℕ) → far ≡ farEnd peers q → (a b c d : Bool)
+answered : (permissions : List ℕ) (peers : List (List ℕ)) (s : State) (k q far : ℕ) → far ≡ peerIn peers q → (a b c d : Bool)
     → eqb (running s q) 1 ≡ a → maySend 0 (getD permissions q 0) ≡ b → ltb far nobody ≡ c → mayReceive 0 (getD permissions far 0) ≡ d
     → cond (a && b && c && d) (far / 8) 32 ≡ ahead permissions peers s k q
 unfolding ahead

@@ -1,0 +1,154 @@
+-- No round tells more than its area holds: each timer tells one word at most, and so does each node's one port.
+use mathlib.Core.Path.{_≡_, refl, sym, ap, _∙_}
+use mathlib.Core.Bool.{Bool, true, false, cond, _&&_, false≢true}
+use mathlib.Core.List.{List, [], _∷_}
+use Prim.Native.Nat.{ℕ, zero, suc, _+_, _*_, _/_, _%_, _≤_, _<_}
+use native.Mathlib.Decide.{ℕ-discrete}
+use native.Mathlib.Omega.{arith}
+use lib.Dec.{eqb, ltb, leb}
+use lib.ListN.{length, getD, length-append, List·getD-eq-default}
+use borrow.Author.Tests.{ltb-true, ltb-false, eqb-true, lt-ltb, le-ltb}
+use Rattle.areas.specs.Loop.{upTo}
+use Rattle.areas.proofs.Facts.{facts}
+use Rattle.areas.proofs.Tables.{length-table}
+use Rattle.areas.proofs.Tests.{and-left}
+use Rattle.codes.specs.declared.Code.{Code}
+use Rattle.codes.specs.declared.Code.the-variants.{Time, Interrupt, Acknowledge, Reserved}
+use Rattle.device.specs.Reaction.{ruled, reactsTo, reacts}
+use Rattle.device.specs.declared.Action.{Action}
+use Rattle.device.specs.declared.Action.the-variants.{Named, LinkError, Ignored, Forwarded, Told}
+use Rattle.device.specs.declared.Side.{Side}
+use Rattle.device.proofs.Rule.{ruled-cases}
+use Rattle.plan.specs.Fields.{portsFit, nobody}
+use Rattle.plan.specs.Reading.{Held}
+use Rattle.plan.specs.Memory.{portRight, deviceRight, rowRight}
+use Rattle.plan.specs.declared.Plan.{Plan}
+use Rattle.plan.proofs.BothWays.{held-right, held-devices}
+use Rattle.plan.proofs.There.{right-says}
+use Rattle.state.specs.State.{State, timer}
+use Rattle.state.specs.Network.{devices, role, router, peer}
+use Rattle.bench.specs.Round.{World, ofTimeout, toldWord, tick, tells, acted, arrived, ticked, sentBytes, arrives, reached, afterTimers, afterSending, round, nothing, sentWords}
+use Rattle.bench.specs.RoundCall.{toldWords}
+use Rattle.bench.proofs.Stepped.{tick-idle, tick-falls, tick-ends, tick-tells, arrives-nothing, arrives-byte}
+
+-- ---- a node has one port, and nobody is the peer of a port that does not exist
+
+node-port : (role ports : ℕ) → portsFit role ports ≡ true → eqb role 1 ≡ false → ports ≡ 1
+unfolding portsFit
+node-port role ports e f = by-test (eqb role 0) e
+  where
+    by-test : (b : Bool) → cond b (eqb ports 1) (eqb role 1 && leb 1 ports && leb ports 8) ≡ true → ports ≡ 1
+    by-test true e = eqb-true ports 1 e
+    by-test false e = absurd (false≢true (sym f ∙ and-left _ (leb 1 ports) (and-left _ (leb ports 8) e)))
+
+absent-peer : (n ports p peer permissions : ℕ) → ports ≤ p → portRight n ports p peer permissions ≡ true → peer ≡ nobody
+unfolding portRight
+absent-peer n ports p peer permissions h e =
+    let f : (eqb peer nobody && eqb permissions 0) ≡ true = rw (le-ltb p ports h, portRight) at e in
+    eqb-true peer nobody (and-left _ _ f)
+
+lone : (plan : Plan) → Held plan → (q : ℕ) → q < 8 * devices plan → (q % 8 ≡ 0 → ⊥) → router plan (q / 8) ≡ false → peer plan q ≡ nobody
+unfolding rowRight deviceRight
+lone plan h q l m node =
+    let few : devices plan ≤ 32 = held-devices plan h .1 in
+    let row = simp facts at (right-says plan (held-right plan h) .rows (q / 8) (omega arith)) in
+    let one : getD (plan .core .ports) (q / 8) 0 ≡ 1 = node-port _ _ (and-left _ _ (rw (lt-ltb (q / 8) (devices plan) (omega arith), deviceRight) at (row .0))) node in
+    absent-peer _ _ (q % 8) _ _ (omega arith) (row .1 (q % 8) (omega arith))
+
+-- ---- what each step tells
+
+most : (load : ℕ → ℕ) (permissions : List ℕ) (q : ℕ) (action : Action) (w : World) → length (acted load permissions q action w .told) ≤ length (w .told) + 1
+unfolding acted tells
+most load permissions q (Forwarded code) w = omega arith
+most load permissions q (Told (Interrupt k)) w = simp length-append (omega arith)
+most load permissions q (Told (Acknowledge k)) w = simp length-append (omega arith)
+most load permissions q (Told (Time v)) w = simp length-append (omega arith)
+most load permissions q (Told Reserved) w = simp length-append (omega arith)
+most load permissions q (Named code) w = omega arith
+most load permissions q (LinkError code) w = omega arith
+most load permissions q (Ignored code) w = omega arith
+
+-- a router tells nobody
+module _ (load : ℕ → ℕ) (permissions : List ℕ) (q : ℕ) (side : Side) (hands : side .router ≡ true) (register : ℕ) (w : World) where
+  ruled-silent : (kind k : ℕ) (code : Code) → acted load permissions q (ruled side register kind k code .action) w .told ≡ w .told
+  unfolding acted
+  ruled-silent kind k code =
+      ruled-cases (λ r. acted load permissions q (r .action) w .told ≡ w .told) side register kind k code (λ n. refl) (λ n. refl) (λ o. rw hands refl)
+
+  reacts-silent : (code : Code) → acted load permissions q (reactsTo side register code .action) w .told ≡ w .told
+  unfolding acted reactsTo
+  reacts-silent (Time v) = refl
+  reacts-silent Reserved = refl
+  reacts-silent (Interrupt k) = ruled-silent 0 k (Interrupt k)
+  reacts-silent (Acknowledge k) = ruled-silent 1 k (Acknowledge k)
+
+tick-most : (isRouter : Bool) (d k : ℕ) (w : World) → length (tick isRouter d k w .told) ≤ length (w .told) + 1
+tick-most isRouter d k w =
+    elim (ℕ-discrete (timer (w .state) d k) 0) [
+      | yes z ↦ omega (arith, ap (λ (x : World). length (x .told)) (tick-idle isRouter d k (w .state) (w .told) z))
+      | no z ↦
+          elim (ℕ-discrete (timer (w .state) d k) 1) [
+            | yes o ↦ by-role isRouter o
+            | no o ↦ omega (arith, ap (λ (x : World). length (x .told)) (tick-falls isRouter d k (w .state) (w .told) z o))
+          ]
+    ]
+  where
+    by-role : (b : Bool) → timer (w .state) d k ≡ 1 → length (tick b d k w .told) ≤ length (w .told) + 1
+    by-role true o = omega (arith, ap (λ (x : World). length (x .told)) (tick-ends true d k (w .state) (w .told) _ o refl refl))
+    by-role false o = omega (arith, ap (λ (x : World). length (x .told)) (tick-tells false d k (w .state) (w .told) _ o refl refl), length-append (w .told) (toldWord ofTimeout d k ∷ []))
+
+-- ---- what the loops tell
+
+ticks-most : (f : ℕ → World → World) → ((i : ℕ) (w : World) → length (f i w .told) ≤ length (w .told) + 1) → (n : ℕ) (w : World)
+    → length (upTo f n w .told) ≤ length (w .told) + n
+unfolding upTo
+ticks-most f h zero w = omega arith
+ticks-most f h (suc n) w = omega (arith, ticks-most f h n w, h n (upTo f n w))
+
+module _ (plan : Plan) (held : Held plan) (sent : List ℕ) (none : getD sent nobody nothing ≡ nothing) where
+  -- at most one word
+  arrives-most : (q : ℕ) (w : World) → length (arrives plan sent q w .told) ≤ length (w .told) + 1
+  unfolding arrived
+  arrives-most q w = by-byte (ltb (getD sent (peer plan q) nothing) nothing) refl
+    where
+      by-byte : (b : Bool) → ltb (getD sent (peer plan q) nothing) nothing ≡ b → length (arrives plan sent q w .told) ≤ length (w .told) + 1
+      by-byte true e = rw (arrives-byte plan sent q _ refl w (ltb-true _ _ e)) (most _ _ q _ _)
+      by-byte false e = rw (arrives-nothing plan sent q _ refl w (ltb-false _ _ e)) (omega arith)
+
+  -- and none but at the first port of a node
+  arrives-none : (q : ℕ) (w : World) → q < 8 * devices plan → (q % 8 ≡ 0 → ⊥) → arrives plan sent q w .told ≡ w .told
+  unfolding arrived reacts
+  arrives-none q w l m = by-role (router plan (q / 8)) refl
+    where
+      by-byte : router plan (q / 8) ≡ true → (b : Bool) → ltb (getD sent (peer plan q) nothing) nothing ≡ b → arrives plan sent q w .told ≡ w .told
+      by-byte r true e = rw (arrives-byte plan sent q _ refl w (ltb-true _ _ e)) (reacts-silent _ _ q _ r _ _ _)
+      by-byte r false e = rw (arrives-nothing plan sent q _ refl w (ltb-false _ _ e))
+
+      by-role : (b : Bool) → router plan (q / 8) ≡ b → arrives plan sent q w .told ≡ w .told
+      by-role true r = by-byte r (ltb (getD sent (peer plan q) nothing) nothing) refl
+      by-role false r =
+          let e : nothing ≡ getD sent (peer plan q) nothing = sym (ap (λ (k : ℕ). getD sent k nothing) (lone plan held q l m r) ∙ none) in
+          ap (λ (x : World). x .told) (arrives-nothing plan sent q nothing e w (omega arith))
+
+  reached-most : (m : ℕ) (w : World) → m ≤ 8 * devices plan → length (upTo (arrives plan sent) m w .told) ≤ length (w .told) + (m + 7) / 8
+  unfolding upTo
+  reached-most zero w l = omega arith
+  reached-most (suc m) w l =
+      let ih = reached-most m w (omega arith) in
+      elim (ℕ-discrete (m % 8) 0) [
+        | yes z ↦ omega (arith, ih, arrives-most m (upTo (arrives plan sent) m w))
+        | no z ↦ omega (arith, ih, ap length (arrives-none m (upTo (arrives plan sent) m w) (omega arith) z))
+      ]
+
+pub length-sent : (plan : Plan) (old : State) → length (sentBytes plan old) ≡ sentWords
+unfolding sentBytes
+length-sent plan old = length-table sentWords _
+
+pub told-fits : (plan : Plan) (old : State) → Held plan → length (round plan old .told) ≤ toldWords
+unfolding round ticked reached
+told-fits plan old h =
+    let few : devices plan ≤ 32 = held-devices plan h .1 in
+    let none : getD (sentBytes plan old) nobody nothing ≡ nothing = List·getD-eq-default (sentBytes plan old) nothing (omega (arith, length-sent plan old)) in
+    let timeouts : length (afterTimers plan old .told) ≤ 32 * devices plan =
+    omega (arith, ticks-most (λ i. tick (router plan (i / 32)) (i / 32) (i % 32)) (λ i w. tick-most (router plan (i / 32)) (i / 32) (i % 32) w) (32 * devices plan) (record { state = old; told = [] })) in
+    omega (arith, timeouts, reached-most plan h (sentBytes plan old) none (8 * devices plan) (afterSending plan old) (omega arith))

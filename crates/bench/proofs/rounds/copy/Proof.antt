@@ -1,0 +1,68 @@
+use mathlib.Core.Path.{_≡_, refl}
+use Prim.Native.Nat.{_-_, _≤_}
+use native.Mathlib.Omega.{arith}
+use lib.ListN.{length}
+use borrow.Author.Needs.{needs}
+use Rattle.state.specs.State.{word, put}
+use Rattle.bench.specs.Idle.{Copies}
+use Rattle.bench.proofs.Idles.{copies-none, copies-more}
+use Rattle.bench.proofs.rounds.copy.Statement.{statement}
+use Rattle.bench.proofs.rounds.copy.Tie as tie
+
+abbrev Inv-loop : tie.InvT-loop
+Inv-loop from to old next₀ i₀ next i = (from ≤ i) × (i ≤ to) × (to ≤ length old) × (to ≤ length next₀) × Copies from i old next₀ next
+
+abbrev μ-loop : tie.MeasureT-loop
+μ-loop from to old next₀ i₀ next i = to - i
+
+loop-holds : tie.Need-loop-holds Inv-loop μ-loop
+loop-holds c = (omega arith, search needs, search needs, search needs, copies-none (omega arith))
+
+mul-next : tie.Need-mul-next Inv-loop μ-loop
+mul-next c = search needs
+
+shared-slice-read-next : tie.Need-shared-slice-read-next Inv-loop μ-loop
+shared-slice-read-next c = search needs
+
+mul-next-2 : tie.Need-mul-next-2 Inv-loop μ-loop
+mul-next-2 c = search needs
+
+slice-write-next : tie.Need-slice-write-next Inv-loop μ-loop
+slice-write-next c = omega (arith, c .before .before .loop .inv .4 .size)
+
+add-i : tie.Need-add-i Inv-loop μ-loop
+add-i c = search needs
+
+loop-less : tie.Need-loop-less Inv-loop μ-loop
+loop-less c = search needs
+
+loop-again : tie.Need-loop-again Inv-loop μ-loop
+unfolding put word
+loop-again c =
+    let v = c .before .before .loop .inv in
+    (omega arith, omega arith, v .2, v .3, copies-more (v .4) (v .0) (omega (arith, v .4 .size)) refl)
+
+same-length : tie.Need-same-length Inv-loop μ-loop
+same-length c = search needs
+
+returns : tie.Need-returns Inv-loop μ-loop
+returns c =
+    let v = c .before .loop .inv in
+    let e : c .before .loop .i ≡ c .before .before .args .to = omega arith in rw e at (v .4)
+
+pub copy-spec : {M : Type 1} → statement M
+copy-spec =
+    tie.close
+    (tie.spec
+    Inv-loop
+    μ-loop
+    loop-holds
+    mul-next
+    shared-slice-read-next
+    mul-next-2
+    slice-write-next
+    add-i
+    loop-less
+    loop-again
+    same-length
+    returns)

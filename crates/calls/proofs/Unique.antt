@@ -1,0 +1,35 @@
+-- Each public function's promise allows one answer and one exit of the areas.
+use mathlib.Core.Path.{_≡_}
+use mathlib.Core.List.{List, _∷_}
+use Prim.Native.Nat.{ℕ, _+_, _*_, _<_}
+use Rattle.answers.specs.Ordered.{ask, Ordered}
+use Rattle.answers.proofs.Unique.{ordered-once, outcome-once}
+use Rattle.plan.specs.declared.Plan.{Plan}
+use Rattle.state.specs.State.{State}
+use Rattle.calls.specs.Calls.{deviceAsks, ownAsks, sendAsks, callAsks, linkAsks, called, Takes, unlinked, Stops, linked, Links, reset, Resets}
+
+-- one number, and one state after the call
+abbrev pub Once : (State → ℕ → State → Type 0) → Type 0
+Once Promise = (before : State) (r s : ℕ) (a b : State) → Promise before r a → Promise before s b → (r ≡ s) × (a ≡ b)
+
+module _ (plan : Plan) (d : ℕ) where
+  -- a request or an acknowledge
+  pub call-unique : (kind k : ℕ) → Once (Takes plan kind d k)
+  call-unique kind k s = outcome-once (callAsks plan kind d k s) s (called plan kind d k s)
+
+  pub link-stop-unique : (p : ℕ) → Once (Stops plan d p)
+  link-stop-unique p s = outcome-once (linkAsks plan 1 d p s) s (unlinked plan (8 * d + p) s)
+
+  pub link-start-unique : (p : ℕ) → Once (Links plan d p)
+  link-start-unique p s = outcome-once (linkAsks plan 0 d p s) s (linked plan (8 * d + p) s)
+
+  pub reset-unique : Once (Resets plan d)
+  reset-unique s = outcome-once (deviceAsks plan d s) s (reset d s)
+
+-- what a request or an acknowledge is refused with in part
+pub own-refusal-unique : (mask k r s : ℕ) → Ordered (ownAsks mask k) r → Ordered (ownAsks mask k) s → r ≡ s
+own-refusal-unique mask k = ordered-once (ownAsks mask k)
+
+pub send-refusal-unique : (permissions : List ℕ) (kind d k : ℕ) (state : State) (r s : ℕ) → Ordered (ask 4 (d < 32) ∷ sendAsks permissions kind d k state) r
+    → Ordered (ask 4 (d < 32) ∷ sendAsks permissions kind d k state) s → r ≡ s
+send-refusal-unique permissions kind d k state = ordered-once (ask 4 (d < 32) ∷ sendAsks permissions kind d k state)

@@ -1,0 +1,46 @@
+-- `calls::reset` meets its contract: a refusal changes nothing, and else the device is cleared and its ports emptied. Assumes nothing.
+use mathlib.Core.Path.{ap, _∙_}
+use borrow.Author.Needs.{needs}
+use Rattle.answers.proofs.Outcomes.{outcome-refused, outcome-done}
+use Rattle.calls.specs.Calls.{emptied}
+use Rattle.calls.proofs.Asked.{asked, ready}
+use Rattle.calls.proofs.reset.Statement.{statement}
+use Rattle.calls.proofs.reset.Tie as tie
+
+refusal-requires : tie.Need-refusal-requires
+refusal-requires c κs = search needs
+
+same-length : tie.Need-same-length
+same-length c = search needs
+
+returns : tie.Need-returns
+returns c = outcome-refused (c .before .refusal .ensures) (c .if1 .taken)
+
+clear-requires : tie.Need-clear-requires
+clear-requires c κs = ready _ _ _ (asked _ _ _ (c .before .before .refusal .ensures) (c .before .if1 .left))
+
+empty-requires : tie.Need-empty-requires
+empty-requires c κs =
+    let e = c .before .before .before .before .before in
+    let r = ready _ _ _ (asked _ _ _ (e .before .refusal .ensures) (e .if1 .left)) in search needs
+
+same-length-2 : tie.Need-same-length-2
+same-length-2 c = search needs
+
+returns-2 : tie.Need-returns-2
+returns-2 c =
+    let e = c .before .before .before .before .before .before .before .before in
+    outcome-done (e .before .refusal .ensures) (e .if1 .left)
+    (c .before .before .empty .ensures ∙ ap (emptied _) (c .before .before .before .before .before .before .clear .ensures))
+
+pub reset-spec : {M : Type 1} → statement M
+reset-spec =
+    tie.close
+    (tie.spec
+    refusal-requires
+    same-length
+    returns
+    clear-requires
+    empty-requires
+    same-length-2
+    returns-2)

@@ -1,0 +1,268 @@
+-- A timer that nothing else meets falls by one in each round: a load of T ends in the T-th round after, and only then is the timeout told.
+use mathlib.Core.Path.{_≡_, refl, sym, ap, _∙_}
+use mathlib.Core.Bool.{Bool, true, false, cond}
+use mathlib.Core.List.{List, [], _∷_, _++_, List·Memᴰ, List·Memᴰ·head, Memᴰ·append-left, Memᴰ·append-right, List·Memᴰ·append-cases, List·Memᴰ·eq-of-singleton, List·Memᴰ·not-nil}
+use mathlib.Core.Logic.{_⊎_, inl, inr, _≢_}
+use Prim.Native.Nat.{ℕ, zero, suc, _+_, _-_, _*_, _/_, _%_, _≤_, _<_}
+use native.Mathlib.Decide.{ℕ-discrete}
+use native.Mathlib.Omega.{arith}
+use lib.Dec.{eqb}
+use lib.ListN.{length, getD}
+use Rattle.areas.specs.Loop.{upTo}
+use Rattle.areas.proofs.Loops.{keeps, keeps-from, untouched, own, came}
+use Rattle.bits.specs.Set.{bit, join, leave}
+use Rattle.bits.proofs.Sets.{bit-two}
+use Rattle.codes.specs.Codes.{byteOf}
+use Rattle.device.specs.Reaction.{marked}
+use Rattle.plan.specs.Fields.{nobody}
+use Rattle.plan.specs.Reading.{Held}
+use Rattle.plan.specs.declared.Plan.{Plan}
+use Rattle.state.specs.State.{State, words, put, registerAt, timerAt, register, timer}
+use Rattle.state.specs.Network.{devices, router, peer, loadOf}
+use Rattle.bench.specs.Settling.{rounds}
+use Rattle.state.specs.Sound.{Timed, Sound}
+use Rattle.state.specs.Mark.{mark}
+use Rattle.calls.specs.Calls.{called}
+use Rattle.bench.specs.Round.{World, ofInterrupt, ofTimeout, toldWord, nothing, tick, ticked, sentBytes, arrives, reached, afterTimers, afterSending, afterArrivals, round}
+use Rattle.state.proofs.Words.{length-put, word-same, word-other}
+use Rattle.state.proofs.Plans.{few}
+use Rattle.state.proofs.Marks.{mark-other}
+use Rattle.state.proofs.Waits.{queue-all-left}
+use Rattle.bench.proofs.Ticks.{tick-cases, tick-other, tick-step, ticked-sound}
+use Rattle.bench.proofs.Unqueued.{posted-left}
+use Rattle.bench.proofs.RoundSound.{arrives-cases, round-sound, rounds-sound}
+use Rattle.calls.proofs.Called.{call-sound}
+
+-- ---- one tick
+
+module _ (isRouter : Bool) (d k : ℕ) (w : World) where
+  -- its own timer falls by one, if it runs
+  tick-own : length (w .state) ≡ words → d < 32 → k < 32 → timer (tick isRouter d k w .state) d k ≡ timer (w .state) d k - 1
+  tick-own size h l =
+      tick-cases isRouter d k w (λ v. timer (v .state) d k ≡ timer (w .state) d k - 1) (λ e. omega arith)
+      (λ e. word-same _ (timerAt d k) 0 (omega (arith, length-put (w .state) (registerAt d) (leave (register (w .state) d) k))) ∙ omega arith)
+      (λ t e. word-same (w .state) (timerAt d k) (suc t) (omega arith) ∙ omega arith)
+
+  -- what was told stays told
+  tick-more : (v : ℕ) → List·Memᴰ v (w .told) → List·Memᴰ v (tick isRouter d k w .told)
+  tick-more v m = tick-cases isRouter d k w (λ u. List·Memᴰ v (u .told)) (λ e. m) (λ e. by-role isRouter) (λ t e. m)
+    where
+      by-role : (r : Bool) → List·Memᴰ v (cond r (w .told) (w .told ++ (toldWord ofTimeout d k ∷ [])))
+      by-role true = m
+      by-role false = Memᴰ·append-left (toldWord ofTimeout d k ∷ []) m
+
+  -- a node's timer that ends is told
+  tick-tells : isRouter ≡ false → timer (w .state) d k ≡ 1 → List·Memᴰ (toldWord ofTimeout d k) (tick isRouter d k w .told)
+  tick-tells node o =
+      tick-cases isRouter d k w (λ u. List·Memᴰ (toldWord ofTimeout d k) (u .told)) (λ e. absurd (omega arith))
+      (λ e. rw node (Memᴰ·append-right (w .told) (List·Memᴰ·head refl))) (λ t e. absurd (omega arith))
+
+  -- and nothing else
+  tick-came : (v : ℕ) → List·Memᴰ v (tick isRouter d k w .told) → List·Memᴰ v (w .told) ⊎ ((v ≡ toldWord ofTimeout d k) × (timer (w .state) d k ≡ 1) × (isRouter ≡ false))
+  tick-came v =
+      tick-cases isRouter d k w
+      (λ u. List·Memᴰ v (u .told) → List·Memᴰ v (w .told) ⊎ ((v ≡ toldWord ofTimeout d k) × (timer (w .state) d k ≡ 1) × (isRouter ≡ false)))
+      (λ e m. inl m) (λ e. by-role e isRouter refl) (λ t e m. inl m)
+    where
+      by-role : timer (w .state) d k ≡ 1 → (r : Bool) → isRouter ≡ r → List·Memᴰ v (cond r (w .told) (w .told ++ (toldWord ofTimeout d k ∷ [])))
+          → List·Memᴰ v (w .told) ⊎ ((v ≡ toldWord ofTimeout d k) × (timer (w .state) d k ≡ 1) × (isRouter ≡ false))
+      by-role o true e m = inl m
+      by-role o false e m = elim (List·Memᴰ·append-cases (w .told) m) [ inl a ↦ inl a | inr b ↦ inr (List·Memᴰ·eq-of-singleton b, o, e) ]
+
+-- ---- all ticks
+
+-- a sound state's bit says whether the timer runs
+pub timed-bit : {s : State} {d k : ℕ} → Timed s d k → (timer s d k ≡ 0 → bit (register s d) k ≡ 0) × (1 ≤ timer s d k → bit (register s d) k ≡ 1)
+timed-bit {s} {d} {k} t =
+    let two = bit-two (register s d) k in
+    elim (ℕ-discrete (bit (register s d) k) 0) [
+      | yes e ↦ let off = t .off e in omega arith
+      | no ne ↦ let on = t .on (omega arith) in omega arith
+    ]
+
+-- the turns of `ticked`
+abbrev pub turn : Plan → ℕ → World → World
+turn plan i = tick (router plan (i / 32)) (i / 32) (i % 32)
+
+module _ (plan : Plan) (held : Held plan) (d k : ℕ) (h : d < devices plan) (l : k < 32) where
+  turn-sound : (i : ℕ) (v : World) → i < 32 * devices plan → Sound plan (v .state) → Sound plan (turn plan i v .state)
+  turn-sound i v b y = tick-step plan held y (i / 32) (omega arith) (router plan (i / 32)) (i % 32) (v .told) (omega arith)
+
+  -- that of this timer, and the others
+  turn-here : (P : ℕ → ℕ → Type 0) → P d k → P ((32 * d + k) / 32) ((32 * d + k) % 32)
+  turn-here P p =
+      let a : (32 * d + k) / 32 ≡ d = omega arith in
+      let b : (32 * d + k) % 32 ≡ k = omega arith in
+      rw (a, b) p
+
+  turn-other : (i : ℕ) (v : World) → i ≢ 32 * d + k → timer (turn plan i v .state) d k ≡ timer (v .state) d k
+  turn-other i v ne = tick-other (router plan (i / 32)) (i / 32) (i % 32) v (timerAt d k) (omega arith) (omega arith)
+
+  module _ (w : World) (x : Sound plan (w .state)) where
+    pub ticked-timer : timer (ticked plan w .state) d k ≡ timer (w .state) d k - 1
+    unfolding ticked
+    ticked-timer =
+        let n = few plan held in
+        own (turn plan) (λ v. Sound plan (v .state)) (32 * devices plan) turn-sound (λ v. timer (v .state) d k) (λ t. t - 1) (32 * d + k) (omega arith)
+        (λ i v b ne y. turn-other i v ne)
+        (λ v y. turn-here (λ e j. timer (tick (router plan e) e j v .state) d k ≡ timer (v .state) d k - 1)
+        (tick-own (router plan d) d k v (y .size) (omega arith) l))
+        w x
+
+    -- until its turn, it stands as it stood
+    before-turn : timer (upTo (turn plan) (32 * d + k) w .state) d k ≡ timer (w .state) d k
+    before-turn = untouched (turn plan) (λ v. timer (v .state) d k) (32 * d + k) (λ i v b. turn-other i v (omega arith)) w
+
+    ticked-tells : router plan d ≡ false → timer (w .state) d k ≡ 1 → List·Memᴰ (toldWord ofTimeout d k) (ticked plan w .told)
+    unfolding ticked upTo
+    ticked-tells node o =
+        keeps-from (turn plan) (λ v. List·Memᴰ (toldWord ofTimeout d k) (v .told)) (suc (32 * d + k)) (32 * devices plan) (omega arith)
+        (λ i v a b m. tick-more (router plan (i / 32)) (i / 32) (i % 32) v (toldWord ofTimeout d k) m) w
+        (turn-here (λ e j. List·Memᴰ (toldWord ofTimeout d k) (tick (router plan e) e j (upTo (turn plan) (32 * d + k) w) .told))
+        (tick-tells (router plan d) d k (upTo (turn plan) (32 * d + k) w) node (before-turn ∙ o)))
+
+    ticked-came : List·Memᴰ (toldWord ofTimeout d k) (ticked plan w .told) → List·Memᴰ (toldWord ofTimeout d k) (w .told) ⊎ ((timer (w .state) d k ≡ 1) × (router plan d ≡ false))
+    unfolding ticked
+    ticked-came m =
+        elim (came (turn plan) (λ v. Sound plan (v .state)) (32 * devices plan) turn-sound (λ v. List·Memᴰ (toldWord ofTimeout d k) (v .told))
+        (λ i v. (i ≡ 32 * d + k) × (timer (v .state) d k ≡ 1) × (router plan d ≡ false)) by-turn w x m) [
+          | inl a ↦ inl a
+          | inr b ↦ inr (sym before-turn ∙ ap (λ i. timer (upTo (turn plan) i w .state) d k) (sym (b .2 .0)) ∙ b .2 .1, b .2 .2)
+        ]
+      where
+        by-turn : (i : ℕ) (v : World) → i < 32 * devices plan → Sound plan (v .state) → List·Memᴰ (toldWord ofTimeout d k) (turn plan i v .told)
+            → List·Memᴰ (toldWord ofTimeout d k) (v .told) ⊎ ((i ≡ 32 * d + k) × (timer (v .state) d k ≡ 1) × (router plan d ≡ false))
+        by-turn i v b y m =
+            elim (tick-came (router plan (i / 32)) (i / 32) (i % 32) v (toldWord ofTimeout d k) m) [
+              | inl a ↦ inl a
+              | inr c ↦
+                  let e = c .0 in
+                  let device : i / 32 ≡ d = omega arith in
+                  let place : i % 32 ≡ k = omega arith in
+                  inr (omega arith, rw (device, place) at (c .1), rw device at (c .2))
+            ]
+
+-- ---- what arrives
+
+-- no port of device d is sent an interrupt or an acknowledge of identifier k
+abbrev pub Unsent : Plan → State → ℕ → ℕ → Type 0
+Unsent plan s d k = (p kind : ℕ) → p < 8 → kind < 2 → getD (sentBytes plan s) (peer plan (8 * d + p)) nothing ≢ byteOf kind k
+
+module _ (plan : Plan) (sent : List ℕ) (q : ℕ) (w : World) where
+  arrives-timer : q / 8 < 32 → (d k : ℕ) → d < 32 → k < 32 → ((kind : ℕ) → kind < 2 → q / 8 ≡ d → getD sent (peer plan q) nothing ≢ byteOf kind k)
+      → timer (arrives plan sent q w .state) d k ≡ timer (w .state) d k
+  arrives-timer small d k h l quiet =
+      let marks : (kind j : ℕ) → kind < 2 → j < 32 → getD sent (peer plan q) nothing ≡ byteOf kind j
+      → timer (mark plan kind (q / 8) j (w .state)) d k ≡ timer (w .state) d k =
+      λ kind j g m b. mark-other plan kind (q / 8) j (timerAt d k) (w .state) (omega arith)
+      (λ e. let here : q / 8 ≡ d = omega arith in quiet kind g here (omega arith)) in
+      arrives-cases plan sent q w (λ v. timer (v .state) d k ≡ timer (w .state) d k) refl
+      (λ kind j g m b. queue-all-left kind j (timerAt d k) g (omega arith) (plan .core .permissions) (q / 8) q small (mark plan kind (q / 8) j (w .state)) ∙ marks kind j g m b)
+      marks
+
+  arrives-more : (v : ℕ) → List·Memᴰ v (w .told) → List·Memᴰ v (arrives plan sent q w .told)
+  arrives-more v m =
+      arrives-cases plan sent q w (λ u. List·Memᴰ v (u .told)) m (λ kind k g l b. m) (λ kind k g l b. Memᴰ·append-left (toldWord (ofInterrupt + kind) (q / 8) k ∷ []) m)
+
+  -- no timeout is told
+  arrives-came : q / 8 < 32 → (d k : ℕ) → List·Memᴰ (toldWord ofTimeout d k) (arrives plan sent q w .told) → List·Memᴰ (toldWord ofTimeout d k) (w .told)
+  arrives-came h d k =
+      arrives-cases plan sent q w (λ u. List·Memᴰ (toldWord ofTimeout d k) (u .told) → List·Memᴰ (toldWord ofTimeout d k) (w .told)) (λ m. m) (λ kind j g l b m. m)
+      (λ kind j g l b m. elim (List·Memᴰ·append-cases (w .told) m) [ inl a ↦ a | inr c ↦ let e = List·Memᴰ·eq-of-singleton c in absurd (omega arith) ])
+
+-- at all ports
+module _ (plan : Plan) (held : Held plan) (w : World) (d k : ℕ) where
+  reached-timer : (s : State) → d < devices plan → k < 32 → Unsent plan s d k → timer (reached plan (sentBytes plan s) w .state) d k ≡ timer (w .state) d k
+  unfolding reached
+  reached-timer s h l quiet =
+      let n = few plan held in
+      let sent = sentBytes plan s in
+      untouched (arrives plan sent) (λ v. timer (v .state) d k) (8 * devices plan)
+      (λ q v b. arrives-timer plan sent q v (omega arith) d k (omega arith) l
+      (λ kind g here. let is : 8 * d + q % 8 ≡ q = omega arith in rw is at (quiet (q % 8) kind (omega arith) g)))
+      w
+
+  reached-more : (sent : List ℕ) → List·Memᴰ (toldWord ofTimeout d k) (w .told) → List·Memᴰ (toldWord ofTimeout d k) (reached plan sent w .told)
+  unfolding reached
+  reached-more sent m =
+      keeps (arrives plan sent) (λ v. List·Memᴰ (toldWord ofTimeout d k) (v .told)) (8 * devices plan) (λ q v b. arrives-more plan sent q v (toldWord ofTimeout d k)) w m
+
+  reached-came : (sent : List ℕ) → List·Memᴰ (toldWord ofTimeout d k) (reached plan sent w .told) → List·Memᴰ (toldWord ofTimeout d k) (w .told)
+  unfolding reached
+  reached-came sent =
+      let n = few plan held in
+      keeps (arrives plan sent) (λ v. List·Memᴰ (toldWord ofTimeout d k) (v .told) → List·Memᴰ (toldWord ofTimeout d k) (w .told)) (8 * devices plan)
+      (λ q v b p m. p (arrives-came plan sent q v (omega arith) d k m)) w (λ m. m)
+
+-- ---- a round
+
+-- a timer is at t: while it runs its bit is set; where it is 0 the bit is cleared, and just then a node's timeout is told
+pub record Fell (plan : Plan) (w : World) (d k t : ℕ) : Type 0 where
+  pub now : timer (w .state) d k ≡ t
+  pub runs : 1 ≤ t → bit (register (w .state) d) k ≡ 1
+  pub ends : t ≡ 0 → bit (register (w .state) d) k ≡ 0
+  pub tells : t ≡ 0 → router plan d ≡ false → List·Memᴰ (toldWord ofTimeout d k) (w .told)
+  pub only : List·Memᴰ (toldWord ofTimeout d k) (w .told) → (t ≡ 0) × (router plan d ≡ false)
+
+module _ (plan : Plan) (held : Held plan) (s : State) (x : Sound plan s) (d k : ℕ) (h : d < devices plan) (l : k < 32) where
+  -- step 1: the timers fall
+  pub timer-falls : (t : ℕ) → timer s d k ≡ suc t → Fell plan (afterTimers plan s) d k t
+  timer-falls t e =
+      let w : World = record { state = s; told = [] } in
+      let now : timer (afterTimers plan s .state) d k ≡ t = ticked-timer plan held d k h l w x ∙ omega arith in
+      let bits = timed-bit (ticked-sound plan held w x .timers d k h (omega (arith, few plan held)) l) in
+      record {
+        now = now;
+        runs = λ o. bits .1 (omega arith);
+        ends = λ z. bits .0 (now ∙ z);
+        tells = λ z node. ticked-tells plan held d k h l w x node (omega arith);
+        only = λ m. elim (ticked-came plan held d k h l w x m) [ inl a ↦ absurd (List·Memᴰ·not-nil a) | inr c ↦ (omega (arith, c .0), c .1) ];
+      }
+
+  -- and nothing that a quiet round does after them changes that
+  pub round-falls : (t : ℕ) → timer s d k ≡ suc t → Unsent plan s d k → Fell plan (afterArrivals plan s) d k t
+  unfolding round
+  round-falls t e quiet =
+      let n = few plan held in
+      let f = timer-falls t e in
+      let w : World = afterSending plan s in
+      let now : timer (afterArrivals plan s .state) d k ≡ t =
+      reached-timer plan held w d k s h l quiet ∙ posted-left plan held s (timerAt d k) (afterTimers plan s .state) (omega arith) ∙ f .now in
+      let bits = timed-bit (round-sound plan held s x .timers d k h (omega (arith, few plan held)) l) in
+      record {
+        now = now;
+        runs = λ o. bits .1 (omega arith);
+        ends = λ z. bits .0 (now ∙ z);
+        tells = λ z node. reached-more plan held w d k (sentBytes plan s) (f .tells z node);
+        only = λ m. f .only (reached-came plan held w d k (sentBytes plan s) m);
+      }
+
+-- ---- a load of T ends in the T-th round after: round i + 1 leaves T - (i + 1)
+
+module _ (plan : Plan) (held : Held plan) (s : State) (x : Sound plan s) where
+  module _ (d k : ℕ) (h : d < devices plan) (l : k < 32) (T : ℕ) (e : timer s d k ≡ T) (quiet : (i : ℕ) → i < T → Unsent plan (rounds plan i s) d k) where
+    falls : (i : ℕ) → i < T → timer (rounds plan i s) d k ≡ T - i → Fell plan (afterArrivals plan (rounds plan i s)) d k (T - suc i)
+    falls i b o = round-falls plan held (rounds plan i s) (rounds-sound plan held s x i) d k h l (T - suc i) (omega arith) (quiet i b)
+
+    -- what is left after i rounds
+    left : (i : ℕ) → i ≤ T → timer (rounds plan i s) d k ≡ T - i
+    unfolding upTo round
+    left zero b = omega arith
+    left (suc i) b = falls i b (left i (omega arith)) .now
+
+    pub timer-ends : (i : ℕ) → i < T → Fell plan (afterArrivals plan (rounds plan i s)) d k (T - suc i)
+    timer-ends i b = falls i b (left i (omega arith))
+
+-- so the timeout of a request comes as many rounds after it as its timer was loaded with
+module _ (plan : Plan) (held : Held plan) (s : State) (x : Sound plan s) (d k : ℕ) (h : d < devices plan) (l : k < 32) where
+  request-loads : timer (called plan 0 d k s) d k ≡ loadOf plan d k
+  unfolding called mark
+  request-loads =
+      let n = few plan held in
+      let marks = put s (registerAt d) (marked 0 (register s d) k) in
+      queue-all-left 0 k (timerAt d k) (omega arith) (omega arith) (plan .core .permissions) d nobody (omega arith) (mark plan 0 d k s)
+      ∙ word-same marks (timerAt d k) (loadOf plan d k) (omega (arith, x .size, length-put s (registerAt d) (marked 0 (register s d) k)))
+
+  pub request-ends : ((i : ℕ) → i < loadOf plan d k → Unsent plan (rounds plan i (called plan 0 d k s)) d k)
+      → (i : ℕ) → i < loadOf plan d k → Fell plan (afterArrivals plan (rounds plan i (called plan 0 d k s))) d k (loadOf plan d k - suc i)
+  request-ends quiet = timer-ends plan held (called plan 0 d k s) (call-sound plan held s x 0 d k (omega arith) h l) d k h l (loadOf plan d k) request-loads quiet

@@ -1,0 +1,12 @@
+pub mod Keeping
+pub mod Marks
+pub mod Parts
+pub mod Plans
+pub mod Queues
+pub mod Started
+pub mod Tested
+pub mod Unique
+pub mod Waits
+pub mod Walks
+pub mod Words
+pub mod Written

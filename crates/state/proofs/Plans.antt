@@ -1,0 +1,95 @@
+-- What a held plan says, for the states of its network: how many devices, whose the ports are, where connections lead, and the loads.
+use mathlib.Core.Path.{_≡_, refl}
+use mathlib.Core.Bool.{Bool, true, false, cond, not, _&&_}
+use mathlib.Core.Logic.{_⊎_, inl, inr, _≢_, dite}
+use Prim.Native.Nat.{ℕ, _+_, _*_, _/_, _%_, _≤_, _<_}
+use native.Mathlib.Decide.{decLt}
+use native.Mathlib.Omega.{arith}
+use lib.Dec.{eqb, leb}
+use borrow.Author.Tests.{ltb-true, ltb-false, lt-ltb, eqb-true, eqb-false, ne-eqb, not-true}
+use Rattle.areas.proofs.Facts.{facts}
+use Rattle.areas.proofs.Tests.{and-left, and-right}
+use Rattle.plan.specs.Block.{byte}
+use Rattle.plan.specs.Fields.{nobody, loadsFit, portsFit, joins}
+use Rattle.plan.specs.Reading.{Held}
+use Rattle.plan.specs.declared.Plan.{Plan}
+use Rattle.plan.specs.Memory.{at, deviceRight, rowRight}
+use Rattle.plan.proofs.Entries.{no-port}
+use Rattle.plan.proofs.Rows.{entryOf, right-ports, right-absent}
+use Rattle.plan.proofs.There.{Right, right-says}
+use Rattle.plan.proofs.BothWays.{held-right, held-shaped, held-devices}
+use Rattle.state.specs.Network.{devices, role, exists, peer, loadFor, loadOf}
+
+-- the far end of a connected port: it exists, its own far end is the port, and it is another port
+pub record FarEnd (plan : Plan) (q : ℕ) : Type 0 where
+  pub far : exists plan (peer plan q) ≡ true
+  pub back : peer plan (peer plan q) ≡ q
+  pub other : peer plan q ≢ q
+
+-- a node (0) or a router (1), with at most 8 ports
+ports-say : (r ports : ℕ) → portsFit r ports ≡ true → ((r ≡ 0) ⊎ (r ≡ 1)) × (ports ≤ 8)
+unfolding portsFit
+ports-say r ports = by-test (eqb r 0) refl
+  where
+    by-test : (t : Bool) → eqb r 0 ≡ t → cond t (eqb ports 1) (eqb r 1 && leb 1 ports && leb ports 8) ≡ true → ((r ≡ 0) ⊎ (r ≡ 1)) × (ports ≤ 8)
+    by-test true p e = (inl (eqb-true r 0 p), omega (arith, eqb-true ports 1 e))
+    by-test false p e = let f = simp facts at e in (inr (f .0 .0), f .1)
+
+module _ (plan : Plan) (held : Held plan) where
+  says : Right plan
+  says = right-says plan (held-right plan held)
+
+  pub few : devices plan ≤ 32
+  few = held-devices plan held .1
+
+  device-says : (d : ℕ) → d < devices plan → ((role plan d ≡ 0) ⊎ (role plan d ≡ 1)) × (at (plan .core .ports) d ≤ 8)
+  unfolding rowRight deviceRight
+  device-says d h =
+      let row = simp facts at (rw (lt-ltb d (devices plan) h) at (says .rows d (omega (arith, few)))) in
+      ports-say (role plan d) (at (plan .core .ports) d) (row .0 .0)
+
+  -- port p of device d is an existing port
+  pub port-there : (d p : ℕ) → d < devices plan → p < at (plan .core .ports) d → (8 * d + p < 256) × (exists plan (8 * d + p) ≡ true)
+  port-there d p h l =
+      let most = device-says d h .1 in
+      let device : (8 * d + p) / 8 ≡ d = omega arith in
+      let port : (8 * d + p) % 8 ≡ p = omega arith in
+      (omega (arith, few), rw (device, port) (lt-ltb p (at (plan .core .ports) d) l))
+
+  -- an existing port is one of a device of the plan
+  pub owned : (q : ℕ) → q < 256 → exists plan q ≡ true → q / 8 < devices plan
+  owned q h e =
+      dite (decLt (q / 8) (devices plan)) (λ l. l)
+      (λ l. absurd (omega (arith, ltb-true (q % 8) (at (plan .core .ports) (q / 8)) e, right-absent (plan .core) (plan .peers) (q / 8) few (omega arith) (says .rows (q / 8) (omega arith)) .ports)))
+
+  -- an absent port is connected to nothing
+  pub absent-loose : (q : ℕ) → q < 256 → exists plan q ≡ false → peer plan q ≡ nobody
+  absent-loose q h e =
+      let d = q / 8 in
+      let p = q % 8 in
+      no-port (right-ports (plan .core) (plan .peers) d few (says .rows d (omega arith)) p (omega arith) (byte (entryOf (plan .core) (plan .peers) d p)) (λ j l. refl))
+      (ltb-false p (at (plan .core .ports) d) e) .0
+
+  pub far-end : (q : ℕ) → q < 256 → exists plan q ≡ true → peer plan q < nobody → FarEnd plan q
+  unfolding joins
+  far-end q h e l =
+      let r = peer plan q in
+      let whole : 8 * (q / 8) + q % 8 ≡ q = omega arith in
+      let j = rw (whole, ne-eqb r nobody (omega arith)) at (says .joined (q / 8) (owned q h e) (q % 8) (omega arith)) in
+      let test = eqb (peer plan r) q in
+      record {
+        far = and-left (exists plan r) test (and-left (exists plan r && test) (not (eqb r q)) j);
+        back = eqb-true (peer plan r) q (and-right (exists plan r) test (and-left (exists plan r && test) (not (eqb r q)) j));
+        other = eqb-false r q (not-true (eqb r q) (and-right (exists plan r && test) (not (eqb r q)) j));
+      }
+
+  -- a timer is loaded with 1 to 65,535
+  pub load-fits : (d k : ℕ) → d < devices plan → (1 ≤ loadOf plan d k) × (loadOf plan d k ≤ 65535)
+  unfolding loadFor loadsFit
+  load-fits d k h =
+      let loads = simp facts at (says .loads) in
+      let small = held-shaped plan held .loads .small in
+      elim (device-says d h .0) [
+        | inl e ↦ rw e (omega (arith, small 0))
+        | inr e ↦ rw e (omega (arith, small 1))
+      ]

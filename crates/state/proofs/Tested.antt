@@ -1,0 +1,169 @@
+-- The computed test of a state is true exactly where the state is sound. `x-says` reads a test, `x-test` passes it.
+use mathlib.Core.Path.{_≡_, refl, sym, ap, _∙_}
+use mathlib.Core.Bool.{Bool, true, false, not, false≢true}
+use mathlib.Core.Logic.{dite}
+use Prim.Native.Nat.{ℕ, zero, suc, _+_, _*_, _/_, _%_, _^_, _≤_, _<_, min}
+use native.Mathlib.Decide.{decLt, ℕ-discrete}
+use native.Mathlib.Omega.{arith}
+use lib.Dec.{eqb, ltb}
+use lib.ListN.{getD}
+use borrow.Author.Tests.{eq-eqb, eqb-true, ne-eqb, lt-ltb, le-ltb, le-leb}
+use Rattle.areas.proofs.Tests.{and-right, or-left, or-right, every-at, every-all}
+use Rattle.bits.specs.Set.{bit}
+use Rattle.bits.proofs.Sets.{bit-two}
+use Rattle.device.specs.Permissions.{maySend}
+use Rattle.plan.specs.declared.Plan.{Plan}
+use Rattle.areas.proofs.Facts.{facts}
+use Rattle.state.specs.State.{State, word, deviceWords, portsAt, portAt, register, timer, waiting, running}
+use Rattle.state.specs.Network.{devices, exists, peer, permissions}
+use Rattle.state.specs.Sound.{Timed, Kept, Sound}
+use Rattle.state.proofs.Keeping.{both-kinds}
+use Rattle.state.specs.Tests.{timerSound, deviceTimed, allTimed, zerosIn, restZero, flagSound, mayWait, waitingSound, portKept, portZero, portSound, portsSound, sounds}
+
+is-true : (b : Bool) → (b ≡ false → ⊥) → b ≡ true
+is-true true h = refl
+is-true false h = absurd (h refl)
+
+-- ---- one timer
+
+module _ (on t : ℕ) where
+  timer-says : timerSound on t ≡ true → (on ≡ 1 → (1 ≤ t) × (t ≤ 65535)) × (on ≡ 0 → t ≡ 0)
+  unfolding timerSound
+  timer-says e = (λ b. simp facts at (rw b at e), λ b. simp facts at (rw b at e))
+
+  timer-test : on < 2 → (on ≡ 1 → (1 ≤ t) × (t ≤ 65535)) → (on ≡ 0 → t ≡ 0) → timerSound on t ≡ true
+  unfolding timerSound
+  timer-test two p q =
+      elim (ℕ-discrete on 1) [
+        | yes b ↦ rw b (simp facts (p b))
+        | no n ↦ simp (ne-eqb on 1 n) (eq-eqb t 0 (q (omega arith)))
+      ]
+
+-- ---- one port
+
+-- where codes of a kind wait
+module _ (kind codes flag allowed : ℕ) where
+  wait-says : mayWait kind codes flag allowed ≡ true → (flag ≡ 0 → codes ≡ 0) × (maySend kind allowed ≡ false → codes ≡ 0)
+  unfolding mayWait
+  wait-says e =
+      elim (ℕ-discrete codes 0) [
+        | yes q ↦ (λ _. q, λ _. q)
+        | no n ↦
+            let f = simp (ne-eqb codes 0 n) at e in
+            (λ z. absurd (false≢true (simp (eq-eqb flag 0 z) at f)), λ z. absurd (false≢true (sym z ∙ and-right (not (eqb flag 0)) _ f)))
+      ]
+
+  wait-test : (flag ≡ 0 → codes ≡ 0) → (maySend kind allowed ≡ false → codes ≡ 0) → mayWait kind codes flag allowed ≡ true
+  unfolding mayWait
+  wait-test p q =
+      elim (ℕ-discrete codes 0) [
+        | yes z ↦ simp (eq-eqb codes 0 z)
+        | no n ↦ simp (ne-eqb codes 0 n, ne-eqb flag 0 (λ z. n (p z)), is-true (maySend kind allowed) (λ z. n (q z)))
+      ]
+
+-- the running flag
+module _ (s : State) (flag far : ℕ) where
+  flag-says : flagSound s flag far ≡ true → (flag < 2) × (far < 256 → flag ≡ running s far) × (far ≡ 256 → flag ≡ 0)
+  unfolding flagSound
+  flag-says e =
+      let f = simp facts at e in (
+        omega arith,
+        λ l. eqb-true flag (running s far) (simp (ne-eqb far 256 (λ z. omega arith), le-ltb 256 far (omega arith)) at f .1),
+        λ z. eqb-true flag 0 (simp (eq-eqb far 256 z) at f .1),
+      )
+
+  flag-test : flag < 2 → (far < 256 → flag ≡ running s far) → (far ≡ 256 → flag ≡ 0) → flagSound s flag far ≡ true
+  unfolding flagSound
+  flag-test l p q =
+      simp (le-leb flag 1 (omega arith)) (elim (ℕ-discrete far 256) [
+        | yes z ↦ simp (eq-eqb far 256 z) (eq-eqb flag 0 (q z))
+        | no n ↦ simp (ne-eqb far 256 n) (dite (decLt 256 far)
+            (λ g. or-left _ _ (lt-ltb 256 far g))
+            (λ g. or-right (ltb 256 far) _ (eq-eqb flag (running s far) (p (omega arith)))))
+      ])
+
+module _ (plan : Plan) (s : State) where
+  module _ (q : ℕ) where
+    kept : portKept s q (peer plan q) (permissions plan q) ≡ true → Kept plan s q
+    unfolding portKept waitingSound
+    kept e =
+        let f = simp facts at e in
+        let flags = flag-says s (running s q) (peer plan q) (f .0 .1) in
+        let interrupts = wait-says 0 (waiting s 0 q) (running s q) (permissions plan q) (f .1 .0 .1) in
+        let acknowledges = wait-says 1 (waiting s 1 q) (running s q) (permissions plan q) (f .1 .1) in
+        record {
+          next-below = omega arith;
+          flag = flags .0;
+          both-ends = flags .1;
+          loose = flags .2;
+          apart = f .1 .0 .0;
+          stopped = λ z. both-kinds (λ kind. waiting s kind q ≡ 0) (interrupts .0 z) (acknowledges .0 z);
+          mute = both-kinds (λ kind. maySend kind (permissions plan q) ≡ false → waiting s kind q ≡ 0) (interrupts .1) (acknowledges .1);
+        }
+
+    kept-test : Kept plan s q → portKept s q (peer plan q) (permissions plan q) ≡ true
+    unfolding portKept waitingSound
+    kept-test k =
+        let waits : (kind : ℕ) → kind < 2 → mayWait kind (waiting s kind q) (running s q) (permissions plan q) ≡ true =
+        λ kind l. wait-test kind (waiting s kind q) (running s q) (permissions plan q) (λ z. k .stopped z kind l) (k .mute kind l) in
+        simp facts ((omega (arith, k .next-below), flag-test s (running s q) (peer plan q) (k .flag) (k .both-ends) (k .loose)), ((k .apart, waits 0 (omega arith)), waits 1 (omega arith)))
+
+    -- a port that is there, and one that is not
+    port-test : (there : Bool) → exists plan q ≡ there → (there ≡ true → Kept plan s q) → (there ≡ false → (i : ℕ) → i < 4 → word s (portAt q i) ≡ 0)
+        → portSound s q (getD (plan .core .ports) (q / 8) 0) (peer plan q) (permissions plan q) ≡ true
+    unfolding portSound portZero
+    port-test true e k z = simp e (kept-test (k refl))
+    port-test false e k z = simp e (every-all 4 _ (λ i l. eq-eqb (word s (portAt q i)) 0 (z refl i l)))
+
+  -- ---- the state
+
+  timed : allTimed (devices plan) s ≡ true → (d k : ℕ) → d < devices plan → d < 32 → k < 32 → Timed s d k
+  unfolding allTimed deviceTimed
+  timed e d k h g l =
+      let f = timer-says _ _ (every-at 32 _ (every-at (min (devices plan) 32) (deviceTimed s) e d (omega arith)) k l) in record { on = f .0; off = f .1 }
+
+  timed-test : ((d k : ℕ) → d < devices plan → d < 32 → k < 32 → Timed s d k) → allTimed (devices plan) s ≡ true
+  unfolding allTimed deviceTimed
+  timed-test h =
+      every-all _ (deviceTimed s) (λ d l. every-all 32 _ (λ k g.
+      let t = h d k (omega arith) (omega arith) g in
+      timer-test (bit (register s d) k) (timer s d k) (bit-two (register s d) k) (t .on) (t .off)))
+
+  zeros-say : (from to : ℕ) → zerosIn from to s ≡ true → (i : ℕ) → from ≤ i → i < to → word s i ≡ 0
+  unfolding zerosIn
+  zeros-say from to e i h l = eqb-true (word s i) 0 (simp (le-ltb i from h) at (every-at to _ e i l))
+
+  zeros-test : (from to : ℕ) → ((i : ℕ) → from ≤ i → i < to → word s i ≡ 0) → zerosIn from to s ≡ true
+  unfolding zerosIn
+  zeros-test from to h =
+      every-all to _
+      (λ i l. dite (decLt i from) (λ g. or-left _ _ (lt-ltb i from g)) (λ g. or-right (ltb i from) _ (eq-eqb (word s i) 0 (h i (omega arith) l))))
+
+  rest : restZero (devices plan) s ≡ true → (d i : ℕ) → devices plan ≤ d → d < 32 → i < deviceWords → word s (deviceWords * d + i) ≡ 0
+  rest e d i h l g = zeros-say (deviceWords * devices plan) portsAt e (deviceWords * d + i) (omega arith) (omega arith)
+
+  rest-test : ((d i : ℕ) → devices plan ≤ d → d < 32 → i < deviceWords → word s (deviceWords * d + i) ≡ 0) → restZero (devices plan) s ≡ true
+  rest-test h =
+      zeros-test (deviceWords * devices plan) portsAt
+      (λ i g l. ap (word s) (omega arith) ∙ h (i / deviceWords) (i % deviceWords) (omega arith) (omega arith) (omega arith))
+
+  pub sounds-sound : ((i : ℕ) → word s i < 2 ^ 32) → sounds plan s ≡ true → Sound plan s
+  unfolding sounds portsSound portSound portZero
+  sounds-sound fit e =
+      let f = simp facts at e in
+      record {
+        size = f .0 .0 .0;
+        words = fit;
+        timers = timed (f .0 .0 .1);
+        ports = λ q l there. kept q (simp there at (f .1 q l));
+        no-device = rest (f .0 .1);
+        no-port = λ q i l there g. eqb-true (word s (portAt q i)) 0 (every-at 4 _ (simp there at (f .1 q l)) i g);
+      }
+
+  pub sound-sounds : Sound plan s → sounds plan s ≡ true
+  unfolding sounds portsSound
+  sound-sounds h =
+      simp facts (
+        ((h .size, timed-test (h .timers)), rest-test (h .no-device)),
+        λ q l. port-test q (exists plan q) refl (h .ports q l) (λ z i g. h .no-port q i l z g),
+      )

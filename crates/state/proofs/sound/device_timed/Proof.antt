@@ -1,0 +1,100 @@
+-- `state::device_timed` meets its contract. The invariant: the timers before timer k are sound. Assumes nothing.
+use mathlib.Core.Path.{_≡_, sym, _∙_}
+use mathlib.Core.Bool.{Bool, true}
+use Prim.Native.Nat.{ℕ, _-_, _<_, _≤_}
+use native.Mathlib.Omega.{arith}
+use borrow.Author.Count.{below-none, below-more}
+use borrow.Author.Tests.{not-true, not-false}
+use Rattle.areas.proofs.Tests.{every-all, every-not}
+use Rattle.bits.specs.Set.{bit}
+use Rattle.state.specs.State.{State, register as State·register, timer}
+use Rattle.state.specs.Tests.{timerSound, deviceTimed}
+use borrow.Author.Needs.{needs}
+use Rattle.state.proofs.sound.device_timed.Statement.{statement}
+use Rattle.state.proofs.sound.device_timed.Tie as tie
+
+-- a timer was tested, by the words that were read
+tested : (s : State) (d k : ℕ) {r b t : ℕ} {v : Bool} → r ≡ State·register s d → b ≡ bit r k → t ≡ timer s d k → v ≡ timerSound b t
+    → timerSound (bit (State·register s d) k) (timer s d k) ≡ v
+tested s d k p q w e = rw (← p, ← q, ← w) (sym e)
+
+abbrev Inv-loop : tie.InvT-loop
+Inv-loop state d register k₀ k = (k ≤ 32) × ((i : ℕ) → i < k → timerSound (bit (State·register state d) i) (timer state d i) ≡ true)
+
+abbrev μ-loop : tie.MeasureT-loop
+μ-loop state d register k₀ k = 32 - k
+
+mul-inside : tie.Need-mul-inside Inv-loop μ-loop
+mul-inside c = search needs
+
+inside-requires : tie.Need-inside-requires Inv-loop μ-loop
+inside-requires c κs = search needs
+
+loop-holds : tie.Need-loop-holds Inv-loop μ-loop
+loop-holds c = (omega arith, below-none _)
+
+cast-get : tie.Need-cast-get Inv-loop μ-loop
+cast-get c = search needs
+
+get-requires : tie.Need-get-requires Inv-loop μ-loop
+get-requires c κs = search needs
+
+mul-inside-2 : tie.Need-mul-inside-2 Inv-loop μ-loop
+mul-inside-2 c = search needs
+
+add-inside : tie.Need-add-inside Inv-loop μ-loop
+add-inside c = search needs
+
+add-inside-2 : tie.Need-add-inside-2 Inv-loop μ-loop
+add-inside-2 c = search needs
+
+inside-requires-2 : tie.Need-inside-requires-2 Inv-loop μ-loop
+inside-requires-2 c κs = search needs
+
+timer-sound-requires : tie.Need-timer-sound-requires Inv-loop μ-loop
+timer-sound-requires c κs = search needs
+
+returns : tie.Need-returns Inv-loop μ-loop
+unfolding deviceTimed
+returns c =
+    let w = c .before .before in
+    let e = tested _ _ _ (w .before .before .before .before .inside .ensures) (w .before .get .ensures) (w .inside2 .ensures) (c .before .timer-sound .ensures) in
+    sym (every-not 32 _ _ (omega arith) (e ∙ not-true _ (c .if1 .taken)))
+
+add-k : tie.Need-add-k Inv-loop μ-loop
+add-k c = search needs
+
+loop-less : tie.Need-loop-less Inv-loop μ-loop
+loop-less c = omega arith
+
+loop-again : tie.Need-loop-again Inv-loop μ-loop
+loop-again c =
+    let w = c .before .before in
+    let e = tested _ _ _ (w .before .before .before .before .inside .ensures) (w .before .get .ensures) (w .inside2 .ensures) (c .before .timer-sound .ensures) in
+    (omega arith, below-more _ _ (w .before .before .before .loop .inv .1) (e ∙ not-false _ (c .if1 .left)))
+
+returns-2 : tie.Need-returns-2 Inv-loop μ-loop
+unfolding deviceTimed
+returns-2 c = sym (every-all 32 _ (λ i l. c .before .loop .inv .1 i (omega arith)))
+
+pub device-timed-spec : {M : Type 1} → statement M
+device-timed-spec =
+    tie.close
+    (tie.spec
+    Inv-loop
+    μ-loop
+    mul-inside
+    inside-requires
+    loop-holds
+    cast-get
+    get-requires
+    mul-inside-2
+    add-inside
+    add-inside-2
+    inside-requires-2
+    timer-sound-requires
+    returns
+    add-k
+    loop-less
+    loop-again
+    returns-2)

@@ -1,0 +1,93 @@
+-- `state::is_sound` meets its contract: the code computes `sounds`, which is true exactly of sound states. Assumes nothing.
+use mathlib.Core.Path.{_≡_, refl, sym, _∙_}
+use mathlib.Core.Bool.{Bool, true, false, _&&_}
+use mathlib.Core.List.{List}
+use Prim.Native.Nat.{ℕ, _^_, _<_}
+use native.Mathlib.Omega.{arith}
+use lib.Dec.{eqb}
+use lib.ListN.{length}
+use borrow.Author.Needs.{needs}
+use borrow.Author.Tests.{eq-eqb, ne-eqb, not-true, not-false}
+use denote.Ref.{now}
+use Rattle.answers.specs.Decides.{Decides}
+use Rattle.plan.specs.declared.Plan.{Plan}
+use Rattle.state.specs.State.{State, words, word}
+use Rattle.state.specs.Sound.{Sound}
+use Rattle.state.specs.Tests.{allTimed, restZero, portsSound, sounds}
+use Rattle.state.proofs.Tested.{sounds-sound, sound-sounds}
+use Rattle.state.proofs.sound.is_sound.Statement.{statement}
+use Rattle.state.proofs.sound.is_sound.Tie as tie
+
+module _ (plan : Plan) (s : State) where
+  -- the last test
+  abbrev allPorts : Bool
+  allPorts = portsSound (plan .core .ports) (plan .core .permissions) (plan .peers) s
+
+  -- by the answers to the four tests; those after one that fails do not matter
+  decided : ((i : ℕ) → word s i < 2 ^ 32) → (a b c d : Bool) → eqb (length s) words ≡ a → allTimed (plan .core .devices) s ≡ b
+      → restZero (plan .core .devices) s ≡ c → allPorts ≡ d → Decides (Sound plan s) (a && b && c && d)
+  unfolding sounds
+  decided fit a b c d p q r t =
+      let e : (a && b && c && d) ≡ sounds plan s = rw (p, q, r, t) in
+      record { only = λ f. sounds-sound plan s fit (sym e ∙ f); all = λ h. e ∙ sound-sounds plan s h }
+
+  -- among the plan's peers or others that are equal
+  all-ports : (peers : List (List ℕ)) (d : Bool) → peers ≡ plan .peers → d ≡ portsSound (plan .core .ports) (plan .core .permissions) peers s → allPorts ≡ d
+  all-ports peers d p e = rw (← p) (sym e)
+
+-- what is known of the slice
+fit : (c : tie.After-shared-slice-known) → (i : ℕ) → word (now (c .before .args .state)) i < 2 ^ 32
+unfolding word
+fit c i = omega (arith, c .shared-slice-known .given i)
+
+returns : tie.Need-returns
+returns c = decided _ _ (fit (c .before)) false _ _ _ (ne-eqb _ _ (c .if1 .taken)) refl refl refl
+
+all-timed-requires : tie.Need-all-timed-requires
+all-timed-requires c κs = search needs
+
+returns-2 : tie.Need-returns-2
+returns-2 c =
+    let e = c .before .before .before in
+    let timed = sym (c .before .all-timed .ensures) ∙ not-true _ (c .if2 .taken) in
+    decided _ _ (fit (e .before)) true false _ _ (eq-eqb _ _ (e .if1 .left)) timed refl refl
+
+rest-zero-requires : tie.Need-rest-zero-requires
+rest-zero-requires c κs = search needs
+
+returns-3 : tie.Need-returns-3
+returns-3 c =
+    let e = c .before .before .before .before .before in
+    let timed = sym (c .before .before .before .all-timed .ensures) ∙ not-false _ (c .before .before .if2 .left) in
+    let rest = sym (c .before .rest-zero .ensures) ∙ not-true _ (c .if3 .taken) in
+    decided _ _ (fit (e .before)) true true false _ (eq-eqb _ _ (e .if1 .left)) timed rest refl
+
+peers-of-requires : tie.Need-peers-of-requires
+peers-of-requires c κs = search needs
+
+ports-sound-requires : tie.Need-ports-sound-requires
+ports-sound-requires c κs = search needs
+
+returns-4 : tie.Need-returns-4
+returns-4 c =
+    let t = c .before .before .before .before .before .before .before in
+    let e = t .before .before .before .before .before in
+    let plan = e .before .before .args .plan in
+    let s = now (e .before .before .args .state) in
+    let timed = sym (t .before .before .before .all-timed .ensures) ∙ not-false _ (t .before .before .if2 .left) in
+    let rest = sym (t .before .rest-zero .ensures) ∙ not-false _ (t .if3 .left) in
+    let ports = all-ports plan s _ _ (c .before .before .before .before .before .peers-of .ensures) (c .ports-sound .ensures) in
+    decided plan s (fit (e .before)) true true true _ (eq-eqb _ _ (e .if1 .left)) timed rest ports
+
+pub is-sound-spec : {M : Type 1} → statement M
+is-sound-spec =
+    tie.close
+    (tie.spec
+    returns
+    all-timed-requires
+    returns-2
+    rest-zero-requires
+    returns-3
+    peers-of-requires
+    ports-sound-requires
+    returns-4)

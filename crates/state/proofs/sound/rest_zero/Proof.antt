@@ -1,0 +1,26 @@
+use mathlib.Core.Path.{sym}
+use Prim.Native.Nat.{_*_}
+use native.Mathlib.Omega.{arith}
+use borrow.Author.Tests.{lt-ltb}
+use Rattle.areas.proofs.Tests.{or-left, every-all}
+use Rattle.state.specs.State.{deviceWords, portsAt}
+use Rattle.state.specs.Tests.{zerosIn}
+use borrow.Author.Needs.{needs}
+use Rattle.state.proofs.sound.rest_zero.Statement.{statement}
+use Rattle.state.proofs.sound.rest_zero.Tie as tie
+
+returns : tie.Need-returns
+unfolding zerosIn
+returns c = sym (every-all portsAt _ (λ i l. or-left _ _ (lt-ltb i (deviceWords * c .before .before .args .n) (omega arith))))
+
+mul-zeros : tie.Need-mul-zeros
+mul-zeros c = search needs
+
+zeros-requires : tie.Need-zeros-requires
+zeros-requires c κs = search needs
+
+returns-2 : tie.Need-returns-2
+returns-2 c = search needs
+
+pub rest-zero-spec : {M : Type 1} → statement M
+rest-zero-spec = tie.close (tie.spec returns mul-zeros zeros-requires returns-2)

@@ -1,0 +1,48 @@
+-- RULES, "Plan file": what a plan says of its devices and ports. Port p of device d is q = 8 x d + p.
+use mathlib.Core.Bool.{Bool}
+use mathlib.Core.List.{List, []}
+use Prim.Native.Nat.{ℕ, _/_, _%_}
+use lib.Dec.{eqb, ltb}
+use lib.ListN.{getD}
+use Rattle.plan.specs.declared.Plan.{Plan}
+
+-- the port at the other end of port q, or nobody
+abbrev pub peerIn : List (List ℕ) → ℕ → ℕ
+peerIn peers q = getD (getD peers (q / 8) []) (q % 8) 0
+
+-- what the timer of identifier k is loaded with at a device of a role
+unfoldable pub loadFor : List ℕ → ℕ → ℕ → ℕ
+loadFor loads role k = getD loads role 0
+
+module _ (plan : Plan) where
+  abbrev pub devices : ℕ
+  devices = plan .core .devices
+
+  abbrev pub role : ℕ → ℕ
+  role d = getD (plan .core .role) d 0
+
+  abbrev pub router : ℕ → Bool
+  router d = eqb (role d) 1
+
+  -- how many ports device d has; an absent device has none
+  abbrev pub portsOf : ℕ → ℕ
+  portsOf d = getD (plan .core .ports) d 0
+
+  -- a port that its device has
+  abbrev pub exists : ℕ → Bool
+  exists q = ltb (q % 8) (portsOf (q / 8))
+
+  abbrev pub peer : ℕ → ℕ
+  peer q = peerIn (plan .peers) q
+
+  abbrev pub permissions : ℕ → ℕ
+  permissions q = getD (plan .core .permissions) q 0
+
+  abbrev pub source : ℕ → ℕ
+  source d = getD (plan .core .source) d 0
+
+  abbrev pub handler : ℕ → ℕ
+  handler d = getD (plan .core .handler) d 0
+
+  abbrev pub loadOf : ℕ → ℕ → ℕ
+  loadOf d k = loadFor (plan .core .loads) (role d) k

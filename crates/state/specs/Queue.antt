@@ -1,0 +1,57 @@
+-- RULES, "State": to queue code k of a kind at a port: if it runs and may send that kind, k joins that waiting set and leaves the other.
+use mathlib.Core.Bool.{Bool, cond, _&&_}
+use mathlib.Core.List.{List}
+use Prim.Native.Nat.{ℕ, _+_, _-_, _*_}
+use lib.Dec.{eqb, ltb}
+use lib.ListN.{length, getD}
+use Rattle.areas.specs.Loop.{upTo}
+use Rattle.bits.specs.Set.{join, leave}
+use Rattle.device.specs.Permissions.{maySend}
+use Rattle.plan.specs.declared.Plan.{Plan}
+use Rattle.state.specs.declared.port.Port.{Port}
+use Rattle.state.specs.State.{State, words, put, portAt, waiting, running}
+use Rattle.state.specs.Network.{permissions}
+
+-- at a port's record of what waits, where the port may send
+unfoldable pub queuedPort : ℕ → ℕ → Port → Port
+queuedPort kind k port =
+    cond (eqb (port .running) 1)
+    (cond (eqb kind 0)
+    (record { interrupts = join (port .interrupts) k; acknowledges = leave (port .acknowledges) k; next = port .next; running = port .running })
+    (record { interrupts = leave (port .interrupts) k; acknowledges = join (port .acknowledges) k; next = port .next; running = port .running }))
+    port
+
+-- in the state, port q with its permissions: it runs and may send that kind
+abbrev pub sendsAt : ℕ → ℕ → ℕ → State → Bool
+sendsAt permissions kind q s = eqb (running s q) 1 && maySend kind permissions
+
+unfoldable pub queueAt : ℕ → ℕ → ℕ → ℕ → State → State
+queueAt permissions kind k q s =
+    cond (sendsAt permissions kind q s)
+    (put (put s (portAt q kind) (join (waiting s kind q) k)) (portAt q (1 - kind)) (leave (waiting s (1 - kind) q) k))
+    s
+
+-- by the permissions of all ports, at port p of device d, unless it is one that is left out, or nobody
+abbrev pub queueBut : List ℕ → ℕ → ℕ → ℕ → ℕ → ℕ → State → State
+queueBut permissions kind k d but p s =
+    cond (eqb (8 * d + p) but) s (queueAt (getD permissions (8 * d + p) 0) kind k (8 * d + p) s)
+
+-- at every port of device d but that one
+unfoldable pub queueAllAt : List ℕ → ℕ → ℕ → ℕ → ℕ → State → State
+queueAllAt permissions kind k d but s = upTo (queueBut permissions kind k d but) 8 s
+
+-- in any area: where it is no state, or there is no such device or kind, nothing changes
+unfoldable pub queueIn : List ℕ → ℕ → ℕ → ℕ → ℕ → State → State
+queueIn permissions kind k d but s =
+    cond (eqb (length s) words && ltb d 32 && ltb kind 2) (queueAllAt permissions kind k d but s) s
+
+-- by a plan
+module _ (plan : Plan) (kind k : ℕ) where
+  abbrev pub sends : State → ℕ → Bool
+  sends s q = sendsAt (permissions plan q) kind q s
+
+  abbrev pub queue : ℕ → State → State
+  queue q s = queueAt (permissions plan q) kind k q s
+
+  abbrev pub queueAll : ℕ → ℕ → State → State
+  queueAll = queueAllAt (plan .core .permissions) kind k

@@ -1,0 +1,43 @@
+-- RULES, "State": the states that are sound.
+use mathlib.Core.Path.{_≡_}
+use mathlib.Core.Bool.{true, false}
+use mathlib.Core.List.{List, [], _∷_}
+use Prim.Native.Nat.{ℕ, _+_, _*_, _^_, _≤_, _<_}
+use lib.Bits.{bitAnd}
+use lib.ListN.{length}
+use Rattle.answers.specs.Ordered.{Condition, ask}
+use Rattle.bits.specs.Set.{bit}
+use Rattle.device.specs.Permissions.{maySend}
+use Rattle.plan.specs.Fields.{nobody}
+use Rattle.plan.specs.Reading.{Held}
+use Rattle.plan.specs.declared.Plan.{Plan}
+use Rattle.state.specs.State.{State, words, word, deviceWords, portWords, register, timer, waiting, next, running, portAt}
+use Rattle.state.specs.Network.{devices, exists, peer, permissions}
+
+-- a timer is 1 to 65,535 where its bit is 1, else 0
+pub record Timed (s : State) (d k : ℕ) : Type 0 where
+  pub on : bit (register s d) k ≡ 1 → (1 ≤ timer s d k) × (timer s d k ≤ 65535)
+  pub off : bit (register s d) k ≡ 0 → timer s d k ≡ 0
+
+-- an existing port
+pub record Kept (plan : Plan) (s : State) (q : ℕ) : Type 0 where
+  pub next-below : next s q < 32
+  pub flag : running s q < 2
+  pub both-ends : peer plan q < nobody → running s q ≡ running s (peer plan q)
+  pub loose : peer plan q ≡ nobody → running s q ≡ 0
+  pub apart : bitAnd (waiting s 0 q) (waiting s 1 q) ≡ 0
+  pub stopped : running s q ≡ 0 → (kind : ℕ) → kind < 2 → waiting s kind q ≡ 0
+  pub mute : (kind : ℕ) → kind < 2 → maySend kind (permissions plan q) ≡ false → waiting s kind q ≡ 0
+
+pub record Sound (plan : Plan) (s : State) : Type 0 where
+  pub size : length s ≡ words
+  pub words : (i : ℕ) → word s i < 2 ^ 32
+  pub timers : (d k : ℕ) → d < devices plan → d < 32 → k < 32 → Timed s d k
+  pub ports : (q : ℕ) → q < 256 → exists plan q ≡ true → Kept plan s q
+  -- all words of absent devices and ports are 0
+  pub no-device : (d i : ℕ) → devices plan ≤ d → d < 32 → i < deviceWords → word s (deviceWords * d + i) ≡ 0
+  pub no-port : (q i : ℕ) → q < 256 → exists plan q ≡ false → i < portWords → word s (portAt q i) ≡ 0
+
+-- what every call on a state asks first
+abbrev pub stateAsks : Plan → State → List Condition
+stateAsks plan s = ask 1 (Held plan) ∷ ask 2 (Sound plan s) ∷ []

@@ -1,0 +1,79 @@
+-- RULES, "State": how many words of 32 bits it has, and where each stands.
+use mathlib.Core.List.{List, _∷_, _++_}
+use Prim.Native.Nat.{ℕ, _+_, _-_, _*_}
+use lib.ListN.{getD, set}
+use Rattle.areas.specs.Table.{table, joined}
+
+abbrev pub State : Type 0
+State = List ℕ
+
+abbrev pub words : ℕ
+words = 2080
+
+unfoldable pub word : State → ℕ → ℕ
+word s i = getD s i 0
+
+unfoldable pub put : State → ℕ → ℕ → State
+put s i v = set s i v
+
+-- ---- a device has its register, and its 32 timers behind it
+
+abbrev pub deviceWords : ℕ
+deviceWords = 33
+
+abbrev pub registerAt : ℕ → ℕ
+registerAt d = deviceWords * d
+
+abbrev pub timerAt : ℕ → ℕ → ℕ
+timerAt d k = deviceWords * d + 1 + k
+
+abbrev pub register : State → ℕ → ℕ
+register s d = word s (registerAt d)
+
+abbrev pub timer : State → ℕ → ℕ → ℕ
+timer s d k = word s (timerAt d k)
+
+-- ---- behind all devices are the ports: port p of device d is q = 8 x d + p, and has four words
+
+abbrev pub portsAt : ℕ
+portsAt = 1056
+
+abbrev pub portWords : ℕ
+portWords = 4
+
+abbrev pub portAt : ℕ → ℕ → ℕ
+portAt q i = portsAt + portWords * q + i
+
+-- behind the last port
+abbrev pub portsEnd : ℕ
+portsEnd = 2080
+
+-- the waiting codes of a kind come first: interrupts (0), then acknowledges (1)
+abbrev pub waiting : State → ℕ → ℕ → ℕ
+waiting s kind q = word s (portAt q kind)
+
+abbrev pub nextAt : ℕ
+nextAt = 2
+
+abbrev pub next : State → ℕ → ℕ
+next s q = word s (portAt q nextAt)
+
+abbrev pub runningAt : ℕ
+runningAt = 3
+
+abbrev pub running : State → ℕ → ℕ
+running s q = word s (portAt q runningAt)
+
+-- ---- a state made of its parts
+
+pub record Parts : Type 0 where
+  pub registers : ℕ → ℕ
+  pub timers : ℕ → ℕ → ℕ
+  pub ports : ℕ → ℕ → ℕ
+  -- all words behind the ports; as yet there are none
+  pub others : ℕ → ℕ
+
+unfoldable pub stateOf : Parts → State
+stateOf parts =
+    joined 32 (λ d. parts .registers d ∷ table 32 (parts .timers d))
+    ++ (joined 256 (λ q. table portWords (parts .ports q)) ++ table (words - portsEnd) (parts .others))

@@ -1,0 +1,69 @@
+-- No rules: whether a state is sound, as one computed test. Nothing here has to be believed; `Tested` proves what it comes to.
+use mathlib.Core.Bool.{Bool, cond, not, _&&_, _||_}
+use mathlib.Core.List.{List}
+use Prim.Native.Nat.{ℕ, _*_, _/_, _%_, min}
+use lib.Bits.{bitAnd}
+use lib.Dec.{eqb, ltb, leb}
+use lib.ListN.{length, getD}
+use Rattle.areas.specs.Table.{every}
+use Rattle.bits.specs.Set.{bit}
+use Rattle.device.specs.Permissions.{maySend}
+use Rattle.plan.specs.Fields.{nobody}
+use Rattle.plan.specs.declared.Plan.{Plan}
+use Rattle.state.specs.State.{State, words, word, deviceWords, portsAt, portWords, portAt, register, timer, waiting, next, running}
+use Rattle.state.specs.Network.{peerIn}
+
+unfoldable pub timerSound : ℕ → ℕ → Bool
+timerSound on timer = cond (eqb on 1) (leb 1 timer && leb timer 65535) (eqb timer 0)
+
+unfoldable pub deviceTimed : State → ℕ → Bool
+deviceTimed s d = every 32 (λ k. timerSound (bit (register s d) k) (timer s d k))
+
+-- of n devices; a state has room for 32
+unfoldable pub allTimed : ℕ → State → Bool
+allTimed n s = every (min n 32) (deviceTimed s)
+
+-- the words from one place to another are 0
+unfoldable pub zerosIn : ℕ → ℕ → State → Bool
+zerosIn from to s = every to (λ i. ltb i from || eqb (word s i) 0)
+
+-- those behind n devices, up to the ports
+abbrev pub restZero : ℕ → State → Bool
+restZero n s = zerosIn (deviceWords * n) portsAt s
+
+-- the flag is 0 or 1, as at the other end, and 0 where there is none; a peer above 256 is no port
+unfoldable pub flagSound : State → ℕ → ℕ → Bool
+flagSound s flag peer = leb flag 1 && cond (eqb peer nobody) (eqb flag 0) (ltb nobody peer || eqb flag (running s peer))
+
+-- codes of a kind wait only where the port runs and may send them
+unfoldable pub mayWait : ℕ → ℕ → ℕ → ℕ → Bool
+mayWait kind codes flag permissions = eqb codes 0 || (not (eqb flag 0) && maySend kind permissions)
+
+unfoldable pub waitingSound : ℕ → ℕ → ℕ → ℕ → Bool
+waitingSound interrupts acknowledges flag permissions =
+    eqb (bitAnd interrupts acknowledges) 0 && mayWait 0 interrupts flag permissions && mayWait 1 acknowledges flag permissions
+
+unfoldable pub portKept : State → ℕ → ℕ → ℕ → Bool
+portKept s q peer permissions =
+    leb (next s q) 31 && flagSound s (running s q) peer && waitingSound (waiting s 0 q) (waiting s 1 q) (running s q) permissions
+
+unfoldable pub portZero : State → ℕ → Bool
+portZero s q = every portWords (λ i. eqb (word s (portAt q i)) 0)
+
+unfoldable pub portSound : State → ℕ → ℕ → ℕ → ℕ → Bool
+portSound s q ports peer permissions = cond (ltb (q % 8) ports) (portKept s q peer permissions) (portZero s q)
+
+module _ (ports permissions : List ℕ) (peers : List (List ℕ)) (s : State) where
+  -- port q, by what stands in the arrays of a plan
+  abbrev pub placeSound : ℕ → Bool
+  placeSound q = portSound s q (getD ports (q / 8) 0) (peerIn peers q) (getD permissions q 0)
+
+  unfoldable pub portsSound : Bool
+  portsSound = every 256 placeSound
+
+unfoldable pub sounds : Plan → State → Bool
+sounds plan s =
+    eqb (length s) words
+    && allTimed (plan .core .devices) s
+    && restZero (plan .core .devices) s
+    && portsSound (plan .core .ports) (plan .core .permissions) (plan .peers) s

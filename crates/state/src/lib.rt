@@ -1,0 +1,45 @@
+// The state of a network: where its words stand, whether it is sound, the one that every run starts
+// from, and how a code is queued at a port.
+ghost use mathlib.Core.Path.{_≡_};
+ghost use Rattle.state.specs.Network.{loadFor};
+
+mod first;
+mod port;
+mod sound;
+
+pub use first::begin;
+pub use first::start;
+pub use port::queue_all;
+pub use sound::is_sound;
+pub use sound::refusal;
+pub use sound::word;
+
+pub const WORDS: usize = 2080;
+
+// A device has its register and its 32 timers, from 33 x d on.
+pub const DEVICE: usize = 33;
+
+// Behind all devices are the ports, with four words each: the waiting interrupts, the waiting
+// acknowledges, where the search for the next one starts, and whether it runs.
+pub const PORTS: usize = 1056;
+
+pub const PORT: usize = 4;
+
+pub const INTERRUPTS: usize = 0;
+
+pub const ACKNOWLEDGES: usize = 1;
+
+pub const NEXT: usize = 2;
+
+pub const RUNNING: usize = 3;
+
+// What the timer of identifier k is loaded with at a device of the role; there is no other role than
+// these two, and for another it would be 0.
+pub fn load_for(loads: [u16; 2], role: u8, k: u32) -> u32
+    ensures { λ r. ⌜ r ≡ loadFor loads role k ⌝ }
+{
+    if role < 2 {
+        return loads[role as usize] as u32;
+    }
+    0
+}

@@ -1,0 +1,244 @@
+// Whether a state is sound for a plan.
+ghost use mathlib.Core.Path.{_≡_};
+ghost use Prim.Native.Nat.{_<_, _≤_};
+ghost use lib.ListN.{length};
+ghost use Rattle.answers.specs.Decides.{Decides};
+ghost use Rattle.answers.specs.Ordered.{Ordered};
+ghost use Rattle.state.specs.Sound.{Sound, stateAsks};
+ghost use Rattle.state.specs.State.{words, word as State·word};
+ghost use Rattle.state.specs.Tests.{timerSound, deviceTimed, allTimed, zerosIn, restZero, flagSound, mayWait, waitingSound, portKept, portZero, portSound, portsSound};
+use crate::ACKNOWLEDGES;
+use crate::DEVICE;
+use crate::INTERRUPTS;
+use crate::NEXT;
+use crate::PORT;
+use crate::PORTS;
+use crate::RUNNING;
+use crate::WORDS;
+use plan::Plan;
+
+// Is the state, of any length, sound for the plan?
+pub fn is_sound(plan: Plan, state: &[u32]) -> bool
+    ensures { λ r. ⌜ Decides (Sound plan (now (state .entry))) r ⌝ }
+{
+    if state.len() != WORDS {
+        return false;
+    }
+    let core = plan.core;
+    if !all_timed(core.devices, state) {
+        return false;
+    }
+    if !rest_zero(core.devices, state) {
+        return false;
+    }
+    let ports = core.ports;
+    let peers = plan::peers_of(plan);
+    ports_sound(&ports, &core.permissions, &peers, state)
+}
+
+// What every call on a state is refused with first, or 0: a plan that no file holds by 1, a state
+// that is not sound by 2.
+pub fn refusal(plan: Plan, state: &[u32]) -> u32
+    ensures { λ r. ⌜ Ordered (stateAsks plan (now (state .entry))) r ⌝ }
+{
+    if !plan::is_held(plan) {
+        return 1;
+    }
+    if !is_sound(plan, state) {
+        return 2;
+    }
+    0
+}
+
+// Word i; past the end it is 0.
+pub fn word(state: &[u32], i: usize) -> u32
+    ensures { λ r. ⌜ r ≡ State·word (now (state .entry)) i ⌝ }
+{
+    if i < state.len() {
+        return state[i];
+    }
+    0
+}
+
+// Word i of a state whose length is known.
+fn inside(state: &[u32], i: usize) -> u32
+    requires { ⌜ i < length (now state) ⌝ }
+    ensures { λ r. ⌜ r ≡ State·word (now (state .entry)) i ⌝ }
+{
+    state[i]
+}
+
+// Are the timers of n devices sound? A state has room for 32.
+fn all_timed(n: usize, state: &[u32]) -> bool
+    requires { ⌜ length (now state) ≡ words ⌝ }
+    ensures { λ r. ⌜ r ≡ allTimed n (now (state .entry)) ⌝ }
+{
+    for d in 0..32 {
+        if n <= d {
+            return true;
+        }
+        if !device_timed(state, d) {
+            return false;
+        }
+    }
+    true
+}
+
+// Are the timers of device d sound?
+fn device_timed(state: &[u32], d: usize) -> bool
+    requires { ⌜ (length (now state) ≡ words) × (d < 32) ⌝ }
+    ensures { λ r. ⌜ r ≡ deviceTimed (now (state .entry)) d ⌝ }
+{
+    let register = inside(state, DEVICE * d);
+    for k in 0..32 {
+        if !timer_sound(
+            bits::get(register, k as u32),
+            inside(state, DEVICE * d + 1 + k),
+        ) {
+            return false;
+        }
+    }
+    true
+}
+
+// Is the timer 1 to 65,535 where its bit is 1, else 0?
+fn timer_sound(on: u32, timer: u32) -> bool
+    ensures { λ r. ⌜ r ≡ timerSound on timer ⌝ }
+{
+    if on == 1 {
+        if timer < 1 {
+            return false;
+        }
+        return timer <= 65535;
+    }
+    timer == 0
+}
+
+// Are the words behind those of n devices 0, up to the ports? A state has room for 32.
+fn rest_zero(n: usize, state: &[u32]) -> bool
+    requires { ⌜ length (now state) ≡ words ⌝ }
+    ensures { λ r. ⌜ r ≡ restZero n (now (state .entry)) ⌝ }
+{
+    if 32 <= n {
+        return true;
+    }
+    zeros(DEVICE * n, PORTS, state)
+}
+
+// Are the words from one place to another 0? Their sum is, and several at a time are added, where a
+// search for one that is not would look at each.
+fn zeros(from: usize, to: usize, state: &[u32]) -> bool
+    requires { ⌜ (length (now state) ≡ words) × (from ≤ to) × (to ≤ words) ⌝ }
+    ensures { λ r. ⌜ r ≡ zerosIn from to (now (state .entry)) ⌝ }
+{
+    let mut sum: u64 = 0;
+    for i in from..to {
+        sum += inside(state, i) as u64;
+    }
+    sum == 0
+}
+
+// Are the words of every port sound, and 0 where there is none?
+fn ports_sound(
+    ports: &[u8; 32],
+    permissions: &[u8; 256],
+    peers: &[[u16; 8]; 32],
+    state: &[u32],
+) -> bool
+    requires { ⌜ length (now state) ≡ words ⌝ }
+    ensures { λ r. ⌜ r ≡ portsSound (now (ports .entry)) (now (permissions .entry)) (now (peers .entry)) (now (state .entry)) ⌝ }
+{
+    for q in 0..256 {
+        if !port_sound(state, q, ports[q / 8], peers[q / 8][q % 8], permissions[q]) {
+            return false;
+        }
+    }
+    true
+}
+
+// Is port q sound, where its device has so many, and else 0?
+fn port_sound(state: &[u32], q: usize, ports: u8, peer: u16, permissions: u8) -> bool
+    requires { ⌜ (length (now state) ≡ words) × (q < 256) ⌝ }
+    ensures { λ r. ⌜ r ≡ portSound (now (state .entry)) q ports peer permissions ⌝ }
+{
+    if q % 8 < ports as usize {
+        return port_kept(state, q, peer, permissions);
+    }
+    port_zero(state, q)
+}
+
+fn port_zero(state: &[u32], q: usize) -> bool
+    requires { ⌜ (length (now state) ≡ words) × (q < 256) ⌝ }
+    ensures { λ r. ⌜ r ≡ portZero (now (state .entry)) q ⌝ }
+{
+    for i in 0..4 {
+        if inside(state, PORTS + PORT * q + i) != 0 {
+            return false;
+        }
+    }
+    true
+}
+
+// Is port q sound, whose peer and permissions these are?
+fn port_kept(state: &[u32], q: usize, peer: u16, permissions: u8) -> bool
+    requires { ⌜ (length (now state) ≡ words) × (q < 256) ⌝ }
+    ensures { λ r. ⌜ r ≡ portKept (now (state .entry)) q peer permissions ⌝ }
+{
+    let at = PORTS + PORT * q;
+    if 31 < inside(state, at + NEXT) {
+        return false;
+    }
+    let running = inside(state, at + RUNNING);
+    if !flag_sound(state, running, peer) {
+        return false;
+    }
+    waiting_sound(
+        inside(state, at + INTERRUPTS),
+        inside(state, at + ACKNOWLEDGES),
+        running,
+        permissions,
+    )
+}
+
+// Is the running flag 0 or 1, as at the other end, and 0 where there is none?
+fn flag_sound(state: &[u32], running: u32, peer: u16) -> bool
+    requires { ⌜ length (now state) ≡ words ⌝ }
+    ensures { λ r. ⌜ r ≡ flagSound (now (state .entry)) running peer ⌝ }
+{
+    if 1 < running {
+        return false;
+    }
+    if peer == plan::NOBODY {
+        return running == 0;
+    }
+    if plan::NOBODY < peer {
+        return true;
+    }
+    running == inside(state, PORTS + PORT * peer as usize + RUNNING)
+}
+
+// Have the waiting sets no common bit, and may what is in them wait?
+fn waiting_sound(interrupts: u32, acknowledges: u32, running: u32, permissions: u8) -> bool
+    ensures { λ r. ⌜ r ≡ waitingSound interrupts acknowledges running permissions ⌝ }
+{
+    if interrupts & acknowledges != 0 {
+        return false;
+    }
+    if !may_wait(0, interrupts, running, permissions) {
+        return false;
+    }
+    may_wait(1, acknowledges, running, permissions)
+}
+
+// Codes of a kind wait only where the port runs and may send them.
+fn may_wait(kind: u8, codes: u32, running: u32, permissions: u8) -> bool
+    ensures { λ r. ⌜ r ≡ mayWait kind codes running permissions ⌝ }
+{
+    if codes == 0 {
+        return true;
+    }
+    if running == 0 {
+        return false;
+    }
+    device::may_send(kind, permissions as u32)
+}
