@@ -18,7 +18,7 @@ use Rattle.plan.specs.Fields.{nobody}
 use Rattle.plan.specs.Reading.{Held}
 use Rattle.plan.specs.declared.Plan.{Plan}
 use Rattle.plan.proofs.BothWays.{held-few}
-use Rattle.state.specs.State.{State, words, word, put, deviceWords, portsAt, registerAt, timerAt, portAt, timer}
+use Rattle.state.specs.State.{State, words, word, put, deviceWords, portsAt, registerAt, timerAt, timer}
 use Rattle.state.specs.Network.{devices, portsOf, exists, peer}
 use Rattle.state.specs.Sound.{Sound}
 use Rattle.bench.specs.Round.{World, nothing, sentWords, tick, sentBytes, arrives, round}

@@ -2,9 +2,6 @@
 use mathlib.Core.Path.{_≡_, refl, sym, ap, subst, _∙_}
 use mathlib.Core.List.{List, []}
 use Prim.Native.Nat.{ℕ}
-use lib.ListN.{length}
-use borrow.Author.Tests.{eq-eqb}
-use Rattle.areas.specs.Put.{copied}
 use Rattle.plan.specs.declared.Plan.{Plan}
 use Rattle.state.specs.State.{State}
 use Rattle.bench.specs.Round.{ticked, posted, sentBytes, reached, afterSending, round}

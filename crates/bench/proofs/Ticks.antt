@@ -50,7 +50,7 @@ module _ (plan : Plan) (held : Held plan) {s : State} (x : Sound plan s) (d : 鈩
   tick-step isRouter k told l =
       let r = register s d in
       let old : Timed s d k = x .timers d k h (omega (arith, few plan held)) l in
-      let small = x .words (registerAt d) in
+      let small = x .fits (registerAt d) in
       tick-cases isRouter d k (record { state = s; told = told }) (位 v. Sound plan (v .state)) (位 e. x)
       (位 e. let is = leave-same r k l in
       timer-step plan held x d h k (leave r k) 0 l (leave-lt r k small) (leave-other r k) (omega arith) (位 b. absurd (omega arith)) (位 b. refl))

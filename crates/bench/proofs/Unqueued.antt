@@ -1,11 +1,11 @@
 -- The code that is sent is taken out of its set: a sound state stays sound, and no word changes but those of ports.
 use mathlib.Core.Path.{_≡_, refl, ap, _∙_}
-use mathlib.Core.Bool.{true, false}
+use mathlib.Core.Bool.{true}
 use Prim.Native.Nat.{ℕ, _*_, _≤_, _<_}
 use native.Mathlib.Omega.{arith}
 use lib.Bits.{bitOr, or-zero-l}
 use Rattle.areas.proofs.Loops.{keeps, untouched}
-use Rattle.bits.specs.Set.{bit, leave}
+use Rattle.bits.specs.Set.{leave}
 use Rattle.bits.specs.First.{Finds, following}
 use Rattle.bits.specs.declared.Found.{Found}
 use Rattle.bits.specs.declared.Found.the-variants.{At, Nowhere}
@@ -39,8 +39,8 @@ module _ (plan : Plan) (held : Held plan) {s : State} (x : Sound plan s) (q : �
             (next-step plan held
             (sets-step plan held x q small there (λ j. leave (waiting s j q) k)
             (record {
-              fits = λ j g. leave-lt (waiting s j q) k (x .words (portAt q j));
-              apart = left-apart k (f .place) (waiting s 0 q) (waiting s 1 q) (now .apart) (x .words (portAt q 0));
+              fits = λ j g. leave-lt (waiting s j q) k (x .fits (portAt q j));
+              apart = left-apart k (f .place) (waiting s 0 q) (waiting s 1 q) (now .apart) (x .fits (portAt q 0));
               stopped = λ z j g. ap (λ v. leave v k) (now .stopped z j g) ∙ leave-zero k;
               mute = λ j g z. ap (λ v. leave v k) (now .mute j g z) ∙ leave-zero k;
             }))

@@ -2,7 +2,7 @@
 use mathlib.Core.Path.{_≡_, refl, ap, _∙_}
 use mathlib.Core.Bool.{Bool, true, false, cond}
 use mathlib.Core.Logic.{_≢_, dite}
-use Prim.Native.Nat.{ℕ, _+_, _*_, _/_, _≤_, _<_}
+use Prim.Native.Nat.{ℕ, _+_, _*_, _/_, _<_}
 use native.Mathlib.Decide.{decLt}
 use native.Mathlib.Omega.{arith}
 use lib.Bits.{and-zero-l}
@@ -46,7 +46,7 @@ module _ (plan : Plan) (held : Held plan) where
     cleared-sound : Sound plan (cleared d s)
     cleared-sound =
         let small : d < 32 = omega (arith, few plan held) in
-        device-step plan held x (cleared-fits d s (x .size) (x .words)) d h (cleared-left d s (x .size))
+        device-step plan held x (cleared-fits d s (x .size) (x .fits)) d h (cleared-left d s (x .size))
         (λ k l. record {
           on = λ b. absurd (omega (arith, bit-zero k, ap (λ r. bit r k) (cleared-register d s (x .size) small)));
           off = λ b. cleared-timer d s (x .size) k small l;
@@ -70,7 +70,7 @@ module _ (plan : Plan) (held : Held plan) where
     reset-sound d h =
         let y = cleared-sound d h s x in
         let t = cleared d s in
-        empty-step plan held y (emptied-fits d t (y .size) (y .words)) (emptied-left d t (y .size))
+        empty-step plan held y (emptied-fits d t (y .size) (y .fits)) (emptied-left d t (y .size))
         (λ q. dite (decLt q 256) (emptied-flag d t (y .size) q) (λ n. emptied-left d t (y .size) (portAt q runningAt) (λ a b. omega arith)))
         (λ q i l m. emptied-port d t (y .size) q i l (omega arith))
 

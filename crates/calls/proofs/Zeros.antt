@@ -79,7 +79,7 @@ module _ (d : ℕ) (s : State) (long : length s ≡ words) where
   cleared-fits small =
       record {
         size = length-state _;
-        words =
+        fits =
             by-place (λ i. word (cleared d s) i < 2 ^ 32)
             (λ e h. rw (register-of _ e h) (keep (λ v. v < 2 ^ 32) (eqb e d) (register s e) (omega arith) (small (registerAt e))))
             (λ e k h l. rw (timer-of _ e k h l) (keep (λ v. v < 2 ^ 32) (eqb e d) (timer s e k) (omega arith) (small (timerAt e k))))
@@ -177,7 +177,7 @@ module _ (d : ℕ) (s : State) (long : length s ≡ words) where
   emptied-fits small =
       record {
         size = length-state _;
-        words =
+        fits =
             by-place (λ i. word (emptied d s) i < 2 ^ 32) (λ e h. rw (register-of _ e h) (small (registerAt e))) (λ e k h l. rw (timer-of _ e k h l) (small (timerAt e k)))
             (λ q i h l. rw (port-of _ q i h l) (keep (λ v. v < 2 ^ 32) (eqb (q / 8) d && not (eqb i runningAt)) (word s (portAt q i)) (omega arith) (small (portAt q i))))
             (λ i h. rw (emptied-behind i h) (small i));

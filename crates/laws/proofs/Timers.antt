@@ -6,11 +6,10 @@ use mathlib.Core.Logic.{_⊎_, inl, inr, _≢_}
 use Prim.Native.Nat.{ℕ, zero, suc, _+_, _-_, _*_, _/_, _%_, _≤_, _<_}
 use native.Mathlib.Decide.{ℕ-discrete}
 use native.Mathlib.Omega.{arith}
-use lib.Dec.{eqb}
 use lib.ListN.{length, getD}
 use Rattle.areas.specs.Loop.{upTo}
 use Rattle.areas.proofs.Loops.{keeps, keeps-from, untouched, own, came}
-use Rattle.bits.specs.Set.{bit, join, leave}
+use Rattle.bits.specs.Set.{bit, leave}
 use Rattle.bits.proofs.Sets.{bit-two}
 use Rattle.codes.specs.Codes.{byteOf}
 use Rattle.device.specs.Reaction.{marked}
@@ -24,7 +23,7 @@ use Rattle.state.specs.Sound.{Timed, Sound}
 use Rattle.state.specs.Mark.{mark}
 use Rattle.calls.specs.Calls.{called}
 use Rattle.bench.specs.Round.{World, ofInterrupt, ofTimeout, toldWord, nothing, tick, ticked, sentBytes, arrives, reached, afterTimers, afterSending, afterArrivals, round}
-use Rattle.state.proofs.Words.{length-put, word-same, word-other}
+use Rattle.state.proofs.Words.{length-put, word-same}
 use Rattle.state.proofs.Plans.{few}
 use Rattle.state.proofs.Marks.{mark-other}
 use Rattle.state.proofs.Waits.{queue-all-left}

@@ -1,5 +1,5 @@
 -- Block 0 and the block of a device, beside the parts of a plan that they hold: what each says of the other.
-use mathlib.Core.Path.{_≡_, refl, sym, subst, ap, ap₂, _∙_}
+use mathlib.Core.Path.{_≡_, refl, sym, subst, ap₂, _∙_}
 use mathlib.Core.Bool.{true}
 use mathlib.Core.List.{List, [], _∷_}
 use Prim.Native.Nat.{ℕ, zero, suc, _+_, _*_, _≤_, _<_}
@@ -19,7 +19,7 @@ use Rattle.areas.proofs.Facts.{facts}
 use Rattle.plan.proofs.Shape.{Numbers}
 use Rattle.plan.proofs.Good.{GoodHeader, GoodDevice}
 use Rattle.plan.proofs.Bytes.{Bytes}
-use Rattle.plan.proofs.Holdings.{fieldsOf, ascends, Ascends, ascending, Holds, Fit, all-append, all-parts, all-joined, all-at, made-checked, made-rest, made-holds, is-made}
+use Rattle.plan.proofs.Holdings.{fieldsOf, Ascends, ascending, Holds, Fit, all-append, all-parts, all-joined, all-at, made-checked, made-rest, made-holds, is-made}
 use Rattle.plan.proofs.Entries.{Port, nowhere, entry-port, port-entry, port-peer, port-permissions, no-port, port-right, port-numbers, port-small, right-port}
 
 -- ---- block 0

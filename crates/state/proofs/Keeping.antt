@@ -1,8 +1,8 @@
 -- What keeps a state sound: a change in the words of one device, in the waiting sets or next of one port, or of the flags at both ends of a link; and emptying any ports.
 use mathlib.Core.Path.{_≡_, refl, sym, ap, _∙_}
-use mathlib.Core.Bool.{Bool, true, false, false≢true}
+use mathlib.Core.Bool.{true, false, false≢true}
 use mathlib.Core.Logic.{_⊎_, inl, inr, _≢_, dite}
-use Prim.Native.Nat.{ℕ, zero, suc, _+_, _*_, _%_, _^_, _≤_, _<_}
+use Prim.Native.Nat.{ℕ, zero, suc, _+_, _*_, _^_, _≤_, _<_}
 use native.Mathlib.Decide.{decLt, ℕ-discrete}
 use native.Mathlib.Omega.{arith}
 use lib.Bits.{bitAnd, and-zero-l, and-zero-r}
@@ -27,20 +27,20 @@ both-kinds P a b (suc (suc n)) h = absurd (omega arith)
 
 pub record Fits (s : State) : Type 0 where
   pub size : length s ≡ words
-  pub words : (i : ℕ) → word s i < 2 ^ 32
+  pub fits : (i : ℕ) → word s i < 2 ^ 32
 
 pub put-fits : {s : State} → Fits s → (i v : ℕ) → i < words → v < 2 ^ 32 → Fits (put s i v)
 put-fits {s} f i v h g =
     record {
       size = length-put s i v ∙ f .size;
-      words = λ j. elim (ℕ-discrete j i) [
+      fits = λ j. elim (ℕ-discrete j i) [
         | yes e ↦ rw (e, word-same s i v (omega arith)) g
-        | no ne ↦ rw (word-other s i v j ne) (f .words j)
+        | no ne ↦ rw (word-other s i v j ne) (f .fits j)
       ];
     }
 
 pub sound-fits : {plan : Plan} {s : State} → Sound plan s → Fits s
-sound-fits x = record { size = x .size; words = x .words }
+sound-fits x = record { size = x .size; fits = x .fits }
 
 -- nothing stands behind the ports
 pub sound-behind : {plan : Plan} {s : State} → Sound plan s → (i : ℕ) → portsEnd ≤ i → word s i ≡ 0
@@ -81,7 +81,7 @@ module _ (plan : Plan) (held : Held plan) {s : State} (x : Sound plan s) where
       let n = few plan held in
       record {
         size = f .size;
-        words = f .words;
+        fits = f .fits;
         timers = λ e k l g m. elim (ℕ-discrete e d) [
           | yes q ↦ rw q (timed k m)
           | no ne ↦ timed-same (x .timers e k l g m) (same (registerAt e) (omega arith)) (same (timerAt e k) (omega arith))
@@ -99,7 +99,7 @@ module _ (plan : Plan) (held : Held plan) {s : State} (x : Sound plan s) where
       let n = few plan held in
       record {
         size = f .size;
-        words = f .words;
+        fits = f .fits;
         timers = λ e k l g m. timed-same (x .timers e k l g m) (same (registerAt e) (omega arith)) (same (timerAt e k) (omega arith));
         ports = kept;
         no-device = λ e i l m o. same (deviceWords * e + i) (omega arith) ∙ x .no-device e i l m o;

@@ -2,7 +2,7 @@
 use mathlib.Core.Path.{_≡_, refl, _∙_}
 use mathlib.Core.Bool.{Bool, true, false, cond}
 use mathlib.Core.Logic.{_≢_}
-use Prim.Native.Nat.{ℕ, zero, suc, _+_, _-_, _*_, _^_, _≤_, _<_}
+use Prim.Native.Nat.{ℕ, zero, suc, _-_, _^_, _≤_, _<_}
 use native.Mathlib.Decide.{ℕ-discrete}
 use native.Mathlib.Omega.{arith}
 use lib.Dec.{eqb}
@@ -58,7 +58,7 @@ module _ (plan : Plan) (held : Held plan) {s : State} (x : Sound plan s) (d : �
   marks kind k v g l fits on off =
       let r = register s d in
       let is : bit (marked kind r k) k ≡ 1 - kind = marked-same kind r k g l in
-      timer-step k (marked kind r k) v l (marked-lt kind r k (x .words (registerAt d))) (marked-other kind r k) fits (λ e. on (omega arith)) (λ e. off (omega arith))
+      timer-step k (marked kind r k) v l (marked-lt kind r k (x .fits (registerAt d))) (marked-other kind r k) fits (λ e. on (omega arith)) (λ e. off (omega arith))
 
   pub mark-step : (kind k : ℕ) → kind < 2 → k < 32 → Sound plan (mark plan kind d k s)
   unfolding mark

@@ -1,6 +1,6 @@
 -- The start state is sound.
-use mathlib.Core.Path.{_≡_, refl, sym, ap, _∙_}
-use mathlib.Core.Bool.{Bool, true, false, cond, not, _&&_}
+use mathlib.Core.Path.{_≡_, sym, ap, _∙_}
+use mathlib.Core.Bool.{Bool, true, false, cond, not}
 use mathlib.Core.Logic.{dite}
 use Prim.Native.Nat.{ℕ, _+_, _-_, _*_, _^_, _≤_, _<_}
 use native.Mathlib.Decide.{decLt, ℕ-discrete}
@@ -13,7 +13,7 @@ use Rattle.bits.proofs.Sets.{bit-zero}
 use Rattle.plan.specs.Fields.{nobody}
 use Rattle.plan.specs.Reading.{Held}
 use Rattle.plan.specs.declared.Plan.{Plan}
-use Rattle.state.specs.State.{State, words, word, deviceWords, portsAt, portsEnd, registerAt, timerAt, portAt, register, timer, runningAt, running}
+use Rattle.state.specs.State.{words, word, deviceWords, portsAt, portsEnd, registerAt, timerAt, portAt, runningAt, running}
 use Rattle.state.specs.Network.{peer}
 use Rattle.state.specs.Sound.{Sound}
 use Rattle.state.specs.Start.{started}
@@ -74,7 +74,7 @@ module _ (plan : Plan) where
       let n = few plan held in
       record {
         size = start-length;
-        words = start-small;
+        fits = start-small;
         timers = λ d k h g l.
             let none = start-device (registerAt d) (omega arith) in
             record {

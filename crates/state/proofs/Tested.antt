@@ -2,7 +2,7 @@
 use mathlib.Core.Path.{_≡_, refl, sym, ap, _∙_}
 use mathlib.Core.Bool.{Bool, true, false, not, false≢true}
 use mathlib.Core.Logic.{dite}
-use Prim.Native.Nat.{ℕ, zero, suc, _+_, _*_, _/_, _%_, _^_, _≤_, _<_, min}
+use Prim.Native.Nat.{ℕ, _+_, _*_, _/_, _%_, _^_, _≤_, _<_, min}
 use native.Mathlib.Decide.{decLt, ℕ-discrete}
 use native.Mathlib.Omega.{arith}
 use lib.Dec.{eqb, ltb}
@@ -153,7 +153,7 @@ module _ (plan : Plan) (s : State) where
       let f = simp facts at e in
       record {
         size = f .0 .0 .0;
-        words = fit;
+        fits = fit;
         timers = timed (f .0 .0 .1);
         ports = λ q l there. kept q (simp there at (f .1 q l));
         no-device = rest (f .0 .1);

@@ -95,8 +95,8 @@ module _ (plan : Plan) (held : Held plan) {s : State} (x : Sound plan s) (q : �
           let old : Kept plan s q = x .ports q small there in
           sets-step plan held x q small there sets
           (record {
-            fits = λ j g. entered-lt kind k j (waiting s j q) (x .words (portAt q j));
-            apart = entered-apart k l (waiting s 0 q) (waiting s 1 q) (old .apart) (x .words (portAt q 0)) kind h;
+            fits = λ j g. entered-lt kind k j (waiting s j q) (x .fits (portAt q j));
+            apart = entered-apart k l (waiting s 0 q) (waiting s 1 q) (old .apart) (x .fits (portAt q 0)) kind h;
             stopped = λ z. absurd (omega arith);
             mute = λ j g z. elim (ℕ-discrete j kind) [
               | yes e ↦ absurd (false≢true (sym z ∙ ap (λ y. maySend y (permissions plan q)) e ∙ m))

@@ -31,7 +31,7 @@ pub record Kept (plan : Plan) (s : State) (q : ℕ) : Type 0 where
 
 pub record Sound (plan : Plan) (s : State) : Type 0 where
   pub size : length s ≡ words
-  pub words : (i : ℕ) → word s i < 2 ^ 32
+  pub fits : (i : ℕ) → word s i < 2 ^ 32
   pub timers : (d k : ℕ) → d < devices plan → d < 32 → k < 32 → Timed s d k
   pub ports : (q : ℕ) → q < 256 → exists plan q ≡ true → Kept plan s q
   -- all words of absent devices and ports are 0

@@ -46,7 +46,7 @@ portAt q i = portsAt + portWords * q + i
 
 -- behind the last port
 abbrev pub portsEnd : ℕ
-portsEnd = 2080
+portsEnd = portsAt + portWords * 256
 
 -- the waiting codes of a kind come first: interrupts (0), then acknowledges (1)
 abbrev pub waiting : State → ℕ → ℕ → ℕ

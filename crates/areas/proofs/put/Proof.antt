@@ -44,9 +44,6 @@ Inv-loop area₀ at word i₀ area i = Copied area₀ at word area i
 abbrev μ-loop : tie.MeasureT-loop
 μ-loop area₀ at word i₀ area i = length word - i
 
-has-room-requires : tie.Need-has-room-requires Inv-loop μ-loop
-has-room-requires c κs = search needs
-
 returns : tie.Need-returns Inv-loop μ-loop
 returns c = puts-none _ _ _ (leb-false _ _ (sym (c .before .has-room .ensures) ∙ not-true _ (c .if1 .taken)))
 
@@ -55,34 +52,16 @@ loop-holds c =
     let a = c .before .before .before .before .args in
     none (a .area .now) (a .at) (a .word .now) (leb-true _ _ (sym (c .before .has-room .ensures) ∙ not-false _ (c .if1 .left)))
 
-shared-slice-read-area : tie.Need-shared-slice-read-area Inv-loop μ-loop
-shared-slice-read-area c = search needs
-
-add-area : tie.Need-add-area Inv-loop μ-loop
-add-area c = search needs
-
-slice-write-area : tie.Need-slice-write-area Inv-loop μ-loop
-slice-write-area c = search needs
-
-add-i : tie.Need-add-i Inv-loop μ-loop
-add-i c = search needs
-
-loop-less : tie.Need-loop-less Inv-loop μ-loop
-loop-less c = search needs
-
 loop-again : tie.Need-loop-again Inv-loop μ-loop
 loop-again c = turn (c .before .before .loop .inv) (c .before .loop-test .taken)
-
-add-result : tie.Need-add-result Inv-loop μ-loop
-add-result c = search needs
-
-same-length : tie.Need-same-length Inv-loop μ-loop
-same-length c = search needs
 
 returns-2 : tie.Need-returns-2 Inv-loop μ-loop
 returns-2 c =
     let v = c .before .loop .inv in
     puts-whole (v .room) (done v (c .loop-test .left))
+
+has-room-requires : tie.Need-has-room-requires Inv-loop μ-loop
+has-room-requires c κs = search needs
 
 pub put-spec : {M : Type 1} → statement M
 put-spec =
@@ -93,12 +72,12 @@ put-spec =
     has-room-requires
     returns
     loop-holds
-    shared-slice-read-area
-    add-area
-    slice-write-area
-    add-i
-    loop-less
+    (λ c. search needs)
+    (λ c. search needs)
+    (λ c. search needs)
+    (λ c. search needs)
+    (λ c. search needs)
     loop-again
-    add-result
-    same-length
+    (λ c. search needs)
+    (λ c. search needs)
     returns-2)

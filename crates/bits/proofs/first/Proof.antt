@@ -13,9 +13,6 @@ returns : tie.Need-returns
 unfolding Finds
 returns c = λ k h. ap (λ (y : ℕ). bit y k) (c .if1 .taken) ∙ bit-zero k
 
-shr-upper : tie.Need-shr-upper
-shr-upper c = search needs
-
 add-t7 : tie.Need-add-t7
 add-t7 c = omega (arith, upper (c .before .before .args .x) (c .before .before .args .next) (c .before .before .fits .x .fits) (c .if2 .taken) .place)
 
@@ -28,4 +25,4 @@ unfolding Finds
 returns-3 c = lower (c .before .before .args .x) (c .before .before .args .next) (c .before .before .fits .x .fits) (omega arith) (c .if2 .left)
 
 pub first-spec : {M : Type 1} → statement M
-first-spec = tie.close (tie.spec returns shr-upper add-t7 returns-2 returns-3)
+first-spec = tie.close (tie.spec returns (λ c. search needs) add-t7 returns-2 returns-3)

@@ -9,11 +9,8 @@ use Rattle.bits.proofs.join.Tie as tie
 returns : tie.Need-returns
 returns c = sym (join-none (c .before .args .x) (c .before .args .k) (c .if1 .taken))
 
-shl-result : tie.Need-shl-result
-shl-result c = search needs
-
 returns-2 : tie.Need-returns-2
 returns-2 c = let l : c .before .args .k < 32 = omega arith in rw (one-shl (c .before .args .k) l) (sym (join-is (c .before .args .x) (c .before .args .k) l))
 
 pub join-spec : {M : Type 1} → statement M
-join-spec = tie.close (tie.spec returns shl-result returns-2)
+join-spec = tie.close (tie.spec returns (λ c. search needs) returns-2)

@@ -20,32 +20,17 @@ abbrev μ-loop : tie.MeasureT-loop
 loop-holds : tie.Need-loop-holds Inv-loop μ-loop
 loop-holds c = (omega arith, below-none _)
 
-mul-q : tie.Need-mul-q Inv-loop μ-loop
-mul-q c = search needs
-
-add-q : tie.Need-add-q Inv-loop μ-loop
-add-q c = search needs
-
-element-copy-out-sends : tie.Need-element-copy-out-sends Inv-loop μ-loop
-element-copy-out-sends c = search needs
-
-sends-requires : tie.Need-sends-requires Inv-loop μ-loop
-sends-requires c κs = search needs
-
 returns : tie.Need-returns Inv-loop μ-loop
 returns c = found _ 8 (c .before .before .before .before .loop .p) (omega arith) (sym (c .before .sends .ensures) ∙ c .if1 .taken)
-
-add-p : tie.Need-add-p Inv-loop μ-loop
-add-p c = search needs
-
-loop-less : tie.Need-loop-less Inv-loop μ-loop
-loop-less c = search needs
 
 loop-again : tie.Need-loop-again Inv-loop μ-loop
 loop-again c = (omega arith, below-more _ _ (c .before .before .before .before .loop .inv .1) (λ e. false≢true (sym (c .if1 .left) ∙ c .before .sends .ensures ∙ e)))
 
 returns-2 : tie.Need-returns-2 Inv-loop μ-loop
 returns-2 c = nowhere _ 8 (λ p l. c .before .loop .inv .1 p (omega arith))
+
+sends-requires : tie.Need-sends-requires Inv-loop μ-loop
+sends-requires c κs = search needs
 
 pub any-sends-spec : {M : Type 1} → statement M
 any-sends-spec =
@@ -54,12 +39,12 @@ any-sends-spec =
     Inv-loop
     μ-loop
     loop-holds
-    mul-q
-    add-q
-    element-copy-out-sends
+    (λ c. search needs)
+    (λ c. search needs)
+    (λ c. search needs)
     sends-requires
     returns
-    add-p
-    loop-less
+    (λ c. search needs)
+    (λ c. search needs)
     loop-again
     returns-2)

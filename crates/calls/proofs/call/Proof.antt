@@ -6,20 +6,8 @@ use borrow.Author.Needs.{needs}
 use Rattle.calls.proofs.call.Statement.{statement}
 use Rattle.calls.proofs.call.Tie as tie
 
-call-refusal-requires : tie.Need-call-refusal-requires
-call-refusal-requires c κs = search needs
-
-same-length : tie.Need-same-length
-same-length c = search needs
-
 returns : tie.Need-returns
 returns c = outcome-refused (c .before .call-refusal .ensures) (c .if1 .taken)
-
-take-requires : tie.Need-take-requires
-take-requires c κs = search needs
-
-same-length-2 : tie.Need-same-length-2
-same-length-2 c = search needs
 
 returns-2 : tie.Need-returns-2
 returns-2 c =
@@ -29,7 +17,19 @@ returns-2 c =
     outcome-done (e .before .call-refusal .ensures) (e .if1 .left)
     (c .before .before .take .ensures (a .args .plan .peers) ∙ called-in _ _ _ _ _ (r .0) (r .1) (r .2) (a .pre))
 
+call-refusal-requires : tie.Need-call-refusal-requires
+call-refusal-requires c κs = search needs
+
+take-requires : tie.Need-take-requires
+take-requires c κs = search needs
+
 pub call-spec : {M : Type 1} → statement M
 call-spec =
     tie.close
-    (tie.spec call-refusal-requires same-length returns take-requires same-length-2 returns-2)
+    (tie.spec
+    call-refusal-requires
+    (λ c. search needs)
+    returns
+    take-requires
+    (λ c. search needs)
+    returns-2)

@@ -12,9 +12,6 @@ use Rattle.calls.proofs.call_refusal.Tie as tie
 first : (c : tie.Else1) → Holds (deviceAsks (c .before .before .before .args .plan) (c .before .before .before .args .device) (now (c .before .before .before .args .state)))
 first c = asked _ _ _ (c .before .refusal .ensures) (c .if1 .left)
 
-refusal-requires : tie.Need-refusal-requires
-refusal-requires c κs = search needs
-
 returns : tie.Need-returns
 returns c =
     let a = c .before .before .before .args in
@@ -32,20 +29,23 @@ mul-owned-2 c = let r = ready _ _ _ (first (c .before .before)) in search needs
 element-copy-out-owned-2 : tie.Need-element-copy-out-owned-2
 element-copy-out-owned-2 c = let r = ready _ _ _ (first (c .before .before)) in search needs
 
+returns-2 : tie.Need-returns-2
+returns-2 c = call-foreign _ _ _ _ _ (first (c .before .before .before .before .before .before)) (c .before .before .owned .ensures) (c .before .own-refusal .ensures) (c .if2 .taken)
+
+returns-3 : tie.Need-returns-3
+returns-3 c = call-answered _ _ _ _ _ (first (c .before .before .before .before .before .before .before .before .before)) (c .before .before .before .before .before .owned .ensures) (c .before .before .before .before .own-refusal .ensures) (c .before .before .before .if2 .left) (c .send-refusal .ensures)
+
+refusal-requires : tie.Need-refusal-requires
+refusal-requires c κs = search needs
+
 owned-requires : tie.Need-owned-requires
 owned-requires c κs = search needs
 
 own-refusal-requires : tie.Need-own-refusal-requires
 own-refusal-requires c κs = search needs
 
-returns-2 : tie.Need-returns-2
-returns-2 c = call-foreign _ _ _ _ _ (first (c .before .before .before .before .before .before)) (c .before .before .owned .ensures) (c .before .own-refusal .ensures) (c .if2 .taken)
-
 send-refusal-requires : tie.Need-send-refusal-requires
 send-refusal-requires c κs = search needs
-
-returns-3 : tie.Need-returns-3
-returns-3 c = call-answered _ _ _ _ _ (first (c .before .before .before .before .before .before .before .before .before)) (c .before .before .before .before .before .owned .ensures) (c .before .before .before .before .own-refusal .ensures) (c .before .before .before .if2 .left) (c .send-refusal .ensures)
 
 pub call-refusal-spec : {M : Type 1} → statement M
 call-refusal-spec =

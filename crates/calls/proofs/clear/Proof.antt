@@ -18,30 +18,9 @@ abbrev μ-loop : tie.MeasureT-loop
 loop-holds : tie.Need-loop-holds Inv-loop μ-loop
 loop-holds c = (omega arith, search needs, zeros-none (omega arith))
 
-mul-state : tie.Need-mul-state Inv-loop μ-loop
-mul-state c = search needs
-
-add-state : tie.Need-add-state Inv-loop μ-loop
-add-state c = search needs
-
-mul-state-2 : tie.Need-mul-state-2 Inv-loop μ-loop
-mul-state-2 c = search needs
-
-slice-write-state : tie.Need-slice-write-state Inv-loop μ-loop
-slice-write-state c = search needs
-
-add-i : tie.Need-add-i Inv-loop μ-loop
-add-i c = search needs
-
-loop-less : tie.Need-loop-less Inv-loop μ-loop
-loop-less c = search needs
-
 loop-again : tie.Need-loop-again Inv-loop μ-loop
 unfolding put
 loop-again c = (omega arith, c .before .loop .inv .1, zeros-more (c .before .loop .inv .2) (omega arith) (omega (arith, c .before .loop .inv .2 .size)) (omega arith))
-
-same-length : tie.Need-same-length Inv-loop μ-loop
-same-length c = search needs
 
 returns : tie.Need-returns Inv-loop μ-loop
 returns c =
@@ -55,12 +34,12 @@ clear-spec =
     Inv-loop
     μ-loop
     loop-holds
-    mul-state
-    add-state
-    mul-state-2
-    slice-write-state
-    add-i
-    loop-less
+    (λ c. search needs)
+    (λ c. search needs)
+    (λ c. search needs)
+    (λ c. search needs)
+    (λ c. search needs)
+    (λ c. search needs)
     loop-again
-    same-length
+    (λ c. search needs)
     returns)

@@ -18,58 +18,16 @@ abbrev μ-loop : tie.MeasureT-loop
 loop-holds : tie.Need-loop-holds Inv-loop μ-loop
 loop-holds c = (omega arith, search needs, emptied-none)
 
-mul-at : tie.Need-mul-at Inv-loop μ-loop
-mul-at c = search needs
-
-add-at : tie.Need-add-at Inv-loop μ-loop
-add-at c = search needs
-
-mul-at-2 : tie.Need-mul-at-2 Inv-loop μ-loop
-mul-at-2 c = search needs
-
-add-at-2 : tie.Need-add-at-2 Inv-loop μ-loop
-add-at-2 c = search needs
-
-add-state : tie.Need-add-state Inv-loop μ-loop
-add-state c = search needs
-
-mul-state : tie.Need-mul-state Inv-loop μ-loop
-mul-state c = search needs
-
-slice-write-state : tie.Need-slice-write-state Inv-loop μ-loop
-slice-write-state c = search needs
-
-add-state-2 : tie.Need-add-state-2 Inv-loop μ-loop
-add-state-2 c = search needs
-
-mul-state-2 : tie.Need-mul-state-2 Inv-loop μ-loop
-mul-state-2 c = search needs
-
 slice-write-state-2 : tie.Need-slice-write-state-2 Inv-loop μ-loop
 slice-write-state-2 c = simp length-set (omega arith)
 
-add-state-3 : tie.Need-add-state-3 Inv-loop μ-loop
-add-state-3 c = search needs
-
-mul-state-3 : tie.Need-mul-state-3 Inv-loop μ-loop
-mul-state-3 c = search needs
-
 slice-write-state-3 : tie.Need-slice-write-state-3 Inv-loop μ-loop
 slice-write-state-3 c = simp length-set (omega arith)
-
-add-p : tie.Need-add-p Inv-loop μ-loop
-add-p c = search needs
-
-loop-less : tie.Need-loop-less Inv-loop μ-loop
-loop-less c = search needs
 
 loop-again : tie.Need-loop-again Inv-loop μ-loop
 unfolding put
 loop-again c =
     let v = c .before .loop .inv in (omega arith, v .1, emptied-more (v .2) (v .1) (omega arith) (omega arith))
-
-same-length : tie.Need-same-length Inv-loop μ-loop
-same-length c = search needs
 
 returns : tie.Need-returns Inv-loop μ-loop
 returns c =
@@ -82,21 +40,21 @@ empty-spec =
     Inv-loop
     μ-loop
     loop-holds
-    mul-at
-    add-at
-    mul-at-2
-    add-at-2
-    add-state
-    mul-state
-    slice-write-state
-    add-state-2
-    mul-state-2
+    (λ c. search needs)
+    (λ c. search needs)
+    (λ c. search needs)
+    (λ c. search needs)
+    (λ c. search needs)
+    (λ c. search needs)
+    (λ c. search needs)
+    (λ c. search needs)
+    (λ c. search needs)
     slice-write-state-2
-    add-state-3
-    mul-state-3
+    (λ c. search needs)
+    (λ c. search needs)
     slice-write-state-3
-    add-p
-    loop-less
+    (λ c. search needs)
+    (λ c. search needs)
     loop-again
-    same-length
+    (λ c. search needs)
     returns)

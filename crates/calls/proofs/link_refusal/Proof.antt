@@ -34,17 +34,11 @@ port c = port-below _ _ _ 0 _ (first (c .before .before .before)) (c .if2 .left)
 
 -- ---- the needs
 
-refusal-requires : tie.Need-refusal-requires
-refusal-requires c κs = search needs
-
 returns : tie.Need-returns
 returns c = call-stopped _ _ _ (drop 3 (asks (c .before .before .before))) (c .before .refusal .ensures) (c .if1 .taken)
 
 element-copy-out-if2 : tie.Need-element-copy-out-if2
 element-copy-out-if2 c = let r = ready _ _ _ (first (c .before)) in search needs
-
-cast-if2 : tie.Need-cast-if2
-cast-if2 c = search needs
 
 returns-2 : tie.Need-returns-2
 returns-2 c =
@@ -71,14 +65,17 @@ add-word c = let l = port (c .before .before) in search needs
 add-word-2 : tie.Need-add-word-2
 add-word-2 c = let l = port (c .before .before) in search needs
 
-word-requires : tie.Need-word-requires
-word-requires c κs = search needs
-
 returns-4 : tie.Need-returns-4
 returns-4 c = past-far (c .before .before) 10 (inl (λ h. c .if4 .taken (c .before .word .ensures ∙ h), refl))
 
 returns-5 : tie.Need-returns-5
 returns-5 c = past-far (c .before .before) 0 (inr (sym (c .before .word .ensures) ∙ c .if4 .left, refl))
+
+refusal-requires : tie.Need-refusal-requires
+refusal-requires c κs = search needs
+
+word-requires : tie.Need-word-requires
+word-requires c κs = search needs
 
 pub link-refusal-spec : {M : Type 1} → statement M
 link-refusal-spec =
@@ -87,7 +84,7 @@ link-refusal-spec =
     refusal-requires
     returns
     element-copy-out-if2
-    cast-if2
+    (λ c. search needs)
     returns-2
     mul-q
     add-q

@@ -19,9 +19,6 @@ first c = stateAsks (c .args .plan) (now (c .args .state))
 abbrev more : tie.Start → List Condition
 more c = ask 4 (c .args .device < devices (c .args .plan)) ∷ []
 
-refusal-requires : tie.Need-refusal-requires
-refusal-requires c κs = search needs
-
 returns : tie.Need-returns
 returns c = let a = c .before .before .before in stopped (first a) (more a) (c .before .refusal .ensures) (c .if1 .taken)
 
@@ -37,5 +34,12 @@ returns-3 c =
     let a = e .before .before .before in
     passed (first a) (more a) 0 (holds (first a) refl (e .before .refusal .ensures) (e .if1 .left)) (inr (omega arith, refl))
 
+refusal-requires : tie.Need-refusal-requires
+refusal-requires c κs = search needs
+
 pub refusal-spec : {M : Type 1} → statement M
-refusal-spec = tie.close (tie.spec refusal-requires returns returns-2 returns-3)
+refusal-spec = tie.close (tie.spec
+    refusal-requires
+    returns
+    returns-2
+    returns-3)

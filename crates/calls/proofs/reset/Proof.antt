@@ -7,12 +7,6 @@ use Rattle.calls.proofs.Asked.{asked, ready}
 use Rattle.calls.proofs.reset.Statement.{statement}
 use Rattle.calls.proofs.reset.Tie as tie
 
-refusal-requires : tie.Need-refusal-requires
-refusal-requires c κs = search needs
-
-same-length : tie.Need-same-length
-same-length c = search needs
-
 returns : tie.Need-returns
 returns c = outcome-refused (c .before .refusal .ensures) (c .if1 .taken)
 
@@ -24,23 +18,23 @@ empty-requires c κs =
     let e = c .before .before .before .before .before in
     let r = ready _ _ _ (asked _ _ _ (e .before .refusal .ensures) (e .if1 .left)) in search needs
 
-same-length-2 : tie.Need-same-length-2
-same-length-2 c = search needs
-
 returns-2 : tie.Need-returns-2
 returns-2 c =
     let e = c .before .before .before .before .before .before .before .before in
     outcome-done (e .before .refusal .ensures) (e .if1 .left)
     (c .before .before .empty .ensures ∙ ap (emptied _) (c .before .before .before .before .before .before .clear .ensures))
 
+refusal-requires : tie.Need-refusal-requires
+refusal-requires c κs = search needs
+
 pub reset-spec : {M : Type 1} → statement M
 reset-spec =
     tie.close
     (tie.spec
     refusal-requires
-    same-length
+    (λ c. search needs)
     returns
     clear-requires
     empty-requires
-    same-length-2
+    (λ c. search needs)
     returns-2)

@@ -32,32 +32,29 @@ got r x y k e f = e ∙ ap (λ (z : ℕ). bit z k) f
 returns : tie.Need-returns
 returns c = inl (λ l. omega arith, refl)
 
-any-runs-requires : tie.Need-any-runs-requires
-any-runs-requires c κs = search needs
-
 returns-2 : tie.Need-returns-2
 returns-2 c = past-room (c .before .before) 7 (inl (denied (c .before .any-runs .ensures) (c .if2 .taken), refl))
 
-any-sends-requires : tie.Need-any-sends-requires
-any-sends-requires c κs = search needs
-
 returns-3 : tie.Need-returns-3
 returns-3 c = past-runs (c .before .before) 8 (inl (denied (c .before .any-sends .ensures) (c .if3 .taken), refl))
-
-mul-word : tie.Need-mul-word
-mul-word c = search needs
-
-word-requires : tie.Need-word-requires
-word-requires c κs = search needs
-
-get-requires : tie.Need-get-requires
-get-requires c κs = search needs
 
 returns-4 : tie.Need-returns-4
 returns-4 c = past-sends (c .before .before .before) 9 (inl (λ h. c .if4 .taken (got _ _ _ _ (c .before .get .ensures) (c .before .before .word .ensures) ∙ h), refl))
 
 returns-5 : tie.Need-returns-5
 returns-5 c = past-sends (c .before .before .before) 0 (inr (sym (got _ _ _ _ (c .before .get .ensures) (c .before .before .word .ensures)) ∙ c .if4 .left, refl))
+
+any-runs-requires : tie.Need-any-runs-requires
+any-runs-requires c κs = search needs
+
+any-sends-requires : tie.Need-any-sends-requires
+any-sends-requires c κs = search needs
+
+word-requires : tie.Need-word-requires
+word-requires c κs = search needs
+
+get-requires : tie.Need-get-requires
+get-requires c κs = search needs
 
 pub send-refusal-spec : {M : Type 1} → statement M
 send-refusal-spec =
@@ -68,7 +65,7 @@ send-refusal-spec =
     returns-2
     any-sends-requires
     returns-3
-    mul-word
+    (λ c. search needs)
     word-requires
     get-requires
     returns-4

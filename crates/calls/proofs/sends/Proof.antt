@@ -4,28 +4,26 @@ use borrow.Author.Needs.{needs}
 use Rattle.calls.proofs.sends.Statement.{statement}
 use Rattle.calls.proofs.sends.Tie as tie
 
-mul-word : tie.Need-mul-word
-mul-word c = search needs
-
-add-word : tie.Need-add-word
-add-word c = search needs
-
-add-word-2 : tie.Need-add-word-2
-add-word-2 c = search needs
-
-word-requires : tie.Need-word-requires
-word-requires c κs = search needs
-
 returns : tie.Need-returns
 returns c = rw (← c .before .word .ensures, ne-eqb _ _ (c .if1 .taken))
-
-may-send-requires : tie.Need-may-send-requires
-may-send-requires c κs = search needs
 
 returns-2 : tie.Need-returns-2
 returns-2 c = rw (← c .before .before .word .ensures, eq-eqb _ _ (c .before .if1 .left)) (c .may-send .ensures)
 
+word-requires : tie.Need-word-requires
+word-requires c κs = search needs
+
+may-send-requires : tie.Need-may-send-requires
+may-send-requires c κs = search needs
+
 pub sends-spec : {M : Type 1} → statement M
 sends-spec =
     tie.close
-    (tie.spec mul-word add-word add-word-2 word-requires returns may-send-requires returns-2)
+    (tie.spec
+    (λ c. search needs)
+    (λ c. search needs)
+    (λ c. search needs)
+    word-requires
+    returns
+    may-send-requires
+    returns-2)

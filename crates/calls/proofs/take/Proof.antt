@@ -20,15 +20,6 @@ returns-3 c peers = sym (called-not _ _ _ _ _ (λ long h l g. omega arith))
 returns-4 : tie.Need-returns-4
 returns-4 c peers = sym (called-not _ _ _ _ _ (λ long h l g. omega arith))
 
-mark-requires : tie.Need-mark-requires
-mark-requires c κs = search needs
-
-queue-all-requires : tie.Need-queue-all-requires
-queue-all-requires c κs = search needs
-
-same-length : tie.Need-same-length
-same-length c = search needs
-
 returns-5 : tie.Need-returns-5
 unfolding called
 returns-5 c peers =
@@ -37,6 +28,12 @@ returns-5 c peers =
     ∙ queued-in _ _ _ _ _ _ (search needs) (omega arith) (omega arith)
     ∙ ap (queueAllAt _ _ _ _ _) (m .mark .ensures peers)
     ∙ sym (called-in _ _ _ _ _ (search needs) (omega arith) (omega arith) (omega arith))
+
+mark-requires : tie.Need-mark-requires
+mark-requires c κs = search needs
+
+queue-all-requires : tie.Need-queue-all-requires
+queue-all-requires c κs = search needs
 
 pub take-spec : {M : Type 1} → statement M
 take-spec =
@@ -48,5 +45,5 @@ take-spec =
     returns-4
     mark-requires
     queue-all-requires
-    same-length
+    (λ c. search needs)
     returns-5)

@@ -15,33 +15,6 @@ in-turn : (plan : Plan) (q far : ℕ) (s s₁ s₂ s₃ s₄ : State) → far �
 unfolding unlinked
 in-turn plan q far s s₁ s₂ s₃ s₄ p a b c d = rw (d, c, b, a, p)
 
-far-end-requires : tie.Need-far-end-requires
-far-end-requires c κs = search needs
-
-cast-far : tie.Need-cast-far
-cast-far c = search needs
-
-halt-requires : tie.Need-halt-requires
-halt-requires c κs = search needs
-
-halt-requires-2 : tie.Need-halt-requires-2
-halt-requires-2 c κs = search needs
-
-element-copy-out-forget : tie.Need-element-copy-out-forget
-element-copy-out-forget c = search needs
-
-forget-requires : tie.Need-forget-requires
-forget-requires c κs = search needs
-
-element-copy-out-forget-2 : tie.Need-element-copy-out-forget-2
-element-copy-out-forget-2 c = search needs
-
-forget-requires-2 : tie.Need-forget-requires-2
-forget-requires-2 c κs = search needs
-
-same-length : tie.Need-same-length
-same-length c = search needs
-
 returns : tie.Need-returns
 returns c =
     let f = c .before .before .before .before .before .before .before in
@@ -50,17 +23,32 @@ returns c =
     in-turn _ _ _ _ _ _ _ _ (e .far-end .ensures) (h .before .before .before .before .halt .ensures) (h .halt2 .ensures)
     (f .forget .ensures) (c .before .before .forget2 .ensures)
 
+far-end-requires : tie.Need-far-end-requires
+far-end-requires c κs = search needs
+
+halt-requires : tie.Need-halt-requires
+halt-requires c κs = search needs
+
+halt-requires-2 : tie.Need-halt-requires-2
+halt-requires-2 c κs = search needs
+
+forget-requires : tie.Need-forget-requires
+forget-requires c κs = search needs
+
+forget-requires-2 : tie.Need-forget-requires-2
+forget-requires-2 c κs = search needs
+
 pub unlink-spec : {M : Type 1} → statement M
 unlink-spec =
     tie.close
     (tie.spec
     far-end-requires
-    cast-far
+    (λ c. search needs)
     halt-requires
     halt-requires-2
-    element-copy-out-forget
+    (λ c. search needs)
     forget-requires
-    element-copy-out-forget-2
+    (λ c. search needs)
     forget-requires-2
-    same-length
+    (λ c. search needs)
     returns)

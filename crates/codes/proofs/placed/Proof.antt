@@ -8,12 +8,9 @@ returns : tie.Need-returns
 unfolding atMost answerOf
 returns c = simp (lt-leb _ _ (c .if1 .taken))
 
-add-t5 : tie.Need-add-t5
-add-t5 c = search needs
-
 returns-2 : tie.Need-returns-2
 unfolding atMost answerOf
 returns-2 c = simp (le-leb _ _ (c .if1 .left))
 
 pub placed-spec : {M : Type 1} → statement M
-placed-spec = tie.close (tie.spec returns add-t5 returns-2)
+placed-spec = tie.close (tie.spec returns (λ c. search needs) returns-2)

@@ -5,27 +5,6 @@ use Rattle.codes.specs.Codes.{atMost, writes, answerOf}
 use Rattle.codes.proofs.write.Statement.{statement}
 use Rattle.codes.proofs.write.Tie as tie
 
-enum-known-code : tie.Need-enum-known-code
-enum-known-code c = search needs
-
-placed-requires : tie.Need-placed-requires
-placed-requires c κs = search needs
-
-enum-known-code-2 : tie.Need-enum-known-code-2
-enum-known-code-2 c = search needs
-
-placed-requires-2 : tie.Need-placed-requires-2
-placed-requires-2 c κs = search needs
-
-enum-known-code-3 : tie.Need-enum-known-code-3
-enum-known-code-3 c = search needs
-
-placed-requires-3 : tie.Need-placed-requires-3
-placed-requires-3 c κs = search needs
-
-enum-told : tie.Need-enum-told
-enum-told c = search needs
-
 returns : tie.Need-returns
 unfolding writes
 returns c = c .placed .ensures ∙ ap (atMost 63 _) (zero-add _) ∙ sym (ap writes (c .before .before .code .given .1))
@@ -42,17 +21,26 @@ returns-4 : tie.Need-returns-4
 unfolding writes answerOf
 returns-4 c = sym (ap writes (c .enum-told .given .1))
 
+placed-requires : tie.Need-placed-requires
+placed-requires c κs = search needs
+
+placed-requires-2 : tie.Need-placed-requires-2
+placed-requires-2 c κs = search needs
+
+placed-requires-3 : tie.Need-placed-requires-3
+placed-requires-3 c κs = search needs
+
 pub write-spec : {M : Type 1} → statement M
 write-spec =
     tie.close
     (tie.spec
-    enum-known-code
+    (λ c. search needs)
     placed-requires
-    enum-known-code-2
+    (λ c. search needs)
     placed-requires-2
-    enum-known-code-3
+    (λ c. search needs)
     placed-requires-3
-    enum-told
+    (λ c. search needs)
     returns
     returns-2
     returns-3

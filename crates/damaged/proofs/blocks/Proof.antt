@@ -13,9 +13,6 @@ abbrev μ-loop : tie.MeasureT-loop
 loop-holds : tie.Need-loop-holds Inv-loop μ-loop
 loop-holds c = omega arith
 
-faults-requires : tie.Need-faults-requires Inv-loop μ-loop
-faults-requires c κs = search needs
-
 add-block : tie.Need-add-block Inv-loop μ-loop
 add-block c = omega arith
 
@@ -28,7 +25,18 @@ loop-again c = omega arith
 returns : tie.Need-returns Inv-loop μ-loop
 returns c = tt
 
+faults-requires : tie.Need-faults-requires Inv-loop μ-loop
+faults-requires c κs = search needs
+
 pub blocks-spec : {M : Type 1} → statement M
 blocks-spec =
     tie.close
-    (tie.spec Inv-loop μ-loop loop-holds faults-requires add-block loop-less loop-again returns)
+    (tie.spec
+    Inv-loop
+    μ-loop
+    loop-holds
+    faults-requires
+    add-block
+    loop-less
+    loop-again
+    returns)

@@ -11,22 +11,10 @@ use Rattle.listing.proofs.Unique.{list-length}
 use Rattle.decode.proofs.show.Statement.{statement}
 use Rattle.decode.proofs.show.Tie as tie
 
-list-piece-requires : tie.Need-list-piece-requires
-list-piece-requires c κs = search needs
-
-slice-reshare-prefix-write-all : tie.Need-slice-reshare-prefix-write-all
-slice-reshare-prefix-write-all c = search needs
-
 slice-aggregate-write-all : tie.Need-slice-aggregate-write-all
 slice-aggregate-write-all c =
     let listed = c .before .before .before .list-piece .ensures in
     sym (length-take-le _ _ (omega (arith, listed .room, list-length listed)))
-
-write-all-requires : tie.Need-write-all-requires
-write-all-requires c κs = search needs
-
-same-length : tie.Need-same-length
-same-length c = search needs
 
 -- the lines of the whole piece
 whole : (piece before after : List ℕ) (used : ℕ) → Lists piece before (length piece) used after → after ≡ over (lines piece) before
@@ -35,13 +23,19 @@ whole piece before after used l = l .text ∙ ap (λ (bytes : List ℕ). over (l
 returns : tie.Need-returns
 returns c = whole _ _ _ _ (c .before .before .before .before .list-piece .ensures)
 
+list-piece-requires : tie.Need-list-piece-requires
+list-piece-requires c κs = search needs
+
+write-all-requires : tie.Need-write-all-requires
+write-all-requires c κs = search needs
+
 pub show-spec : {M : Type 1} → statement M
 show-spec =
     tie.close
     (tie.spec
     list-piece-requires
-    slice-reshare-prefix-write-all
+    (λ c. search needs)
     slice-aggregate-write-all
     write-all-requires
-    same-length
+    (λ c. search needs)
     returns)

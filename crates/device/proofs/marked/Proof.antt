@@ -4,19 +4,23 @@ use borrow.Author.Needs.{needs}
 use Rattle.device.proofs.marked.Statement.{statement}
 use Rattle.device.proofs.marked.Tie as tie
 
-join-requires : tie.Need-join-requires
-join-requires c κs = search needs
-
 returns : tie.Need-returns
 unfolding marked
 returns c = simp (eq-eqb _ _ (c .before .if1 .taken)) (c .join .ensures)
-
-leave-requires : tie.Need-leave-requires
-leave-requires c κs = search needs
 
 returns-2 : tie.Need-returns-2
 unfolding marked
 returns-2 c = simp (ne-eqb _ _ (c .before .if1 .left)) (c .leave .ensures)
 
+join-requires : tie.Need-join-requires
+join-requires c κs = search needs
+
+leave-requires : tie.Need-leave-requires
+leave-requires c κs = search needs
+
 pub marked-spec : {M : Type 1} → statement M
-marked-spec = tie.close (tie.spec join-requires returns leave-requires returns-2)
+marked-spec = tie.close (tie.spec
+    join-requires
+    returns
+    leave-requires
+    returns-2)

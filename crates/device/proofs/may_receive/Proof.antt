@@ -6,18 +6,16 @@ use borrow.Author.Needs.{needs}
 use Rattle.device.proofs.may_receive.Statement.{statement}
 use Rattle.device.proofs.may_receive.Tie as tie
 
-mul-get : tie.Need-mul-get
-mul-get c = search needs
-
-add-get : tie.Need-add-get
-add-get c = search needs
-
-get-requires : tie.Need-get-requires
-get-requires c κs = search needs
-
 returns : tie.Need-returns
 unfolding mayReceive
 returns c = ap (λ (b : ℕ). eqb b 1) (c .get .ensures)
 
+get-requires : tie.Need-get-requires
+get-requires c κs = search needs
+
 pub may-receive-spec : {M : Type 1} → statement M
-may-receive-spec = tie.close (tie.spec mul-get add-get get-requires returns)
+may-receive-spec = tie.close (tie.spec
+    (λ c. search needs)
+    (λ c. search needs)
+    get-requires
+    returns)

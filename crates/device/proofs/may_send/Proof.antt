@@ -6,15 +6,15 @@ use borrow.Author.Needs.{needs}
 use Rattle.device.proofs.may_send.Statement.{statement}
 use Rattle.device.proofs.may_send.Tie as tie
 
-mul-get : tie.Need-mul-get
-mul-get c = search needs
-
-get-requires : tie.Need-get-requires
-get-requires c κs = search needs
-
 returns : tie.Need-returns
 unfolding maySend
 returns c = ap (λ (b : ℕ). eqb b 1) (c .get .ensures)
 
+get-requires : tie.Need-get-requires
+get-requires c κs = search needs
+
 pub may-send-spec : {M : Type 1} → statement M
-may-send-spec = tie.close (tie.spec mul-get get-requires returns)
+may-send-spec = tie.close (tie.spec
+    (λ c. search needs)
+    get-requires
+    returns)

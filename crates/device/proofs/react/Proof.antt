@@ -15,15 +15,6 @@ use borrow.Author.Needs.{needs}
 use Rattle.device.proofs.react.Statement.{statement}
 use Rattle.device.proofs.react.Tie as tie
 
-read-requires : tie.Need-read-requires
-read-requires c κs = search needs
-
-enum-known-code : tie.Need-enum-known-code
-enum-known-code c = search needs
-
-enum-known-code-2 : tie.Need-enum-known-code-2
-enum-known-code-2 c = search needs
-
 -- neither of the two kinds
 neither : (side : Side) (register : ℕ) (code : Code) → OneOf (0 ∷ 2 ∷ 3 ∷ []) (tagOf C.the-type code) → OneOf (0 ∷ 1 ∷ 3 ∷ []) (tagOf C.the-type code)
     → kept register (Named code) ≡ reactsTo side register code
@@ -38,27 +29,30 @@ unfolding reacts
 returns c =
     neither _ _ (c .before .before .read .result) (c .before .match .keys2) (c .match2 .keys2) ∙ ap (reactsTo _ _) (c .before .before .read .ensures)
 
-ruled-requires : tie.Need-ruled-requires
-ruled-requires c κs = search needs
-
 returns-2 : tie.Need-returns-2
 unfolding reacts reactsTo
 returns-2 c = c .ruled .ensures ∙ ap (reactsTo _ _) (sym (c .before .before .code2 .given .1) ∙ c .before .before .before .before .before .read .ensures)
 
-ruled-requires-2 : tie.Need-ruled-requires-2
-ruled-requires-2 c κs = search needs
-
 returns-3 : tie.Need-returns-3
 unfolding reacts reactsTo
 returns-3 c = c .ruled2 .ensures ∙ ap (reactsTo _ _) (sym (c .before .before .code .given .1) ∙ c .before .before .before .before .read .ensures)
+
+read-requires : tie.Need-read-requires
+read-requires c κs = search needs
+
+ruled-requires : tie.Need-ruled-requires
+ruled-requires c κs = search needs
+
+ruled-requires-2 : tie.Need-ruled-requires-2
+ruled-requires-2 c κs = search needs
 
 pub react-spec : {M : Type 1} → statement M
 react-spec =
     tie.close
     (tie.spec
     read-requires
-    enum-known-code
-    enum-known-code-2
+    (λ c. search needs)
+    (λ c. search needs)
     returns
     ruled-requires
     returns-2

@@ -8,20 +8,11 @@ use Rattle.device.proofs.ruled.Tie as tie
 returns : tie.Need-returns
 returns c = stopped _ _ _ _ _ (not-true _ (c .if1 .taken))
 
-may-receive-requires : tie.Need-may-receive-requires
-may-receive-requires c κs = search needs
-
 returns-2 : tie.Need-returns-2
 returns-2 c = forbidden _ _ _ _ _ (not-false _ (c .before .before .if1 .left)) (sym (c .before .may-receive .ensures) ∙ not-true _ (c .if2 .taken))
 
-get-requires : tie.Need-get-requires
-get-requires c κs = search needs
-
 returns-3 : tie.Need-returns-3
 returns-3 c = opposite _ _ _ _ _ (not-false _ (c .before .before .before .before .if1 .left)) (sym (c .before .before .before .may-receive .ensures) ∙ not-false _ (c .before .before .if2 .left)) (λ e. c .if3 .taken (c .before .get .ensures ∙ e))
-
-marked-requires : tie.Need-marked-requires
-marked-requires c κs = search needs
 
 -- all three tests were passed
 accepts : (c : tie.After-marked) → let a = c .before .before .before .before .before .before .before .args in Accepts (a .side) (a .register) (a .kind) (a .k)
@@ -37,6 +28,15 @@ returns-4 c = taken _ _ _ _ _ _ _ (accepts (c .before)) (c .before .marked .ensu
 
 returns-5 : tie.Need-returns-5
 returns-5 c = taken _ _ _ _ _ _ _ (accepts (c .before)) (c .before .marked .ensures) (simp (c .if4 .left))
+
+may-receive-requires : tie.Need-may-receive-requires
+may-receive-requires c κs = search needs
+
+get-requires : tie.Need-get-requires
+get-requires c κs = search needs
+
+marked-requires : tie.Need-marked-requires
+marked-requires c κs = search needs
 
 pub ruled-spec : {M : Type 1} → statement M
 ruled-spec =

@@ -8,8 +8,13 @@ use Rattle.door.proofs.bench_for_header_code_write.Tie as tie
 returns : tie.Need-returns
 returns c = sym (no-byte _ _ (c .if1 .taken))
 
-cast-code-of : tie.Need-cast-code-of
-cast-code-of c = search needs
+returns-2 : tie.Need-returns-2
+unfolding answerOf
+returns-2 c = sym (ap answerOf (c .enum-told .given .1)) ∙ c .before .before .write .ensures ∙ ap writes (c .before .before .before .code-of .ensures)
+
+returns-3 : tie.Need-returns-3
+unfolding answerOf
+returns-3 c = sym (ap answerOf (c .before .b .given .1)) ∙ c .before .before .before .write .ensures ∙ ap writes (c .before .before .before .before .code-of .ensures)
 
 code-of-requires : tie.Need-code-of-requires
 code-of-requires c κs = search needs
@@ -17,33 +22,16 @@ code-of-requires c κs = search needs
 write-requires : tie.Need-write-requires
 write-requires c κs = search needs
 
-enum-known-b : tie.Need-enum-known-b
-enum-known-b c = search needs
-
-enum-told : tie.Need-enum-told
-enum-told c = search needs
-
-returns-2 : tie.Need-returns-2
-unfolding answerOf
-returns-2 c = sym (ap answerOf (c .enum-told .given .1)) ∙ c .before .before .write .ensures ∙ ap writes (c .before .before .before .code-of .ensures)
-
-cast-byte : tie.Need-cast-byte
-cast-byte c = search needs
-
-returns-3 : tie.Need-returns-3
-unfolding answerOf
-returns-3 c = sym (ap answerOf (c .before .b .given .1)) ∙ c .before .before .before .write .ensures ∙ ap writes (c .before .before .before .before .code-of .ensures)
-
 pub bench-for-header-code-write-spec : {M : Type 1} → statement M
 bench-for-header-code-write-spec =
     tie.close
     (tie.spec
     returns
-    cast-code-of
+    (λ c. search needs)
     code-of-requires
     write-requires
-    enum-known-b
-    enum-told
+    (λ c. search needs)
+    (λ c. search needs)
     returns-2
-    cast-byte
+    (λ c. search needs)
     returns-3)

@@ -37,33 +37,12 @@ module _
         rw (← is)
         (joined (joined front (omega (arith, parts, length-append (decimal b ++ ascii " ") (name code))) p) (rw is room) q)
 
-put-number-requires : tie.Need-put-number-requires
-put-number-requires c κs = search needs
-
-slice-aggregate-put : tie.Need-slice-aggregate-put
-slice-aggregate-put c = search needs
-
-put-requires : tie.Need-put-requires
-put-requires c κs = search needs
-
-read-requires : tie.Need-read-requires
-read-requires c κs = search needs
-
 put-name-requires : tie.Need-put-name-requires
 unfolding ascii
 put-name-requires c κs =
     let b = c .before .before .before .before .before .before .before .before .before in
     let a = b .before .before .before in
     name-room (a .args .byte) (b .put-number .ensures) (c .before .before .before .before .put .ensures) (c .read .ensures) (a .pre)
-
-slice-aggregate-put-2 : tie.Need-slice-aggregate-put-2
-slice-aggregate-put-2 c = search needs
-
-put-requires-2 : tie.Need-put-requires-2
-put-requires-2 c κs = search needs
-
-same-length : tie.Need-same-length
-same-length c = search needs
 
 returns : tie.Need-returns
 unfolding ascii
@@ -75,16 +54,28 @@ returns c =
     whole (a .args .byte) (b .put-number .ensures) (e .put .ensures) (d .before .read .ensures) (a .pre) (d .put-name .ensures)
     (c .before .before .put2 .ensures)
 
+put-number-requires : tie.Need-put-number-requires
+put-number-requires c κs = search needs
+
+put-requires : tie.Need-put-requires
+put-requires c κs = search needs
+
+read-requires : tie.Need-read-requires
+read-requires c κs = search needs
+
+put-requires-2 : tie.Need-put-requires-2
+put-requires-2 c κs = search needs
+
 pub put-line-spec : {M : Type 1} → statement M
 put-line-spec =
     tie.close
     (tie.spec
     put-number-requires
-    slice-aggregate-put
+    (λ c. search needs)
     put-requires
     read-requires
     put-name-requires
-    slice-aggregate-put-2
+    (λ c. search needs)
     put-requires-2
-    same-length
+    (λ c. search needs)
     returns)

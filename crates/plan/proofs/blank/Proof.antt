@@ -5,15 +5,18 @@ use Rattle.plan.specs.Reading.{zeros}
 use Rattle.plan.proofs.blank.Statement.{statement}
 use Rattle.plan.proofs.blank.Tie as tie
 
+returns : tie.Need-returns
+unfolding zeros
+returns c = ap₂ (λ core peers. record { core = core; peers = peers }) (c .whole .ensures .0 ∙ c .before .core-with .ensures) (c .whole .ensures .1)
+
 core-with-requires : tie.Need-core-with-requires
 core-with-requires c κs = search needs
 
 whole-requires : tie.Need-whole-requires
 whole-requires c κs = search needs
 
-returns : tie.Need-returns
-unfolding zeros
-returns c = ap₂ (λ core peers. record { core = core; peers = peers }) (c .whole .ensures .0 ∙ c .before .core-with .ensures) (c .whole .ensures .1)
-
 pub blank-spec : {M : Type 1} → statement M
-blank-spec = tie.close (tie.spec core-with-requires whole-requires returns)
+blank-spec = tie.close (tie.spec
+    core-with-requires
+    whole-requires
+    returns)

@@ -47,12 +47,6 @@ ready c = holds (stateAsks _ _) refl (c .before .refusal .ensures) (c .if1 .left
 small : (c : tie.Else2) → c .before .before .before .before .before .args .device < 32
 small c = omega (arith, few _ (ready (c .before .before) .0), c .if2 .left)
 
-refusal-requires : tie.Need-refusal-requires
-refusal-requires c κs = search needs
-
-refused-requires : tie.Need-refused-requires
-refused-requires c κs = search needs
-
 returns : tie.Need-returns
 returns c =
     let r = c .before .before in
@@ -60,15 +54,9 @@ returns c =
     refuses _ _ _ _ _ _ _ _ (c .refused .ensures) (c .before .if1 .taken)
     (stopped (stateAsks _ _) (drop 2 (reachAsks (a .plan) (now (a .state)) (a .device) (a .k))) (r .refusal .ensures) (c .before .if1 .taken))
 
-refused-requires-2 : tie.Need-refused-requires-2
-refused-requires-2 c κs = search needs
-
 returns-2 : tie.Need-returns-2
 returns-2 c =
     refuses _ _ _ _ 4 _ _ _ (c .refused2 .ensures) (λ z. omega arith) (behind _ _ _ _ 4 (ready (c .before .before .before)) (inl (λ l. omega arith, refl)))
-
-refused-requires-3 : tie.Need-refused-requires-3
-refused-requires-3 c κs = search needs
 
 returns-3 : tie.Need-returns-3
 returns-3 c =
@@ -82,12 +70,6 @@ mul-get c = omega (arith, small (c .before))
 element-copy-out-get : tie.Need-element-copy-out-get
 element-copy-out-get c = omega (arith, small (c .before))
 
-get-requires : tie.Need-get-requires
-get-requires c κs = search needs
-
-refused-requires-4 : tie.Need-refused-requires-4
-refused-requires-4 c κs = search needs
-
 returns-4 : tie.Need-returns-4
 returns-4 c =
     let g = c .before in
@@ -95,22 +77,13 @@ returns-4 c =
     refuses _ _ _ _ 6 _ _ _ (c .refused4 .ensures) (λ z. omega arith)
     (behind _ _ _ _ 6 (ready (f .before .before)) (inr (f .if2 .left, inr (omega arith, inl (λ b. g .if4 .taken (g .before .get .ensures ∙ b), refl)))))
 
-peers-of-requires : tie.Need-peers-of-requires
-peers-of-requires c κs = search needs
-
 cast-join : tie.Need-cast-join
 cast-join c = omega (arith, small (c .before .before .before .before .before .before))
-
-join-requires : tie.Need-join-requires
-join-requires c κs = search needs
 
 port-requires : tie.Need-port-requires
 port-requires c κs =
     let f = c .before .before .before .before .before .before .before .before .before .before .before in
     omega (arith, small f, ready (f .before .before) .1 .0 .size)
-
-count-requires : tie.Need-count-requires
-count-requires c κs = search needs
 
 returns-5 : tie.Need-returns-5
 returns-5 c =
@@ -122,6 +95,33 @@ returns-5 c =
       made = λ _. (reached _ _ _ _ _ _ _ (small f) (j .before .peers-of .ensures) (j .join .ensures) (c .before .port .ensures), c .count .ensures);
       kept = λ n. absurd (n refl);
     }
+
+refusal-requires : tie.Need-refusal-requires
+refusal-requires c κs = search needs
+
+refused-requires : tie.Need-refused-requires
+refused-requires c κs = search needs
+
+refused-requires-2 : tie.Need-refused-requires-2
+refused-requires-2 c κs = search needs
+
+refused-requires-3 : tie.Need-refused-requires-3
+refused-requires-3 c κs = search needs
+
+get-requires : tie.Need-get-requires
+get-requires c κs = search needs
+
+refused-requires-4 : tie.Need-refused-requires-4
+refused-requires-4 c κs = search needs
+
+peers-of-requires : tie.Need-peers-of-requires
+peers-of-requires c κs = search needs
+
+join-requires : tie.Need-join-requires
+join-requires c κs = search needs
+
+count-requires : tie.Need-count-requires
+count-requires c κs = search needs
 
 pub reach-spec : {M : Type 1} → statement M
 reach-spec =

@@ -11,36 +11,21 @@ use Rattle.report.proofs.put_text.Tie as tie
 held-then : (c : tie.Else1) → Held (c .before .before .read .result .plan)
 held-then c = plan-held _ (c .before .before .read .ensures) (c .if1 .left) (λ i. omega (arith, c .before .before .before .before .before .before .shared-slice-known .given i))
 
-read-requires : tie.Need-read-requires
-read-requires c κs = search needs
-
 put-bad-requires : tie.Need-put-bad-requires
 put-bad-requires c κs =
     let r = c .before .before .before .read in
     omega (arith, bad-short (r .result .number) (r .result .block) (omega arith) (omega arith), c .before .before .before .before .before .before .before .before .pre .2)
-
-same-length : tie.Need-same-length
-same-length c = search needs
 
 returns : tie.Need-returns
 returns c =
     let r = c .before .before .before .before .before .before .read in
     refused-text _ (r .ensures) (c .before .before .before .before .if1 .taken) (omega arith) (omega arith) (c .before .before .put-bad .ensures)
 
-slice-aggregate-trials : tie.Need-slice-aggregate-trials
-slice-aggregate-trials c = search needs
-
-trials-requires : tie.Need-trials-requires
-trials-requires c κs = search needs
-
 cast-put-heading : tie.Need-cast-put-heading
 cast-put-heading c = omega (arith, held-devices _ (held-then (c .before .before .before .before .before .before .before .before .before .before .before .before .before)) .1)
 
 put-heading-requires : tie.Need-put-heading-requires
 put-heading-requires c κs = omega (arith, heading-short _ (held-devices _ (held-then (c .before .before .before .before .before .before .before .before .before .before .before .before .before)) .1), c .before .before .before .before .before .before .before .before .before .before .before .before .before .before .before .before .before .before .before .before .pre .2)
-
-slice-aggregate-put-lines : tie.Need-slice-aggregate-put-lines
-slice-aggregate-put-lines c = search needs
 
 put-lines-requires : tie.Need-put-lines-requires
 put-lines-requires c κs =
@@ -50,19 +35,16 @@ put-lines-requires c κs =
     let short = heading-short _ (held-devices _ held .1) in
     (held, was-found (c .before .before .before .before .before .before .before .before .before .before .before .before .trials .ensures) held (a .pre .0, a .pre .1, search needs), omega (arith, short, same-size h, next-place h (omega (arith, short, a .pre .2)), a .pre .2))
 
-same-length-2 : tie.Need-same-length-2
-same-length-2 c = search needs
-
-same-length-3 : tie.Need-same-length-3
-same-length-3 c = search needs
-
-same-length-4 : tie.Need-same-length-4
-same-length-4 c = search needs
-
 returns-2 : tie.Need-returns-2
 returns-2 c =
     let b = c .before .before .before .before .before .before .before .before .before .before .before .before .before .before .before .before .before .before .before .before .before in
     network-text _ (b .before .before .read .ensures) (b .if1 .left) (held-then b) (c .before .before .before .before .before .before .before .before .before .before .before .before .before .before .before .before .before .before .before .before .before .before .before .before .before .before .before .before .pre .2) (c .before .before .before .before .before .before .before .put-heading .ensures) (c .before .before .put-lines .ensures)
+
+read-requires : tie.Need-read-requires
+read-requires c κs = search needs
+
+trials-requires : tie.Need-trials-requires
+trials-requires c κs = search needs
 
 pub put-text-spec : {M : Type 1} → statement M
 put-text-spec =
@@ -70,15 +52,15 @@ put-text-spec =
     (tie.spec
     read-requires
     put-bad-requires
-    same-length
+    (λ c. search needs)
     returns
-    slice-aggregate-trials
+    (λ c. search needs)
     trials-requires
     cast-put-heading
     put-heading-requires
-    slice-aggregate-put-lines
+    (λ c. search needs)
     put-lines-requires
-    same-length-2
-    same-length-3
-    same-length-4
+    (λ c. search needs)
+    (λ c. search needs)
+    (λ c. search needs)
     returns-2)

@@ -8,20 +8,11 @@ use borrow.Author.Needs.{needs}
 use Rattle.report.proofs.report.Statement.{statement}
 use Rattle.report.proofs.report.Tie as tie
 
-fits-requires : tie.Need-fits-requires
-fits-requires c κs = search needs
-
 returns : tie.Need-returns
 returns c = misfits _ _ _ _ (denied (c .before .fits2 .ensures) (c .if1 .taken))
 
 put-text-requires : tie.Need-put-text-requires
 put-text-requires c κs = granted (c .before .before .before .before .fits2 .ensures) (c .before .before .before .if1 .left)
-
-fill-requires : tie.Need-fill-requires
-fill-requires c κs = search needs
-
-fill-requires-2 : tie.Need-fill-requires-2
-fill-requires-2 c κs = search needs
 
 cast-t22 : tie.Need-cast-t22
 cast-t22 c =
@@ -29,21 +20,21 @@ cast-t22 c =
     let f = granted (c .before .before .before .before .before .before .before .before .before .before .before .before .before .before .before .before .before .before .before .fits2 .ensures) (c .before .before .before .before .before .before .before .before .before .before .before .before .before .before .before .before .before .before .if1 .left) in
     omega (arith, v .short, next-place (v .put) (omega (arith, v .short, f .2)))
 
-same-length : tie.Need-same-length
-same-length c = search needs
-
-same-length-2 : tie.Need-same-length-2
-same-length-2 c = search needs
-
-same-length-3 : tie.Need-same-length-3
-same-length-3 c = search needs
-
 returns-2 : tie.Need-returns-2
 returns-2 c =
     let f = granted (c .before .before .before .before .before .before .before .before .before .before .before .before .before .before .before .before .before .before .before .fits2 .ensures) (c .before .before .before .before .before .before .before .before .before .before .before .before .before .before .before .before .before .before .if1 .left) in
     let v = c .before .before .before .before .before .before .before .before .before .before .before .before .before .before .put-text in
     reports _ _ _ _ f (v .ensures) (c .before .before .before .before .before .before .fill .ensures ∙ ap (λ n. table n (λ i. 0)) (v .kept .1 .0 ∙ f .0))
     (c .before .before .fill2 .ensures ∙ ap (λ n. table n (λ i. 0)) (v .kept .1 .1 .0 ∙ f .1))
+
+fits-requires : tie.Need-fits-requires
+fits-requires c κs = search needs
+
+fill-requires : tie.Need-fill-requires
+fill-requires c κs = search needs
+
+fill-requires-2 : tie.Need-fill-requires-2
+fill-requires-2 c κs = search needs
 
 pub report-spec : {M : Type 1} → statement M
 report-spec =
@@ -55,7 +46,7 @@ report-spec =
     fill-requires
     fill-requires-2
     cast-t22
-    same-length
-    same-length-2
-    same-length-3
+    (λ c. search needs)
+    (λ c. search needs)
+    (λ c. search needs)
     returns-2)

@@ -10,53 +10,17 @@ Inv-loop text plan₀ state₀ at₀ plan state at = at ≤ length text + 1
 abbrev μ-loop : tie.MeasureT-loop
 μ-loop text plan₀ state₀ at₀ plan state at = length text - at
 
-slice-aggregate-plan-of : tie.Need-slice-aggregate-plan-of Inv-loop μ-loop
-slice-aggregate-plan-of c = search needs
-
 plan-of-requires : tie.Need-plan-of-requires Inv-loop μ-loop
 plan-of-requires c κs = search needs
-
-loop-holds : tie.Need-loop-holds Inv-loop μ-loop
-loop-holds c = search needs
 
 find-requires : tie.Need-find-requires Inv-loop μ-loop
 find-requires c κs = search needs
 
-sub-chosen : tie.Need-sub-chosen Inv-loop μ-loop
-sub-chosen c = search needs
-
-part-chosen-start : tie.Need-part-chosen-start Inv-loop μ-loop
-part-chosen-start c = search needs
-
-part-chosen-end : tie.Need-part-chosen-end Inv-loop μ-loop
-part-chosen-end c = search needs
-
 chosen-requires : tie.Need-chosen-requires Inv-loop μ-loop
 chosen-requires c κs = search needs
 
-sub-step : tie.Need-sub-step Inv-loop μ-loop
-sub-step c = search needs
-
-part-step-start : tie.Need-part-step-start Inv-loop μ-loop
-part-step-start c = search needs
-
-part-step-end : tie.Need-part-step-end Inv-loop μ-loop
-part-step-end c = search needs
-
 step-requires : tie.Need-step-requires Inv-loop μ-loop
 step-requires c κs = search needs
-
-add-at : tie.Need-add-at Inv-loop μ-loop
-add-at c = search needs
-
-loop-less : tie.Need-loop-less Inv-loop μ-loop
-loop-less c = search needs
-
-loop-again : tie.Need-loop-again Inv-loop μ-loop
-loop-again c = search needs
-
-returns : tie.Need-returns Inv-loop μ-loop
-returns c = search needs
 
 pub play-spec : {M : Type 1} → statement M
 play-spec =
@@ -64,19 +28,19 @@ play-spec =
     (tie.spec
     Inv-loop
     μ-loop
-    slice-aggregate-plan-of
+    (λ c. search needs)
     plan-of-requires
-    loop-holds
+    (λ c. search needs)
     find-requires
-    sub-chosen
-    part-chosen-start
-    part-chosen-end
+    (λ c. search needs)
+    (λ c. search needs)
+    (λ c. search needs)
     chosen-requires
-    sub-step
-    part-step-start
-    part-step-end
+    (λ c. search needs)
+    (λ c. search needs)
+    (λ c. search needs)
     step-requires
-    add-at
-    loop-less
-    loop-again
-    returns)
+    (λ c. search needs)
+    (λ c. search needs)
+    (λ c. search needs)
+    (λ c. search needs))

@@ -6,9 +6,6 @@ use borrow.Author.Needs.{needs}
 use Rattle.settle.proofs.show.Statement.{statement}
 use Rattle.settle.proofs.show.Tie as tie
 
-make-requires : tie.Need-make-requires
-make-requires c κs = search needs
-
 slice-reshare-prefix-write-all : tie.Need-slice-reshare-prefix-write-all
 slice-reshare-prefix-write-all c =
     let m = c .before .before .before .before .before .before .make .ensures in
@@ -19,20 +16,14 @@ slice-aggregate-write-all c =
     let m = c .before .before .before .before .before .before .before .make .ensures in
     sym (length-take-le _ _ (omega (arith, m .2, over-room (m .0) (c .before .before .before .before .before .before .before .before .before .before .before .before .before .before .before .args .text .now) (m .3))))
 
-write-all-requires : tie.Need-write-all-requires
-write-all-requires c κs = search needs
-
-same-length : tie.Need-same-length
-same-length c = search needs
-
-same-length-2 : tie.Need-same-length-2
-same-length-2 c = search needs
-
-same-length-3 : tie.Need-same-length-3
-same-length-3 c = search needs
-
 returns : tie.Need-returns
 returns c = let m = c .before .before .before .before .before .before .before .before .make .ensures in (m .0, m .1, m .3)
+
+make-requires : tie.Need-make-requires
+make-requires c κs = search needs
+
+write-all-requires : tie.Need-write-all-requires
+write-all-requires c κs = search needs
 
 pub show-spec : {M : Type 1} → statement M
 show-spec =
@@ -42,7 +33,7 @@ show-spec =
     slice-reshare-prefix-write-all
     slice-aggregate-write-all
     write-all-requires
-    same-length
-    same-length-2
-    same-length-3
+    (λ c. search needs)
+    (λ c. search needs)
+    (λ c. search needs)
     returns)

@@ -6,15 +6,6 @@ use Rattle.state.specs.Network.{loadFor}
 use Rattle.state.proofs.load_for.Statement.{statement}
 use Rattle.state.proofs.load_for.Tie as tie
 
-mul-result : tie.Need-mul-result
-mul-result c = search needs
-
-array-read-result : tie.Need-array-read-result
-array-read-result c = search needs
-
-cast-result : tie.Need-cast-result
-cast-result c = search needs
-
 returns : tie.Need-returns
 unfolding loadFor
 returns c = search needs
@@ -24,4 +15,4 @@ unfolding loadFor
 returns-2 c = sym (List·getD-eq-default (c .before .args .t1) 0 (omega arith))
 
 pub load-for-spec : {M : Type 1} → statement M
-load-for-spec = tie.close (tie.spec mul-result array-read-result cast-result returns returns-2)
+load-for-spec = tie.close (tie.spec (λ c. search needs) (λ c. search needs) (λ c. search needs) returns returns-2)

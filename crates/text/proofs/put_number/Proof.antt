@@ -10,12 +10,6 @@ use Rattle.text.specs.Text.{decimal}
 use Rattle.text.proofs.put_number.Statement.{statement}
 use Rattle.text.proofs.put_number.Tie as tie
 
-places-requires : tie.Need-places-requires
-places-requires c κs = search needs
-
-has-room-requires : tie.Need-has-room-requires
-has-room-requires c κs = search needs
-
 returns : tie.Need-returns
 returns c =
     let a = c .before .before .before .before .args in
@@ -34,9 +28,6 @@ add-end c = omega (arith, room c)
 spell-requires : tie.Need-spell-requires
 spell-requires c κs = (omega (arith, c .before .before .before .places .ensures), omega (arith, room (c .before)))
 
-same-length : tie.Need-same-length
-same-length c = search needs
-
 returns-2 : tie.Need-returns-2
 returns-2 c =
     let b = c .before .before .before .before in
@@ -47,6 +38,12 @@ returns-2 c =
     rw e
     (puts-whole (omega arith) (c .before .before .spell .ensures ∙ ap (λ k. putAt (a .area .now) k (decimal (a .n))) p))
 
+places-requires : tie.Need-places-requires
+places-requires c κs = search needs
+
+has-room-requires : tie.Need-has-room-requires
+has-room-requires c κs = search needs
+
 pub put-number-spec : {M : Type 1} → statement M
 put-number-spec =
     tie.close
@@ -56,5 +53,5 @@ put-number-spec =
     returns
     add-end
     spell-requires
-    same-length
+    (λ c. search needs)
     returns-2)

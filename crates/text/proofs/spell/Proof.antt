@@ -74,20 +74,11 @@ Inv-loop area₀ end n i₀ rest₀ area i rest = Spelled area₀ end n area i r
 abbrev μ-loop : tie.MeasureT-loop
 μ-loop area₀ end n i₀ rest₀ area i rest = rest
 
-loop-holds : tie.Need-loop-holds Inv-loop μ-loop
-loop-holds c = search needs
-
 sub-i : tie.Need-sub-i Inv-loop μ-loop
 sub-i c = omega (arith, decimal-some (c .before .loop .rest))
 
-digit-requires : tie.Need-digit-requires Inv-loop μ-loop
-digit-requires c κs = search needs
-
 slice-write-area : tie.Need-slice-write-area Inv-loop μ-loop
 slice-write-area c = omega (arith, decimal-some (c .before .before .loop .rest))
-
-loop-less : tie.Need-loop-less Inv-loop μ-loop
-loop-less c = search needs
 
 loop-again : tie.Need-loop-again Inv-loop μ-loop
 loop-again c = turn (c .before .before .loop .inv) (c .digit .result) (c .digit .ensures) (c .before .loop-test .taken)
@@ -95,17 +86,17 @@ loop-again c = turn (c .before .before .loop .inv) (c .digit .result) (c .digit 
 sub-i-2 : tie.Need-sub-i-2 Inv-loop μ-loop
 sub-i-2 c = omega (arith, decimal-some (c .before .loop .rest))
 
-digit-requires-2 : tie.Need-digit-requires-2 Inv-loop μ-loop
-digit-requires-2 c κs = search needs
-
 slice-write-area-2 : tie.Need-slice-write-area-2 Inv-loop μ-loop
 slice-write-area-2 c = omega (arith, decimal-some (c .before .before .loop .rest))
 
-same-length : tie.Need-same-length Inv-loop μ-loop
-same-length c = search needs
-
 returns : tie.Need-returns Inv-loop μ-loop
 returns c = done (c .before .before .loop .inv) (c .digit2 .result) (c .digit2 .ensures) (c .before .loop-test .left)
+
+digit-requires : tie.Need-digit-requires Inv-loop μ-loop
+digit-requires c κs = search needs
+
+digit-requires-2 : tie.Need-digit-requires-2 Inv-loop μ-loop
+digit-requires-2 c κs = search needs
 
 pub spell-spec : {M : Type 1} → statement M
 spell-spec =
@@ -113,14 +104,14 @@ spell-spec =
     (tie.spec
     Inv-loop
     μ-loop
-    loop-holds
+    (λ c. search needs)
     sub-i
     digit-requires
     slice-write-area
-    loop-less
+    (λ c. search needs)
     loop-again
     sub-i-2
     digit-requires-2
     slice-write-area-2
-    same-length
+    (λ c. search needs)
     returns)

@@ -7,44 +7,8 @@ use borrow.Author.Needs.{needs}
 use Rattle.bench.proofs.rounds.act.Statement.{statement}
 use Rattle.bench.proofs.rounds.act.Tie as tie
 
-enum-known-action : tie.Need-enum-known-action
-enum-known-action c = search needs
-
-time-requires : tie.Need-time-requires
-time-requires c κs = search needs
-
-forward-requires : tie.Need-forward-requires
-forward-requires c κs = search needs
-
-enum-known-action-2 : tie.Need-enum-known-action-2
-enum-known-action-2 c = search needs
-
-time-requires-2 : tie.Need-time-requires-2
-time-requires-2 c κs = search needs
-
-inform-requires : tie.Need-inform-requires
-inform-requires c κs = search needs
-
-enum-told : tie.Need-enum-told
-enum-told c = search needs
-
-enum-told-2 : tie.Need-enum-told-2
-enum-told-2 c = search needs
-
-enum-told-3 : tie.Need-enum-told-3
-enum-told-3 c = search needs
-
-same-length : tie.Need-same-length
-same-length c = search needs
-
 returns : tie.Need-returns
 returns c = (rw (c .before .before .before .before .before .before .before .before .before .action .given .1) (silent (λ told. acted-forwards _ _ _ _ _ _ _ told (c .before .before .before .before .before .before .time .ensures) (c .before .before .forward .ensures))), omega arith)
-
-same-length-2 : tie.Need-same-length-2
-same-length-2 c = search needs
-
-same-length-3 : tie.Need-same-length-3
-same-length-3 c = search needs
 
 returns-2 : tie.Need-returns-2
 returns-2 c = (rw (c .before .before .before .before .before .before .before .before .before .action2 .given .1) (noted (λ told. acted-tells _ _ _ _ _ _ told (c .before .before .before .before .before .before .time2 .ensures)) (c .before .before .inform .ensures .0)), omega (arith, c .before .before .inform .ensures .1))
@@ -61,23 +25,35 @@ returns-5 : tie.Need-returns-5
 unfolding acted
 returns-5 c = (rw (c .enum-told3 .given .1) (silent (λ told. refl)), omega arith)
 
+time-requires : tie.Need-time-requires
+time-requires c κs = search needs
+
+forward-requires : tie.Need-forward-requires
+forward-requires c κs = search needs
+
+time-requires-2 : tie.Need-time-requires-2
+time-requires-2 c κs = search needs
+
+inform-requires : tie.Need-inform-requires
+inform-requires c κs = search needs
+
 pub act-spec : {M : Type 1} → statement M
 act-spec =
     tie.close
     (tie.spec
-    enum-known-action
+    (λ c. search needs)
     time-requires
     forward-requires
-    enum-known-action-2
+    (λ c. search needs)
     time-requires-2
     inform-requires
-    enum-told
-    enum-told-2
-    enum-told-3
-    same-length
+    (λ c. search needs)
+    (λ c. search needs)
+    (λ c. search needs)
+    (λ c. search needs)
     returns
-    same-length-2
-    same-length-3
+    (λ c. search needs)
+    (λ c. search needs)
     returns-2
     returns-3
     returns-4

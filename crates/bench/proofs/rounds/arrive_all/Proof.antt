@@ -91,9 +91,6 @@ mul-first c = omega (arith, c .before .before .before .before .before .before .p
 element-copy-out-wide : tie.Need-element-copy-out-wide Inv-loop2 μ-loop2 Inv-loop μ-loop
 element-copy-out-wide c = omega (arith, c .before .before .before .before .before .before .pre .0 .few, c .before .before .loop .inv .1)
 
-wide-requires : tie.Need-wide-requires Inv-loop2 μ-loop2 Inv-loop μ-loop
-wide-requires c κs = search needs
-
 add-past : tie.Need-add-past Inv-loop2 μ-loop2 Inv-loop μ-loop
 add-past c =
     let s = c .before .before .before .before .before .before .before .before in
@@ -107,35 +104,11 @@ loop2-holds c =
     let most = s .pre .0 .most (l .d) (omega (arith, l .inv .1)) in
     (λ size x v. v, omega arith, omega arith, omega (arith, most, l .inv .1, c .wide .ensures))
 
-mul-heard : tie.Need-mul-heard Inv-loop2 μ-loop2 Inv-loop μ-loop
-mul-heard c = search needs
-
-mul-heard-2 : tie.Need-mul-heard-2 Inv-loop2 μ-loop2 Inv-loop μ-loop
-mul-heard-2 c = search needs
-
-index-1-heard : tie.Need-index-1-heard Inv-loop2 μ-loop2 Inv-loop μ-loop
-index-1-heard c = search needs
-
-index-2-heard : tie.Need-index-2-heard Inv-loop2 μ-loop2 Inv-loop μ-loop
-index-2-heard c = search needs
-
-heard-requires : tie.Need-heard-requires Inv-loop2 μ-loop2 Inv-loop μ-loop
-heard-requires c κs = search needs
-
-cast-arrive-one : tie.Need-cast-arrive-one Inv-loop2 μ-loop2 Inv-loop μ-loop
-cast-arrive-one c = search needs
-
 arrive-one-requires : tie.Need-arrive-one-requires Inv-loop2 μ-loop2 Inv-loop μ-loop
 arrive-one-requires c κs =
     let l = c .before .before .before .before .before .before .before .before .before in
     let v = l .loop2 .inv .0 _ _ (l .before .before .before .before .before .loop .inv .0) in
     (v .state, omega (arith, v .few, l .loop2 .inv .3), omega (arith, v .count, v .few, l .loop2 .inv .3))
-
-add-q : tie.Need-add-q Inv-loop2 μ-loop2 Inv-loop μ-loop
-add-q c = search needs
-
-loop2-less : tie.Need-loop2-less Inv-loop2 μ-loop2 Inv-loop μ-loop
-loop2-less c = search needs
 
 loop2-again : tie.Need-loop2-again Inv-loop2 μ-loop2 Inv-loop μ-loop
 loop2-again c =
@@ -159,12 +132,6 @@ loop2-again c =
       l .loop2 .inv .3,
     )
 
-add-d : tie.Need-add-d Inv-loop2 μ-loop2 Inv-loop μ-loop
-add-d c = search needs
-
-loop-less : tie.Need-loop-less Inv-loop2 μ-loop2 Inv-loop μ-loop
-loop-less c = search needs
-
 loop-again : tie.Need-loop-again Inv-loop2 μ-loop2 Inv-loop μ-loop
 loop-again c =
     let l = c .before in
@@ -177,15 +144,15 @@ loop-again c =
       o .loop .inv .1,
     )
 
-same-length : tie.Need-same-length Inv-loop2 μ-loop2 Inv-loop μ-loop
-same-length c = search needs
-
-same-length-2 : tie.Need-same-length-2 Inv-loop2 μ-loop2 Inv-loop μ-loop
-same-length-2 c = search needs
-
 returns : tie.Need-returns Inv-loop2 μ-loop2 Inv-loop μ-loop
 unfolding reached
 returns c = follows-done _ (c .before .loop .inv .0 .follows) (omega (arith, c .before .loop .inv .0 .within, c .before .loop .inv .1))
+
+wide-requires : tie.Need-wide-requires Inv-loop2 μ-loop2 Inv-loop μ-loop
+wide-requires c κs = search needs
+
+heard-requires : tie.Need-heard-requires Inv-loop2 μ-loop2 Inv-loop μ-loop
+heard-requires c κs = search needs
 
 pub arrive-all-spec : {M : Type 1} → statement M
 arrive-all-spec =
@@ -202,19 +169,19 @@ arrive-all-spec =
     wide-requires
     add-past
     loop2-holds
-    mul-heard
-    mul-heard-2
-    index-1-heard
-    index-2-heard
+    (λ c. search needs)
+    (λ c. search needs)
+    (λ c. search needs)
+    (λ c. search needs)
     heard-requires
-    cast-arrive-one
+    (λ c. search needs)
     arrive-one-requires
-    add-q
-    loop2-less
+    (λ c. search needs)
+    (λ c. search needs)
     loop2-again
-    add-d
-    loop-less
+    (λ c. search needs)
+    (λ c. search needs)
     loop-again
-    same-length
-    same-length-2
+    (λ c. search needs)
+    (λ c. search needs)
     returns)

@@ -4,29 +4,14 @@ use Rattle.bench.proofs.Idles.{brought}
 use Rattle.bench.proofs.rounds.bring.Statement.{statement}
 use Rattle.bench.proofs.rounds.bring.Tie as tie
 
-mul-copy : tie.Need-mul-copy
-mul-copy c = search needs
-
 copy-requires : tie.Need-copy-requires
 copy-requires c κs =
     let s = c .before .before .before in (omega arith, omega (arith, s .pre .1 .size), omega (arith, s .pre .2 .size))
-
-mul-copy-2 : tie.Need-mul-copy-2
-mul-copy-2 c = search needs
-
-mul-copy-3 : tie.Need-mul-copy-3
-mul-copy-3 c = search needs
-
-add-copy : tie.Need-add-copy
-add-copy c = search needs
 
 copy-requires-2 : tie.Need-copy-requires-2
 copy-requires-2 c κs =
     let s = c .before .before .before .before .before .before .before in
     (omega arith, omega (arith, s .pre .1 .size), omega (arith, s .pre .2 .size, c .before .before .before .copy .ensures .size))
-
-same-length : tie.Need-same-length
-same-length c = search needs
 
 returns : tie.Need-returns
 returns c =
@@ -37,11 +22,11 @@ pub bring-spec : {M : Type 1} → statement M
 bring-spec =
     tie.close
     (tie.spec
-    mul-copy
+    (λ c. search needs)
     copy-requires
-    mul-copy-2
-    mul-copy-3
-    add-copy
+    (λ c. search needs)
+    (λ c. search needs)
+    (λ c. search needs)
     copy-requires-2
-    same-length
+    (λ c. search needs)
     returns)

@@ -7,39 +7,9 @@ use borrow.Author.Needs.{needs}
 use Rattle.bench.proofs.rounds.forward.Statement.{statement}
 use Rattle.bench.proofs.rounds.forward.Tie as tie
 
-enum-known-code : tie.Need-enum-known-code
-enum-known-code c = search needs
-
-cast-queue-all : tie.Need-cast-queue-all
-cast-queue-all c = search needs
-
-queue-all-requires : tie.Need-queue-all-requires
-queue-all-requires c κs = search needs
-
-enum-known-code-2 : tie.Need-enum-known-code-2
-enum-known-code-2 c = search needs
-
-cast-queue-all-2 : tie.Need-cast-queue-all-2
-cast-queue-all-2 c = search needs
-
-queue-all-requires-2 : tie.Need-queue-all-requires-2
-queue-all-requires-2 c κs = search needs
-
-enum-told : tie.Need-enum-told
-enum-told c = search needs
-
-enum-told-2 : tie.Need-enum-told-2
-enum-told-2 c = search needs
-
-same-length : tie.Need-same-length
-same-length c = search needs
-
 returns : tie.Need-returns
 unfolding forwarded
 returns c = c .before .before .queue-all .ensures ∙ queued-in _ _ _ _ _ _ (search needs) (omega arith) (omega arith) ∙ sym (ap (λ (x : Code). forwarded (c .before .before .before .before .before .before .before .before .args .permissions .now) (c .before .before .before .before .before .before .before .before .args .q) x (c .before .before .before .before .before .before .before .before .args .state .now)) (c .before .before .before .before .before .code .given .1))
-
-same-length-2 : tie.Need-same-length-2
-same-length-2 c = search needs
 
 returns-2 : tie.Need-returns-2
 unfolding forwarded
@@ -53,21 +23,27 @@ returns-4 : tie.Need-returns-4
 unfolding forwarded
 returns-4 c = sym (ap (λ (x : Code). forwarded (c .before .before .before .args .permissions .now) (c .before .before .before .args .q) x (c .before .before .before .args .state .now)) (c .enum-told2 .given .1))
 
+queue-all-requires : tie.Need-queue-all-requires
+queue-all-requires c κs = search needs
+
+queue-all-requires-2 : tie.Need-queue-all-requires-2
+queue-all-requires-2 c κs = search needs
+
 pub forward-spec : {M : Type 1} → statement M
 forward-spec =
     tie.close
     (tie.spec
-    enum-known-code
-    cast-queue-all
+    (λ c. search needs)
+    (λ c. search needs)
     queue-all-requires
-    enum-known-code-2
-    cast-queue-all-2
+    (λ c. search needs)
+    (λ c. search needs)
     queue-all-requires-2
-    enum-told
-    enum-told-2
-    same-length
+    (λ c. search needs)
+    (λ c. search needs)
+    (λ c. search needs)
     returns
-    same-length-2
+    (λ c. search needs)
     returns-2
     returns-3
     returns-4)

@@ -13,12 +13,6 @@ any-else [] i a b h = absurd (omega arith)
 any-else (x ∷ l) zero a b h = refl
 any-else (x ∷ l) (suc i) a b h = any-else l i a b (omega arith)
 
-mul-result : tie.Need-mul-result
-mul-result c = search needs
-
-shared-slice-read-result : tie.Need-shared-slice-read-result
-shared-slice-read-result c = search needs
-
 returns : tie.Need-returns
 returns c = any-else (c .before .before .args .sent .now) (c .before .before .args .peer) 0 256 (c .before .if1 .taken)
 
@@ -26,4 +20,4 @@ returns-2 : tie.Need-returns-2
 returns-2 c = sym (List·getD-eq-default (c .before .args .sent .now) 256 (c .if1 .left))
 
 pub heard-spec : {M : Type 1} → statement M
-heard-spec = tie.close (tie.spec mul-result shared-slice-read-result returns returns-2)
+heard-spec = tie.close (tie.spec (λ c. search needs) (λ c. search needs) returns returns-2)

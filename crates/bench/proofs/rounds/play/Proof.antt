@@ -1,4 +1,4 @@
-use mathlib.Core.Path.{_≡_, sym, ap, subst, _∙_}
+use mathlib.Core.Path.{sym, ap, subst, _∙_}
 use native.Mathlib.Omega.{arith}
 use lib.ListN.{length}
 use Rattle.state.specs.State.{State}
@@ -36,15 +36,6 @@ arrive-all-requires c κs =
       omega (arith, s .pre .0 .few, c .before .before .before .before .before .before .before .before .before .before .before .before .before .before .tick-all .ensures .1),
     )
 
-same-length : tie.Need-same-length
-same-length c = search needs
-
-same-length-2 : tie.Need-same-length-2
-same-length-2 c = search needs
-
-same-length-3 : tie.Need-same-length-3
-same-length-3 c = search needs
-
 returns : tie.Need-returns
 unfolding ticked
 returns c =
@@ -59,7 +50,7 @@ play-spec =
     tick-all-requires
     post-all-requires
     arrive-all-requires
-    same-length
-    same-length-2
-    same-length-3
+    (λ c. search needs)
+    (λ c. search needs)
+    (λ c. search needs)
     returns)

@@ -1,5 +1,5 @@
 -- `bench::rounds::post_all` meets its contract. The invariant: the ports before port q have sent, and those that are lacking have sent nothing. Assumes nothing.
-use mathlib.Core.Path.{_≡_, refl, sym, ap, _∙_}
+use mathlib.Core.Path.{_≡_, refl, sym, _∙_}
 use mathlib.Core.List.{List}
 use mathlib.Core.Logic.{dite}
 use Prim.Native.Nat.{ℕ, _+_, _-_, _*_, _/_, _≤_, _<_}
@@ -99,9 +99,6 @@ mul-first c = omega (arith, c .before .before .before .before .before .pre .0 .f
 element-copy-out-wide : tie.Need-element-copy-out-wide Inv-loop2 μ-loop2 Inv-loop μ-loop
 element-copy-out-wide c = omega (arith, c .before .before .before .before .before .pre .0 .few, c .before .loop .inv .2)
 
-wide-requires : tie.Need-wide-requires Inv-loop2 μ-loop2 Inv-loop μ-loop
-wide-requires c κs = search needs
-
 add-end : tie.Need-add-end Inv-loop2 μ-loop2 Inv-loop μ-loop
 add-end c =
     let s = c .before .before .before .before .before .before .before in
@@ -120,19 +117,10 @@ post-one-requires c κs =
     let l = c .before .before in
     (s .pre .1 .absent .size, l .loop2 .inv .0 _ (l .before .before .before .before .loop .inv .0) .long, omega (arith, s .pre .0 .few, l .loop2 .inv .2))
 
-mul-sent : tie.Need-mul-sent Inv-loop2 μ-loop2 Inv-loop μ-loop
-mul-sent c = search needs
-
 slice-write-sent : tie.Need-slice-write-sent Inv-loop2 μ-loop2 Inv-loop μ-loop
 slice-write-sent c =
     let l = c .before .before .before .before .before in
     omega (arith, l .loop2 .inv .0 _ (l .before .before .before .before .loop .inv .0) .room)
-
-add-q : tie.Need-add-q Inv-loop2 μ-loop2 Inv-loop μ-loop
-add-q c = search needs
-
-loop2-less : tie.Need-loop2-less Inv-loop2 μ-loop2 Inv-loop μ-loop
-loop2-less c = search needs
 
 loop2-again : tie.Need-loop2-again Inv-loop2 μ-loop2 Inv-loop μ-loop
 loop2-again c =
@@ -140,12 +128,6 @@ loop2-again c =
     let b = c .before .before in
     let l = b .before .before .before .loop2 in
     (λ start v. again (s .pre .0 .few) (l .inv .0 start v) (omega (arith, l .inv .2)) (b .post-one .ensures .0) (b .post-one .ensures .1) (b .post-one .kept .1 .1 .0), omega arith, l .inv .2)
-
-add-d : tie.Need-add-d Inv-loop2 μ-loop2 Inv-loop μ-loop
-add-d c = search needs
-
-loop-less : tie.Need-loop-less Inv-loop2 μ-loop2 Inv-loop μ-loop
-loop-less c = search needs
 
 loop-again : tie.Need-loop-again Inv-loop2 μ-loop2 Inv-loop μ-loop
 loop-again c =
@@ -160,18 +142,15 @@ loop-again c =
       o .loop .inv .2,
     )
 
-same-length : tie.Need-same-length Inv-loop2 μ-loop2 Inv-loop μ-loop
-same-length c = search needs
-
-same-length-2 : tie.Need-same-length-2 Inv-loop2 μ-loop2 Inv-loop μ-loop
-same-length-2 c = search needs
-
 returns : tie.Need-returns Inv-loop2 μ-loop2 Inv-loop μ-loop
 unfolding posted
 returns c =
     let s = c .before .before .before .before .before in
     let v = c .before .loop .inv in
     (done (v .0 .after) (omega (arith, v .2)), all-sent (s .pre .0 .few) (v .0) (omega (arith, v .2)))
+
+wide-requires : tie.Need-wide-requires Inv-loop2 μ-loop2 Inv-loop μ-loop
+wide-requires c κs = search needs
 
 pub post-all-spec : {M : Type 1} → statement M
 post-all-spec =
@@ -188,14 +167,14 @@ post-all-spec =
     add-end
     loop2-holds
     post-one-requires
-    mul-sent
+    (λ c. search needs)
     slice-write-sent
-    add-q
-    loop2-less
+    (λ c. search needs)
+    (λ c. search needs)
     loop2-again
-    add-d
-    loop-less
+    (λ c. search needs)
+    (λ c. search needs)
     loop-again
-    same-length
-    same-length-2
+    (λ c. search needs)
+    (λ c. search needs)
     returns)

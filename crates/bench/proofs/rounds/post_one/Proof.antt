@@ -1,4 +1,4 @@
-use Prim.Native.Nat.{ℕ, _+_, _-_, _*_, _<_}
+use Prim.Native.Nat.{ℕ, _-_, _<_}
 use Rattle.bits.specs.declared.Found.{Found}
 use mathlib.Core.Path.{_≡_, sym, _∙_}
 use native.Mathlib.Decide.{ℕ-discrete}
@@ -38,62 +38,11 @@ byte-sent old q {k} e f =
 found : (c : tie.After-found) → chosen (c .before .before .before .before .before .args .old .now) (c .before .before .before .before .before .args .q) ≡ At (c .found .given .0 .0)
 found c = sym (c .before .before .choice .ensures) ∙ c .found .given .1
 
-mul-at : tie.Need-mul-at
-mul-at c = search needs
-
-add-at : tie.Need-add-at
-add-at c = search needs
-
-choice-requires : tie.Need-choice-requires
-choice-requires c κs = search needs
-
-enum-known-found : tie.Need-enum-known-found
-enum-known-found c = search needs
-
-enum-told : tie.Need-enum-told
-enum-told c = search needs
-
 returns : tie.Need-returns
 returns c = (search none-sent, search none-left)
 
-add-leave : tie.Need-add-leave
-add-leave c = search needs
-
-mul-leave : tie.Need-mul-leave
-mul-leave c = search needs
-
-slice-read-leave : tie.Need-slice-read-leave
-slice-read-leave c = search needs
-
-leave-requires : tie.Need-leave-requires
-leave-requires c κs = search needs
-
-add-next : tie.Need-add-next
-add-next c = search needs
-
-mul-next : tie.Need-mul-next
-mul-next c = search needs
-
-slice-write-next : tie.Need-slice-write-next
-slice-write-next c = search needs
-
-add-leave-2 : tie.Need-add-leave-2
-add-leave-2 c = search needs
-
-mul-leave-2 : tie.Need-mul-leave-2
-mul-leave-2 c = search needs
-
 slice-read-leave-2 : tie.Need-slice-read-leave-2
 slice-read-leave-2 c = simp length-set (omega arith)
-
-leave-requires-2 : tie.Need-leave-requires-2
-leave-requires-2 c κs = search needs
-
-add-next-2 : tie.Need-add-next-2
-add-next-2 c = search needs
-
-mul-next-2 : tie.Need-mul-next-2
-mul-next-2 c = search needs
 
 slice-write-next-2 : tie.Need-slice-write-next-2
 slice-write-next-2 c = simp length-set (omega arith)
@@ -101,35 +50,11 @@ slice-write-next-2 c = simp length-set (omega arith)
 add-next-3 : tie.Need-add-next-3
 add-next-3 c = omega (arith, chosen-place _ _ (found (c .before .before .before .before .before)))
 
-add-next-4 : tie.Need-add-next-4
-add-next-4 c = search needs
-
-mul-next-3 : tie.Need-mul-next-3
-mul-next-3 c = search needs
-
 slice-write-next-3 : tie.Need-slice-write-next-3
 slice-write-next-3 c = simp length-set (omega arith)
 
-add-get : tie.Need-add-get
-add-get c = search needs
-
-mul-get : tie.Need-mul-get
-mul-get c = search needs
-
-shared-slice-read-get : tie.Need-shared-slice-read-get
-shared-slice-read-get c = search needs
-
-get-requires : tie.Need-get-requires
-get-requires c κs = search needs
-
 sub-kind : tie.Need-sub-kind
 sub-kind c = omega (arith, small _ _ (c .get .ensures))
-
-mul-result : tie.Need-mul-result
-mul-result c = search needs
-
-add-result : tie.Need-add-result
-add-result c = search needs
 
 add-result-2 : tie.Need-add-result-2
 add-result-2 c = omega (arith, chosen-place _ _ (found (c .before .before .before .before .before .before .before)))
@@ -146,41 +71,53 @@ returns-2 c =
       sym (post-leaves (a .old .now) (a .q) k (a .next .now) (c .before .before .before .before .leave .result) (c .before .before .leave2 .result) (c .before .before .before .before .leave .ensures) (c .before .before .leave2 .ensures)),
     )
 
+choice-requires : tie.Need-choice-requires
+choice-requires c κs = search needs
+
+leave-requires : tie.Need-leave-requires
+leave-requires c κs = search needs
+
+leave-requires-2 : tie.Need-leave-requires-2
+leave-requires-2 c κs = search needs
+
+get-requires : tie.Need-get-requires
+get-requires c κs = search needs
+
 pub post-one-spec : {M : Type 1} → statement M
 post-one-spec =
     tie.close
     (tie.spec
-    mul-at
-    add-at
+    (λ c. search needs)
+    (λ c. search needs)
     choice-requires
-    enum-known-found
-    enum-told
+    (λ c. search needs)
+    (λ c. search needs)
     returns
-    add-leave
-    mul-leave
-    slice-read-leave
+    (λ c. search needs)
+    (λ c. search needs)
+    (λ c. search needs)
     leave-requires
-    add-next
-    mul-next
-    slice-write-next
-    add-leave-2
-    mul-leave-2
+    (λ c. search needs)
+    (λ c. search needs)
+    (λ c. search needs)
+    (λ c. search needs)
+    (λ c. search needs)
     slice-read-leave-2
     leave-requires-2
-    add-next-2
-    mul-next-2
+    (λ c. search needs)
+    (λ c. search needs)
     slice-write-next-2
     add-next-3
-    add-next-4
-    mul-next-3
+    (λ c. search needs)
+    (λ c. search needs)
     slice-write-next-3
-    add-get
-    mul-get
-    shared-slice-read-get
+    (λ c. search needs)
+    (λ c. search needs)
+    (λ c. search needs)
     get-requires
     sub-kind
-    mul-result
-    add-result
+    (λ c. search needs)
+    (λ c. search needs)
     add-result-2
     same-length
     returns-2)

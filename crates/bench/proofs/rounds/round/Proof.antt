@@ -1,6 +1,5 @@
 -- `bench::rounds::round` meets its contract: each refusal by its branch, and else the round over cleared areas. Assumes nothing.
 use mathlib.Core.Path.{refl, ap, _∙_}
-use mathlib.Core.List.{List}
 use Prim.Native.Nat.{ℕ}
 use native.Mathlib.Omega.{arith}
 use Rattle.answers.proofs.Outcomes.{Holds, holds}
@@ -18,44 +17,17 @@ use Rattle.bench.proofs.rounds.round.Tie as tie
 ready : (c : tie.Else1) → Holds (stateAsks (c .before .before .before .before .before .before .args .plan) (c .before .before .before .before .before .before .args .old .now))
 ready c = holds (stateAsks _ _) refl (c .before .refusal .ensures) (c .if1 .left)
 
-refusal-requires : tie.Need-refusal-requires
-refusal-requires c κs = search needs
-
-refused-requires : tie.Need-refused-requires
-refused-requires c κs = search needs
-
 returns : tie.Need-returns
 returns c = rw (c .refused .ensures) (not-ready _ _ _ (c .before .before .refusal .ensures) (c .before .if1 .taken))
-
-refused-requires-2 : tie.Need-refused-requires-2
-refused-requires-2 c κs = search needs
 
 returns-2 : tie.Need-returns-2
 returns-2 c = rw (c .refused2 .ensures) (next-long _ _ _ (ready (c .before .before)) (c .before .if2 .taken))
 
-refused-requires-3 : tie.Need-refused-requires-3
-refused-requires-3 c κs = search needs
-
 returns-3 : tie.Need-returns-3
 returns-3 c = rw (c .refused3 .ensures) (sent-long _ _ _ (ready (c .before .before .before)) (c .before .before .if2 .left) (c .before .if3 .taken))
 
-refused-requires-4 : tie.Need-refused-requires-4
-refused-requires-4 c κs = search needs
-
 returns-4 : tie.Need-returns-4
 returns-4 c = rw (c .refused4 .ensures) (told-long _ _ _ (ready (c .before .before .before .before)) (c .before .before .before .if2 .left) (c .before .before .if3 .left) (c .before .if4 .taken))
-
-fill-requires : tie.Need-fill-requires
-fill-requires c κs = search needs
-
-fill-requires-2 : tie.Need-fill-requires-2
-fill-requires-2 c κs = search needs
-
-fill-requires-3 : tie.Need-fill-requires-3
-fill-requires-3 c κs = search needs
-
-peers-of-requires : tie.Need-peers-of-requires
-peers-of-requires c κs = search needs
 
 play-requires : tie.Need-play-requires
 play-requires c κs =
@@ -71,19 +43,37 @@ play-requires c κs =
 cast-t27 : tie.Need-cast-t27
 cast-t27 c = omega (arith, count-fits (ready (c .before .before .before .before .before .before .before .before .before .before .before .before .before .before .before .before .before .before .before .before .before .before .before .before .before .before .before .before) .0) (played-plan (c .before .before .before .before .before .before .before .before .before .before .before .peers-of .ensures) (c .before .before .before .before .before .before .play .ensures)))
 
-same-length : tie.Need-same-length
-same-length c = search needs
-
-same-length-2 : tie.Need-same-length-2
-same-length-2 c = search needs
-
-same-length-3 : tie.Need-same-length-3
-same-length-3 c = search needs
-
 returns-5 : tie.Need-returns-5
 returns-5 c =
     plays _ _ _ (ready (c .before .before .before .before .before .before .before .before .before .before .before .before .before .before .before .before .before .before .before .before .before .before .before .before .before .before .before .before)) (c .before .before .before .before .before .before .before .before .before .before .before .before .before .before .before .before .before .before .before .before .before .before .before .before .before .before .before .if2 .left) (c .before .before .before .before .before .before .before .before .before .before .before .before .before .before .before .before .before .before .before .before .before .before .before .before .before .before .if3 .left) (c .before .before .before .before .before .before .before .before .before .before .before .before .before .before .before .before .before .before .before .before .before .before .before .before .before .if4 .left) (c .before .before .before .before .before .before .before .before .before .before .before .before .before .before .before .fill3 .ensures)
     (played-plan (c .before .before .before .before .before .before .before .before .before .before .before .peers-of .ensures) (c .before .before .before .before .before .before .play .ensures))
+
+refusal-requires : tie.Need-refusal-requires
+refusal-requires c κs = search needs
+
+refused-requires : tie.Need-refused-requires
+refused-requires c κs = search needs
+
+refused-requires-2 : tie.Need-refused-requires-2
+refused-requires-2 c κs = search needs
+
+refused-requires-3 : tie.Need-refused-requires-3
+refused-requires-3 c κs = search needs
+
+refused-requires-4 : tie.Need-refused-requires-4
+refused-requires-4 c κs = search needs
+
+fill-requires : tie.Need-fill-requires
+fill-requires c κs = search needs
+
+fill-requires-2 : tie.Need-fill-requires-2
+fill-requires-2 c κs = search needs
+
+fill-requires-3 : tie.Need-fill-requires-3
+fill-requires-3 c κs = search needs
+
+peers-of-requires : tie.Need-peers-of-requires
+peers-of-requires c κs = search needs
 
 pub round-spec : {M : Type 1} → statement M
 round-spec =
@@ -104,7 +94,7 @@ round-spec =
     peers-of-requires
     play-requires
     cast-t27
-    same-length
-    same-length-2
-    same-length-3
+    (λ c. search needs)
+    (λ c. search needs)
+    (λ c. search needs)
     returns-5)

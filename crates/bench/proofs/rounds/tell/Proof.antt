@@ -14,23 +14,20 @@ stored c =
     let a = c .before .before .before .args in
     ⊎-elim (λ w. w .1) (λ w. w .1 ∙ sym (set-out _ _ _ (w .0 .left))) (c .if1 .came) ∙ ap (set (a .told .now) (a .count)) (c .before .told-word .ensures)
 
-told-word-requires : tie.Need-told-word-requires
-told-word-requires c κs = search needs
-
-mul-told : tie.Need-mul-told
-mul-told c = search needs
-
-slice-write-told : tie.Need-slice-write-told
-slice-write-told c = search needs
-
-add-result : tie.Need-add-result
-add-result c = search needs
-
 same-length : tie.Need-same-length
 same-length c = ap length (stored c) ∙ length-set (c .before .before .before .args .told .now) _ _
 
 returns : tie.Need-returns
 returns c = (note-one (stored c) refl, refl)
 
+told-word-requires : tie.Need-told-word-requires
+told-word-requires c κs = search needs
+
 pub tell-spec : {M : Type 1} → statement M
-tell-spec = tie.close (tie.spec told-word-requires mul-told slice-write-told add-result same-length returns)
+tell-spec = tie.close (tie.spec
+    told-word-requires
+    (λ c. search needs)
+    (λ c. search needs)
+    (λ c. search needs)
+    same-length
+    returns)

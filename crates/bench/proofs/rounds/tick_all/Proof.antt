@@ -35,20 +35,11 @@ abbrev μ-loop : tie.MeasureT-loop
 loop-holds : tie.Need-loop-holds Inv-loop μ-loop
 loop-holds c = record { within = omega arith; count = omega arith; state = search needs; area = search needs; follows = follows-none _ }
 
-element-copy-out-tick-device : tie.Need-element-copy-out-tick-device Inv-loop μ-loop
-element-copy-out-tick-device c = search needs
-
 tick-device-requires : tie.Need-tick-device-requires Inv-loop μ-loop
 tick-device-requires c κs =
     let l = c .before .before .before .before .loop in
     let b = c .before .before .before .before .before .before .before in
     (l .inv .state, omega arith, omega arith, rests-yet (router (b .args .role .now)) (l .d) (b .pre .2 (l .d) (omega arith)) (l .inv .follows))
-
-add-d : tie.Need-add-d Inv-loop μ-loop
-add-d c = search needs
-
-loop-less : tie.Need-loop-less Inv-loop μ-loop
-loop-less c = search needs
 
 loop-again : tie.Need-loop-again Inv-loop μ-loop
 loop-again c =
@@ -66,12 +57,6 @@ loop-again c =
           (omega arith);
     }
 
-same-length : tie.Need-same-length Inv-loop μ-loop
-same-length c = search needs
-
-same-length-2 : tie.Need-same-length-2 Inv-loop μ-loop
-same-length-2 c = search needs
-
 returns : tie.Need-returns Inv-loop μ-loop
 returns c =
     let l = c .before .loop .inv in
@@ -84,11 +69,11 @@ tick-all-spec =
     Inv-loop
     μ-loop
     loop-holds
-    element-copy-out-tick-device
+    (λ c. search needs)
     tick-device-requires
-    add-d
-    loop-less
+    (λ c. search needs)
+    (λ c. search needs)
     loop-again
-    same-length
-    same-length-2
+    (λ c. search needs)
+    (λ c. search needs)
     returns)

@@ -75,15 +75,6 @@ Inv-loop router d state₀ told₀ count count₀ rest₀ state told count' rest
 abbrev μ-loop : tie.MeasureT-loop
 μ-loop router d state₀ told₀ count count₀ rest₀ state told count' rest = rest
 
-mul-rest : tie.Need-mul-rest Inv-loop μ-loop
-mul-rest c = search needs
-
-mul-rest-2 : tie.Need-mul-rest-2 Inv-loop μ-loop
-mul-rest-2 c = search needs
-
-slice-read-rest : tie.Need-slice-read-rest Inv-loop μ-loop
-slice-read-rest c = search needs
-
 loop-holds : tie.Need-loop-holds Inv-loop μ-loop
 unfolding word
 loop-holds c =
@@ -106,9 +97,6 @@ tick-one-requires c κs =
     let low = low v (omega arith) in
     (v .state, search needs, low, omega (arith, v .count))
 
-leave-requires : tie.Need-leave-requires Inv-loop μ-loop
-leave-requires c κs = search needs
-
 loop-less : tie.Need-loop-less Inv-loop μ-loop
 loop-less c =
     let l = c .before .before .before .before .before .before .before .before .before .loop in
@@ -120,16 +108,13 @@ loop-again c =
     let l = b .before .before .before .before .loop in
     rw (c .leave .ensures) (again (l .inv) (omega arith) (b .tick-one .ensures .0) (b .tick-one .ensures .1) (b .tick-one .kept .1 .1 .1 .0) (b .tick-one .kept .1 .1 .1 .1 .0))
 
-same-length : tie.Need-same-length Inv-loop μ-loop
-same-length c = search needs
-
-same-length-2 : tie.Need-same-length-2 Inv-loop μ-loop
-same-length-2 c = search needs
-
 returns : tie.Need-returns Inv-loop μ-loop
 returns c =
     let v = c .before .loop .inv in
     (done v (omega arith), omega (arith, v .count, v .within))
+
+leave-requires : tie.Need-leave-requires Inv-loop μ-loop
+leave-requires c κs = search needs
 
 pub tick-device-spec : {M : Type 1} → statement M
 tick-device-spec =
@@ -137,14 +122,14 @@ tick-device-spec =
     (tie.spec
     Inv-loop
     μ-loop
-    mul-rest
-    mul-rest-2
-    slice-read-rest
+    (λ c. search needs)
+    (λ c. search needs)
+    (λ c. search needs)
     loop-holds
     tick-one-requires
     leave-requires
     loop-less
     loop-again
-    same-length
-    same-length-2
+    (λ c. search needs)
+    (λ c. search needs)
     returns)

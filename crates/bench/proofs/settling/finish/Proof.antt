@@ -25,17 +25,8 @@ long c =
     let a = c .before .before .before in
     ap length (used c) ∙ of-either (λ (l : List ℕ). length l ≡ words) (a .args .home) _ _ (a .pre .0) (a .pre .1)
 
-copy-requires : tie.Need-copy-requires
-copy-requires c κs = search needs
-
-fill-requires : tie.Need-fill-requires
-fill-requires c κs = search needs
-
 same-length : tie.Need-same-length
 same-length c = omega (arith, long (c .before .before .before .before))
-
-same-length-2 : tie.Need-same-length-2
-same-length-2 c = search needs
 
 returns : tie.Need-returns
 returns c =
@@ -43,5 +34,16 @@ returns c =
     let z = c .before .before .fill .ensures ∙ ap (λ (k : ℕ). table k (λ i. 0)) (a .pre .1) in
     (refl, λ i. pair (used (c .before .before .before .before) i) (z i))
 
+copy-requires : tie.Need-copy-requires
+copy-requires c κs = search needs
+
+fill-requires : tie.Need-fill-requires
+fill-requires c κs = search needs
+
 pub finish-spec : {M : Type 1} → statement M
-finish-spec = tie.close (tie.spec copy-requires fill-requires same-length same-length-2 returns)
+finish-spec = tie.close (tie.spec
+    copy-requires
+    fill-requires
+    same-length
+    (λ c. search needs)
+    returns)

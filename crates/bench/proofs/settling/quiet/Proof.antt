@@ -15,26 +15,8 @@ Inv-loop n state q₀ end q = (q ≤ end) × (end ≡ 8 * n) × ((j : ℕ) → j
 abbrev μ-loop : tie.MeasureT-loop
 μ-loop n state q₀ end q = end - q
 
-mul-q-end : tie.Need-mul-q-end Inv-loop μ-loop
-mul-q-end c = search needs
-
 loop-holds : tie.Need-loop-holds Inv-loop μ-loop
 loop-holds c = (omega arith, refl, below-none _)
-
-mul-at : tie.Need-mul-at Inv-loop μ-loop
-mul-at c = search needs
-
-add-at : tie.Need-add-at Inv-loop μ-loop
-add-at c = search needs
-
-add-if1 : tie.Need-add-if1 Inv-loop μ-loop
-add-if1 c = search needs
-
-mul-if1 : tie.Need-mul-if1 Inv-loop μ-loop
-mul-if1 c = search needs
-
-shared-slice-read-if1 : tie.Need-shared-slice-read-if1 Inv-loop μ-loop
-shared-slice-read-if1 c = search needs
 
 returns : tie.Need-returns Inv-loop μ-loop
 unfolding word
@@ -42,23 +24,11 @@ returns c =
     let p = c .before .before .before .before .pre in
     one-waits (p .0) (p .1) (c .before .before .before .loop .q) (omega (arith, c .before .before .before .loop .inv .1)) (λ h. c .if1 .taken (h .0))
 
-add-if2 : tie.Need-add-if2 Inv-loop μ-loop
-add-if2 c = search needs
-
-mul-if2 : tie.Need-mul-if2 Inv-loop μ-loop
-mul-if2 c = search needs
-
-shared-slice-read-if2 : tie.Need-shared-slice-read-if2 Inv-loop μ-loop
-shared-slice-read-if2 c = search needs
-
 returns-2 : tie.Need-returns-2 Inv-loop μ-loop
 unfolding word
 returns-2 c =
     let p = c .before .before .before .before .before .before .pre in
     one-waits (p .0) (p .1) (c .before .before .before .before .before .loop .q) (omega (arith, c .before .before .before .before .before .loop .inv .1)) (λ h. c .if2 .taken (h .1))
-
-add-q : tie.Need-add-q Inv-loop μ-loop
-add-q c = search needs
 
 loop-less : tie.Need-loop-less Inv-loop μ-loop
 loop-less c = omega arith
@@ -77,19 +47,19 @@ quiet-spec =
     (tie.spec
     Inv-loop
     μ-loop
-    mul-q-end
+    (λ c. search needs)
     loop-holds
-    mul-at
-    add-at
-    add-if1
-    mul-if1
-    shared-slice-read-if1
+    (λ c. search needs)
+    (λ c. search needs)
+    (λ c. search needs)
+    (λ c. search needs)
+    (λ c. search needs)
     returns
-    add-if2
-    mul-if2
-    shared-slice-read-if2
+    (λ c. search needs)
+    (λ c. search needs)
+    (λ c. search needs)
     returns-2
-    add-q
+    (λ c. search needs)
     loop-less
     loop-again
     returns-3)

@@ -71,9 +71,6 @@ quiet-in-requires c κs = let l = c .before .before .loop in (held-laid _ (c .be
 finish-requires : tie.Need-finish-requires Inv-loop μ-loop
 finish-requires c κs = let l = c .before .before .before .before .before .before .before .loop in (l .inv .blank .size, l .inv .blank-second .size)
 
-same-length : tie.Need-same-length Inv-loop μ-loop
-same-length c = search needs
-
 same-length-2 : tie.Need-same-length-2 Inv-loop μ-loop
 same-length-2 c = c .before .before .before .before .finish .kept .1 .1 .0 ∙ c .before .before .before .before .before .before .before .before .before .before .before .before .loop .inv .blank-second .size ∙ sym (zeros-blank 0 (c .before .before .before .before .before .before .before .before .before .before .before .before .before .before .before .pre .2) .size)
 
@@ -82,26 +79,11 @@ returns c =
     rw (c .before .before .before .before .finish .ensures .0)
     (spent (c .before .before .before .before .before .before .before .before .before .before .before .before .loop .inv .ran) (c .before .before .before .before .finish .ensures .1) (denied (c .before .before .before .before .before .before .before .before .before .quiet-in .ensures) (c .before .before .before .before .before .before .before .before .if1 .taken)) (c .before .before .before .before .before .before .before .if2 .taken))
 
-slice-aggregate-advance : tie.Need-slice-aggregate-advance Inv-loop μ-loop
-slice-aggregate-advance c = search needs
-
-array-borrow-prefix-told : tie.Need-array-borrow-prefix-told Inv-loop μ-loop
-array-borrow-prefix-told c = search needs
-
-slice-aggregate-advance-2 : tie.Need-slice-aggregate-advance-2 Inv-loop μ-loop
-slice-aggregate-advance-2 c = search needs
-
 advance-requires : tie.Need-advance-requires Inv-loop μ-loop
 advance-requires c κs =
     let p = c .before .before .before .before .before .before .before .before .before .before .before .before .before .pre in
     let k = c .before .before .before .before .before .before .before .before .before .before .loop .inv in
     (held-laid _ (p .0), sound-idles _ (p .0) (in-use (p .0) (p .1) k), other (p .0) (p .1) k, k .silent)
-
-add-n : tie.Need-add-n Inv-loop μ-loop
-add-n c = search needs
-
-loop-less : tie.Need-loop-less Inv-loop μ-loop
-loop-less c = search needs
 
 loop-again : tie.Need-loop-again Inv-loop μ-loop
 loop-again c =
@@ -112,9 +94,6 @@ loop-again c =
 
 finish-requires-2 : tie.Need-finish-requires-2 Inv-loop μ-loop
 finish-requires-2 c κs = let l = c .before .before .before .before .before .before .loop in (l .inv .blank .size, l .inv .blank-second .size)
-
-same-length-3 : tie.Need-same-length-3 Inv-loop μ-loop
-same-length-3 c = search needs
 
 same-length-4 : tie.Need-same-length-4 Inv-loop μ-loop
 same-length-4 c = c .before .before .before .before .finish2 .kept .1 .1 .0 ∙ c .before .before .before .before .before .before .before .before .before .before .before .loop .inv .blank-second .size ∙ sym (zeros-blank 0 (c .before .before .before .before .before .before .before .before .before .before .before .before .before .before .pre .2) .size)
@@ -133,17 +112,17 @@ run-spec =
     loop-holds
     quiet-in-requires
     finish-requires
-    same-length
+    (λ c. search needs)
     same-length-2
     returns
-    slice-aggregate-advance
-    array-borrow-prefix-told
-    slice-aggregate-advance-2
+    (λ c. search needs)
+    (λ c. search needs)
+    (λ c. search needs)
     advance-requires
-    add-n
-    loop-less
+    (λ c. search needs)
+    (λ c. search needs)
     loop-again
     finish-requires-2
-    same-length-3
+    (λ c. search needs)
     same-length-4
     returns-2)

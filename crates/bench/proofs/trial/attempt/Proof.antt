@@ -7,18 +7,6 @@ use borrow.Author.Needs.{needs}
 use Rattle.bench.proofs.trial.attempt.Statement.{statement}
 use Rattle.bench.proofs.trial.attempt.Tie as tie
 
-begin-requires : tie.Need-begin-requires
-begin-requires c κs = search needs
-
-send-refusal-requires : tie.Need-send-refusal-requires
-send-refusal-requires c κs = search needs
-
-refused-requires : tie.Need-refused-requires
-refused-requires c κs = search needs
-
-same-length : tie.Need-same-length
-same-length c = search needs
-
 returns : tie.Need-returns
 returns c =
     let s = c .before .before .before .before .before .before .before .before .before .before .before .before .before in
@@ -26,9 +14,6 @@ returns c =
     let fresh = is-begun _ _ (p .1) (c .before .before .before .before .before .before .before .before .begin .ensures) in
     let answer = c .before .before .send-refusal .ensures in
     (rw (c .refused .ensures) (is-refused _ (p .0) _ _ (p .4) fresh answer (c .before .if1 .taken)), p .2)
-
-take-requires : tie.Need-take-requires
-take-requires c κs = search needs
 
 run-requires : tie.Need-run-requires
 run-requires c κs =
@@ -43,12 +28,6 @@ run-requires c κs =
 holders-requires : tie.Need-holders-requires
 holders-requires c κs = (held-devices _ (c .before .before .before .before .before .before .before .before .before .before .before .before .before .before .before .before .before .before .before .before .before .before .before .before .pre .0) .1, search needs)
 
-same-length-2 : tie.Need-same-length-2
-same-length-2 c = search needs
-
-same-length-3 : tie.Need-same-length-3
-same-length-3 c = search needs
-
 returns-2 : tie.Need-returns-2
 returns-2 c =
     let s = c .before .before .before .before .before .before .before .before .before .before .before .before .before .before .before .before .before .before .before .before .before .before .before .before .before in
@@ -59,6 +38,18 @@ returns-2 c =
     let taken = c .before .before .before .before .before .before .before .before .before .before .before .take .ensures _ ∙ called-in _ _ _ _ _ (c .before .before .before .before .before .before .before .before .before .before .before .before .before .before .before .before .before .before .before .before .begin .kept .1 .0 ∙ p .1) (p .3) (is-small _ (p .0) _ _ (p .4)) (omega arith) in
     (is-tried _ (p .0) _ _ (p .4) fresh answer z taken (c .before .before .before .before .before .before .run .ensures) (c .holders .ensures), ends-second (c .before .before .before .before .before .before .run .ensures))
 
+begin-requires : tie.Need-begin-requires
+begin-requires c κs = search needs
+
+send-refusal-requires : tie.Need-send-refusal-requires
+send-refusal-requires c κs = search needs
+
+refused-requires : tie.Need-refused-requires
+refused-requires c κs = search needs
+
+take-requires : tie.Need-take-requires
+take-requires c κs = search needs
+
 pub attempt-spec : {M : Type 1} → statement M
 attempt-spec =
     tie.close
@@ -66,11 +57,11 @@ attempt-spec =
     begin-requires
     send-refusal-requires
     refused-requires
-    same-length
+    (λ c. search needs)
     returns
     take-requires
     run-requires
     holders-requires
-    same-length-2
-    same-length-3
+    (λ c. search needs)
+    (λ c. search needs)
     returns-2)

@@ -20,29 +20,11 @@ loop-holds : tie.Need-loop-holds Inv-loop μ-loop
 unfolding holders
 loop-holds c = (omega arith, refl)
 
-mul-get : tie.Need-mul-get Inv-loop μ-loop
-mul-get c = search needs
-
-mul-get-2 : tie.Need-mul-get-2 Inv-loop μ-loop
-mul-get-2 c = search needs
-
-shared-slice-read-get : tie.Need-shared-slice-read-get Inv-loop μ-loop
-shared-slice-read-get c = search needs
-
-get-requires : tie.Need-get-requires Inv-loop μ-loop
-get-requires c κs = search needs
-
 add-held : tie.Need-add-held Inv-loop μ-loop
 add-held c =
     let l = c .before .before .before .loop in
     let a = c .before .before .before .before .before .args in
     omega (arith, l .inv .1, holders-few (l .d) (a .k) (a .state .now), c .get .ensures, bit-two (getD (a .state .now) (33 * l .d) 0) (a .k))
-
-add-d : tie.Need-add-d Inv-loop μ-loop
-add-d c = search needs
-
-loop-less : tie.Need-loop-less Inv-loop μ-loop
-loop-less c = search needs
 
 loop-again : tie.Need-loop-again Inv-loop μ-loop
 unfolding word
@@ -53,6 +35,9 @@ loop-again c =
 returns : tie.Need-returns Inv-loop μ-loop
 returns c = c .before .loop .inv .1 ∙ ap (λ n. holders n (c .before .before .before .args .k) (c .before .before .before .args .state .now)) (omega arith)
 
+get-requires : tie.Need-get-requires Inv-loop μ-loop
+get-requires c κs = search needs
+
 pub holders-spec : {M : Type 1} → statement M
 holders-spec =
     tie.close
@@ -60,12 +45,12 @@ holders-spec =
     Inv-loop
     μ-loop
     loop-holds
-    mul-get
-    mul-get-2
-    shared-slice-read-get
+    (λ c. search needs)
+    (λ c. search needs)
+    (λ c. search needs)
     get-requires
     add-held
-    add-d
-    loop-less
+    (λ c. search needs)
+    (λ c. search needs)
     loop-again
     returns)

@@ -12,40 +12,16 @@ use Rattle.bench.proofs.trial.trials.Tie as tie
 held : (c : tie.Else1) → Held (c .before .before .before .before .before .args .plan)
 held c = granted (c .before .is-held .ensures) (c .if1 .left)
 
-is-held-requires : tie.Need-is-held-requires
-is-held-requires c κs = search needs
-
 returns : tie.Need-returns
 returns c = not-held _ _ _ _ (denied (c .before .is-held .ensures) (c .if1 .taken))
 
-fits-requires : tie.Need-fits-requires
-fits-requires c κs = search needs
-
 returns-2 : tie.Need-returns-2
 returns-2 c = misfits _ _ _ _ (held (c .before .before)) (denied (c .before .fits2 .ensures) (c .if2 .taken))
-
-fill-requires : tie.Need-fill-requires
-fill-requires c κs = search needs
-
-peers-of-requires : tie.Need-peers-of-requires
-peers-of-requires c κs = search needs
 
 try-all-requires : tie.Need-try-all-requires
 try-all-requires c κs =
     let f = granted (c .before .before .before .before .before .before .before .before .before .before .fits2 .ensures) (c .before .before .before .before .before .before .before .before .before .if2 .left) in
     (held-parts _ (c .before .before .before .peers-of .ensures) (held (c .before .before .before .before .before .before .before .before .before .before .before)), f .0, c .before .before .before .before .before .before .before .fill .ensures ∙ ap (λ n. table n (λ _. 0)) (f .1), f .2)
-
-fill-requires-2 : tie.Need-fill-requires-2
-fill-requires-2 c κs = search needs
-
-same-length : tie.Need-same-length
-same-length c = search needs
-
-same-length-2 : tie.Need-same-length-2
-same-length-2 c = search needs
-
-same-length-3 : tie.Need-same-length-3
-same-length-3 c = search needs
 
 returns-3 : tie.Need-returns-3
 returns-3 c =
@@ -54,6 +30,21 @@ returns-3 c =
     finds _ _ _ _ (held (c .before .before .before .before .before .before .before .before .before .before .before .before .before .before .before .before .before .before .before .before .before .before)) (c .before .before .before .before .before .before .before .before .before .before .before .before .before .before .peers-of .ensures) f (b .try-all .ensures .0)
     (c .before .before .fill2 .ensures ∙ ap (λ n. table n (λ i. 0)) (b .try-all .kept .1 .1 .0 ∙ f .0))
     (b .try-all .ensures .1)
+
+is-held-requires : tie.Need-is-held-requires
+is-held-requires c κs = search needs
+
+fits-requires : tie.Need-fits-requires
+fits-requires c κs = search needs
+
+fill-requires : tie.Need-fill-requires
+fill-requires c κs = search needs
+
+peers-of-requires : tie.Need-peers-of-requires
+peers-of-requires c κs = search needs
+
+fill-requires-2 : tie.Need-fill-requires-2
+fill-requires-2 c κs = search needs
 
 pub trials-spec : {M : Type 1} → statement M
 trials-spec =
@@ -67,7 +58,7 @@ trials-spec =
     peers-of-requires
     try-all-requires
     fill-requires-2
-    same-length
-    same-length-2
-    same-length-3
+    (λ c. search needs)
+    (λ c. search needs)
+    (λ c. search needs)
     returns-3)

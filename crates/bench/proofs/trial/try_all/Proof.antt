@@ -48,21 +48,6 @@ loop-holds c =
     let p = c .before .before .before .pre in
     record { within = omega arith; so-far = found-none (p .3); long = p .1; cleared = p .2 }
 
-cast-k : tie.Need-cast-k Inv-loop μ-loop
-cast-k c = search needs
-
-mul-foreign : tie.Need-mul-foreign Inv-loop μ-loop
-mul-foreign c = search needs
-
-element-copy-out-foreign : tie.Need-element-copy-out-foreign Inv-loop μ-loop
-element-copy-out-foreign c = search needs
-
-foreign-requires : tie.Need-foreign-requires Inv-loop μ-loop
-foreign-requires c κs = search needs
-
-refused-requires : tie.Need-refused-requires Inv-loop μ-loop
-refused-requires c κs = search needs
-
 attempt-requires : tie.Need-attempt-requires Inv-loop μ-loop
 attempt-requires c κs =
     let l = c .before .before .before .before .before .before .before .before .loop in
@@ -71,44 +56,11 @@ attempt-requires c κs =
     let asks = placeAsks (core .devices) (l .i / 32) (getD (core .source) (l .i / 32) 0) (l .i % 32) in
     (s .pre .0, l .inv .long, l .inv .cleared, omega arith, answered-none asks (c .before .before .before .before .refused .ensures) (c .before .before .if1 .taken) (c .before .before .before .before .before .foreign .ensures))
 
-mul-found : tie.Need-mul-found Inv-loop μ-loop
-mul-found c = search needs
-
-mul-found-2 : tie.Need-mul-found-2 Inv-loop μ-loop
-mul-found-2 c = search needs
-
-slice-write-found : tie.Need-slice-write-found Inv-loop μ-loop
-slice-write-found c = search needs
-
-mul-found-3 : tie.Need-mul-found-3 Inv-loop μ-loop
-mul-found-3 c = search needs
-
-add-found : tie.Need-add-found Inv-loop μ-loop
-add-found c = search needs
-
-mul-found-4 : tie.Need-mul-found-4 Inv-loop μ-loop
-mul-found-4 c = search needs
-
 slice-write-found-2 : tie.Need-slice-write-found-2 Inv-loop μ-loop
 slice-write-found-2 c = simp length-set (omega (arith, c .before .before .before .before .before .before .loop .inv .so-far .size))
 
-mul-found-5 : tie.Need-mul-found-5 Inv-loop μ-loop
-mul-found-5 c = search needs
-
-add-found-2 : tie.Need-add-found-2 Inv-loop μ-loop
-add-found-2 c = search needs
-
-mul-found-6 : tie.Need-mul-found-6 Inv-loop μ-loop
-mul-found-6 c = search needs
-
 slice-write-found-3 : tie.Need-slice-write-found-3 Inv-loop μ-loop
 slice-write-found-3 c = simp length-set (omega (arith, c .before .before .before .before .before .before .loop .inv .so-far .size))
-
-add-i : tie.Need-add-i Inv-loop μ-loop
-add-i c = search needs
-
-loop-less : tie.Need-loop-less Inv-loop μ-loop
-loop-less c = search needs
 
 loop-again : tie.Need-loop-again Inv-loop μ-loop
 loop-again c =
@@ -121,17 +73,17 @@ loop-again c =
     (λ w. goes-on (l .inv) (omega arith) (as-tried (w .3 ∙ e) (is-foreign _ h _ _ _ f (λ z. w .0 .left (ap (λ (t : Tried). t .number) e ∙ z)))) (ap length (w .1)) (w .2 ∙ l .inv .cleared))
     (c .if1 .came)
 
-same-length : tie.Need-same-length Inv-loop μ-loop
-same-length c = search needs
-
 same-length-2 : tie.Need-same-length-2 Inv-loop μ-loop
 same-length-2 c = ap length (c .before .loop .inv .cleared ∙ sym (c .before .before .before .before .before .pre .2))
 
-same-length-3 : tie.Need-same-length-3 Inv-loop μ-loop
-same-length-3 c = search needs
-
 returns : tie.Need-returns Inv-loop μ-loop
 returns c = (found-all (c .before .loop .inv .so-far) (omega arith), c .before .loop .inv .cleared)
+
+foreign-requires : tie.Need-foreign-requires Inv-loop μ-loop
+foreign-requires c κs = search needs
+
+refused-requires : tie.Need-refused-requires Inv-loop μ-loop
+refused-requires c κs = search needs
 
 pub try-all-spec : {M : Type 1} → statement M
 try-all-spec =
@@ -140,27 +92,27 @@ try-all-spec =
     Inv-loop
     μ-loop
     loop-holds
-    cast-k
-    mul-foreign
-    element-copy-out-foreign
+    (λ c. search needs)
+    (λ c. search needs)
+    (λ c. search needs)
     foreign-requires
     refused-requires
     attempt-requires
-    mul-found
-    mul-found-2
-    slice-write-found
-    mul-found-3
-    add-found
-    mul-found-4
+    (λ c. search needs)
+    (λ c. search needs)
+    (λ c. search needs)
+    (λ c. search needs)
+    (λ c. search needs)
+    (λ c. search needs)
     slice-write-found-2
-    mul-found-5
-    add-found-2
-    mul-found-6
+    (λ c. search needs)
+    (λ c. search needs)
+    (λ c. search needs)
     slice-write-found-3
-    add-i
-    loop-less
+    (λ c. search needs)
+    (λ c. search needs)
     loop-again
-    same-length
+    (λ c. search needs)
     same-length-2
-    same-length-3
+    (λ c. search needs)
     returns)

@@ -6,15 +6,9 @@ use borrow.Author.Needs.{needs}
 use Rattle.plan.proofs.held.device_right.Statement.{statement}
 use Rattle.plan.proofs.held.device_right.Tie as tie
 
-ports-fit-requires : tie.Need-ports-fit-requires
-ports-fit-requires c κs = search needs
-
 returns : tie.Need-returns
 unfolding deviceRight
 returns c = simp (lt-ltb _ _ (c .before .before .if1 .taken), sym (c .before .ports-fit .ensures) ∙ not-true _ (c .if2 .taken))
-
-masks-fit-requires : tie.Need-masks-fit-requires
-masks-fit-requires c κs = search needs
 
 returns-2 : tie.Need-returns-2
 unfolding deviceRight
@@ -35,6 +29,12 @@ returns-5 c = simp (le-ltb _ _ (c .before .before .before .if1 .left), eq-eqb _ 
 returns-6 : tie.Need-returns-6
 unfolding deviceRight
 returns-6 c = simp (le-ltb _ _ (c .before .before .before .if1 .left), eq-eqb _ _ (c .before .before .if3 .left), eq-eqb _ _ (c .before .if4 .left), eq-eqb _ _ (c .if5 .left))
+
+ports-fit-requires : tie.Need-ports-fit-requires
+ports-fit-requires c κs = search needs
+
+masks-fit-requires : tie.Need-masks-fit-requires
+masks-fit-requires c κs = search needs
 
 pub device-right-spec : {M : Type 1} → statement M
 device-right-spec =

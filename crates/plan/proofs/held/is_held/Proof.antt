@@ -57,17 +57,8 @@ shape c = owned (c .args .plan) _ (c .good .0)
 header : (c : tie.After-header-fits) {b : Bool} → c .header-fits .result ≡ b → headerFits (headerOf (c .before .before .before .args .plan .core)) ≡ b
 header c e = sym (c .header-fits .ensures ∙ ap headerFits (c .before .header-of .ensures)) ∙ e
 
-header-of-requires : tie.Need-header-of-requires
-header-of-requires c κs = search needs
-
-header-fits-requires : tie.Need-header-fits-requires
-header-fits-requires c κs = search needs
-
 returns : tie.Need-returns
 returns c = decided _ (shape (c .before .before .before .before)) false _ _ (header (c .before) (not-true _ (c .if1 .taken))) refl refl
-
-peers-of-requires : tie.Need-peers-of-requires
-peers-of-requires c κs = search needs
 
 rows-right-requires : tie.Need-rows-right-requires
 rows-right-requires c κs = few (c .before .before .before .before .before .args .plan) (header (c .before .before) (not-false _ (c .before .if1 .left)))
@@ -79,9 +70,6 @@ returns-2 c =
     let rows : rowsRight plan ≡ false = rw (← c .before .before .peers-of .ensures) (sym (c .before .rows-right .ensures) ∙ not-true _ (c .if2 .taken)) in
     decided plan (shape (e .before .before .before .before)) true false _ (header (e .before) (not-false _ (e .if1 .left))) rows refl
 
-bad-block-requires : tie.Need-bad-block-requires
-bad-block-requires c κs = search needs
-
 returns-3 : tie.Need-returns-3
 returns-3 c =
     let e = c .before .before .before .before .before in
@@ -90,6 +78,18 @@ returns-3 c =
     let peers = c .before .before .before .before .peers-of .ensures in
     let rows : rowsRight plan ≡ true = rw (← peers) (sym (c .before .before .before .rows-right .ensures) ∙ not-false _ (c .before .before .if2 .left)) in
     decided plan (shape (e .before .before .before .before)) true true _ fits rows (all-join plan _ _ peers fits (c .bad-block .ensures))
+
+header-of-requires : tie.Need-header-of-requires
+header-of-requires c κs = search needs
+
+header-fits-requires : tie.Need-header-fits-requires
+header-fits-requires c κs = search needs
+
+peers-of-requires : tie.Need-peers-of-requires
+peers-of-requires c κs = search needs
+
+bad-block-requires : tie.Need-bad-block-requires
+bad-block-requires c κs = search needs
 
 pub is-held-spec : {M : Type 1} → statement M
 is-held-spec =

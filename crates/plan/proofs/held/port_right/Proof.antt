@@ -10,9 +10,6 @@ use borrow.Author.Needs.{needs}
 use Rattle.plan.proofs.held.port_right.Statement.{statement}
 use Rattle.plan.proofs.held.port_right.Tie as tie
 
-mul-if2 : tie.Need-mul-if2
-mul-if2 c = search needs
-
 -- no peer, as the port is absent or its peer is beyond the devices
 neither : (c : tie.Joined1) → (ltb (c .before .args .p) (c .before .args .ports) && ltb (c .before .args .peer) (8 * c .before .args .n)) ≡ false
 neither c = ⊎-elim (λ w. simp (lt-ltb _ _ (w .0 .taken), le-ltb _ _ (w .1 .left))) (λ w. simp (le-ltb _ _ (w .left))) (c .if1 .came)
@@ -30,4 +27,4 @@ unfolding portRight
 returns-3 c = simp (neither (c .before), eq-eqb _ _ (c .if3 .left))
 
 pub port-right-spec : {M : Type 1} → statement M
-port-right-spec = tie.close (tie.spec mul-if2 returns returns-2 returns-3)
+port-right-spec = tie.close (tie.spec (λ c. search needs) returns returns-2 returns-3)

@@ -23,35 +23,8 @@ abbrev μ-loop : tie.MeasureT-loop
 loop-holds : tie.Need-loop-holds Inv-loop μ-loop
 loop-holds c = (omega arith, below-none _)
 
-mul-port-right : tie.Need-mul-port-right Inv-loop μ-loop
-mul-port-right c = search needs
-
-mul-port-right-2 : tie.Need-mul-port-right-2 Inv-loop μ-loop
-mul-port-right-2 c = search needs
-
-index-1-port-right : tie.Need-index-1-port-right Inv-loop μ-loop
-index-1-port-right c = search needs
-
-index-2-port-right : tie.Need-index-2-port-right Inv-loop μ-loop
-index-2-port-right c = search needs
-
-mul-port-right-3 : tie.Need-mul-port-right-3 Inv-loop μ-loop
-mul-port-right-3 c = search needs
-
-add-port-right : tie.Need-add-port-right Inv-loop μ-loop
-add-port-right c = search needs
-
-element-copy-out-port-right : tie.Need-element-copy-out-port-right Inv-loop μ-loop
-element-copy-out-port-right c = search needs
-
-port-right-requires : tie.Need-port-right-requires Inv-loop μ-loop
-port-right-requires c κs = search needs
-
 returns : tie.Need-returns Inv-loop μ-loop
 returns c = sym (every-not 8 _ _ (omega arith) (sym (c .before .port-right .ensures) ∙ not-true _ (c .if1 .taken)))
-
-add-p : tie.Need-add-p Inv-loop μ-loop
-add-p c = search needs
 
 loop-less : tie.Need-loop-less Inv-loop μ-loop
 loop-less c = omega arith
@@ -62,6 +35,9 @@ loop-again c = (omega arith, below-more _ _ (c .before .before .before .before .
 returns-2 : tie.Need-returns-2 Inv-loop μ-loop
 returns-2 c = sym (every-all 8 _ (λ i l. c .before .loop .inv .1 i (omega arith)))
 
+port-right-requires : tie.Need-port-right-requires Inv-loop μ-loop
+port-right-requires c κs = search needs
+
 pub ports-right-spec : {M : Type 1} → statement M
 ports-right-spec =
     tie.close
@@ -69,16 +45,16 @@ ports-right-spec =
     Inv-loop
     μ-loop
     loop-holds
-    mul-port-right
-    mul-port-right-2
-    index-1-port-right
-    index-2-port-right
-    mul-port-right-3
-    add-port-right
-    element-copy-out-port-right
+    (λ c. search needs)
+    (λ c. search needs)
+    (λ c. search needs)
+    (λ c. search needs)
+    (λ c. search needs)
+    (λ c. search needs)
+    (λ c. search needs)
     port-right-requires
     returns
-    add-p
+    (λ c. search needs)
     loop-less
     loop-again
     returns-2)

@@ -24,38 +24,11 @@ abbrev μ-loop : tie.MeasureT-loop
 loop-holds : tie.Need-loop-holds Inv-loop μ-loop
 loop-holds c = (omega arith, below-none _)
 
-element-copy-out-device-right : tie.Need-element-copy-out-device-right Inv-loop μ-loop
-element-copy-out-device-right c = search needs
-
-element-copy-out-device-right-2 : tie.Need-element-copy-out-device-right-2 Inv-loop μ-loop
-element-copy-out-device-right-2 c = search needs
-
-mul-device-right : tie.Need-mul-device-right Inv-loop μ-loop
-mul-device-right c = search needs
-
-element-copy-out-device-right-3 : tie.Need-element-copy-out-device-right-3 Inv-loop μ-loop
-element-copy-out-device-right-3 c = search needs
-
-mul-device-right-2 : tie.Need-mul-device-right-2 Inv-loop μ-loop
-mul-device-right-2 c = search needs
-
-element-copy-out-device-right-4 : tie.Need-element-copy-out-device-right-4 Inv-loop μ-loop
-element-copy-out-device-right-4 c = search needs
-
-device-right-requires : tie.Need-device-right-requires Inv-loop μ-loop
-device-right-requires c κs = search needs
-
 returns : tie.Need-returns Inv-loop μ-loop
 unfolding rowRight
 returns c =
     let device = sym (c .before .device-right .ensures) ∙ not-true _ (c .if1 .taken) in
     sym (every-not 32 _ (c .before .before .before .before .before .before .before .loop .d) (omega arith) (and-is _ _ false _ device refl))
-
-element-copy-out-ports-right : tie.Need-element-copy-out-ports-right Inv-loop μ-loop
-element-copy-out-ports-right c = search needs
-
-ports-right-requires : tie.Need-ports-right-requires Inv-loop μ-loop
-ports-right-requires c κs = search needs
 
 returns-2 : tie.Need-returns-2 Inv-loop μ-loop
 unfolding rowRight
@@ -63,9 +36,6 @@ returns-2 c =
     let device = sym (c .before .before .before .before .before .before .before .device-right .ensures) ∙ not-false _ (c .before .before .before .before .before .before .if1 .left) in
     let all = sym (c .before .ports-right .ensures) ∙ not-true _ (c .if2 .taken) in
     sym (every-not 32 _ (c .before .before .before .before .before .before .before .before .before .before .before .before .before .loop .d) (omega arith) (and-is _ _ true false device all))
-
-add-d : tie.Need-add-d Inv-loop μ-loop
-add-d c = search needs
 
 loop-less : tie.Need-loop-less Inv-loop μ-loop
 loop-less c = omega arith
@@ -80,6 +50,12 @@ loop-again c =
 returns-3 : tie.Need-returns-3 Inv-loop μ-loop
 returns-3 c = sym (every-all 32 _ (λ i l. c .before .loop .inv .1 i (omega arith)))
 
+device-right-requires : tie.Need-device-right-requires Inv-loop μ-loop
+device-right-requires c κs = search needs
+
+ports-right-requires : tie.Need-ports-right-requires Inv-loop μ-loop
+ports-right-requires c κs = search needs
+
 pub rows-right-spec : {M : Type 1} → statement M
 rows-right-spec =
     tie.close
@@ -87,18 +63,18 @@ rows-right-spec =
     Inv-loop
     μ-loop
     loop-holds
-    element-copy-out-device-right
-    element-copy-out-device-right-2
-    mul-device-right
-    element-copy-out-device-right-3
-    mul-device-right-2
-    element-copy-out-device-right-4
+    (λ c. search needs)
+    (λ c. search needs)
+    (λ c. search needs)
+    (λ c. search needs)
+    (λ c. search needs)
+    (λ c. search needs)
     device-right-requires
     returns
-    element-copy-out-ports-right
+    (λ c. search needs)
     ports-right-requires
     returns-2
-    add-d
+    (λ c. search needs)
     loop-less
     loop-again
     returns-3)

@@ -41,26 +41,11 @@ loop-holds c = (omega arith, below-none _)
 loop2-holds : tie.Need-loop2-holds Inv-loop2 μ-loop2 Inv-loop μ-loop Inv-search μ-search
 loop2-holds c = (omega arith, below-none _)
 
-joins-requires : tie.Need-joins-requires Inv-loop2 μ-loop2 Inv-loop μ-loop Inv-search μ-search
-joins-requires c κs = search needs
-
-add-result : tie.Need-add-result Inv-loop2 μ-loop2 Inv-loop μ-loop Inv-search μ-search
-add-result c = search needs
-
-cast-result : tie.Need-cast-result Inv-loop2 μ-loop2 Inv-loop μ-loop Inv-search μ-search
-cast-result c = search needs
-
-add-p : tie.Need-add-p Inv-loop2 μ-loop2 Inv-loop μ-loop Inv-search μ-search
-add-p c = search needs
-
 loop2-less : tie.Need-loop2-less Inv-loop2 μ-loop2 Inv-loop μ-loop Inv-search μ-search
 loop2-less c = omega arith
 
 loop2-again : tie.Need-loop2-again Inv-loop2 μ-loop2 Inv-loop μ-loop Inv-search μ-search
 loop2-again c = (omega arith, below-more _ _ (c .before .before .before .before .before .loop2 .inv .1) (sym (c .before .joins .ensures) ∙ not-false _ (c .if2 .left)))
-
-add-d : tie.Need-add-d Inv-loop2 μ-loop2 Inv-loop μ-loop Inv-search μ-search
-add-d c = search needs
 
 loop-less : tie.Need-loop-less Inv-loop2 μ-loop2 Inv-loop μ-loop Inv-search μ-search
 loop-less c = omega arith
@@ -80,6 +65,9 @@ returns-2 c =
 returns-3 : tie.Need-returns-3 Inv-loop2 μ-loop2 Inv-loop μ-loop Inv-search μ-search
 returns-3 c = block-none _ _ _ _ (c .before .loop .inv .1) (omega arith)
 
+joins-requires : tie.Need-joins-requires Inv-loop2 μ-loop2 Inv-loop μ-loop Inv-search μ-search
+joins-requires c κs = search needs
+
 pub bad-block-spec : {M : Type 1} → statement M
 bad-block-spec =
     tie.close
@@ -94,12 +82,12 @@ bad-block-spec =
     loop-holds
     loop2-holds
     joins-requires
-    add-result
-    cast-result
-    add-p
+    (λ c. search needs)
+    (λ c. search needs)
+    (λ c. search needs)
     loop2-less
     loop2-again
-    add-d
+    (λ c. search needs)
     loop-less
     loop-again
     returns

@@ -18,21 +18,6 @@ leads : (ports : ℕ → ℕ) (peer : ℕ → ℕ → ℕ) (d p q : ℕ) (back :
 unfolding Fields·joins
 leads ports peer d p q back e n l b = simp (← e, ne-eqb _ _ n, lt-ltb _ _ l, b)
 
-mul-wide : tie.Need-mul-wide
-mul-wide c = search needs
-
-mul-wide-2 : tie.Need-mul-wide-2
-mul-wide-2 c = search needs
-
-index-1-wide : tie.Need-index-1-wide
-index-1-wide c = search needs
-
-index-2-wide : tie.Need-index-2-wide
-index-2-wide c = search needs
-
-wide-requires : tie.Need-wide-requires
-wide-requires c κs = search needs
-
 returns : tie.Need-returns
 unfolding Fields·joins
 returns c = simp (← c .before .wide .ensures, eq-eqb _ _ (c .if1 .taken))
@@ -45,37 +30,10 @@ returns-2 c =
     let none : getD all (w .result / 8) 0 ≡ 0 = List·getD-eq-default all 0 (omega arith) in
     simp (← w .ensures, ne-eqb _ _ (c .before .if1 .left), none, le-ltb (w .result % 8) 0 zero≤)
 
-element-copy-out-wide8 : tie.Need-element-copy-out-wide8
-element-copy-out-wide8 c = search needs
-
-wide8-requires : tie.Need-wide8-requires
-wide8-requires c κs = search needs
-
 returns-3 : tie.Need-returns-3
 unfolding Fields·joins
 returns-3 c =
     simp (← c .before .before .before .before .before .wide .ensures, ne-eqb _ _ (c .before .before .before .before .if1 .left), ← c .before .wide8 .ensures, le-ltb _ _ (c .if3 .taken))
-
-mul-wide-3 : tie.Need-mul-wide-3
-mul-wide-3 c = search needs
-
-mul-wide-4 : tie.Need-mul-wide-4
-mul-wide-4 c = search needs
-
-index-1-wide-2 : tie.Need-index-1-wide-2
-index-1-wide-2 c = search needs
-
-index-2-wide-2 : tie.Need-index-2-wide-2
-index-2-wide-2 c = search needs
-
-wide-requires-2 : tie.Need-wide-requires-2
-wide-requires-2 c κs = search needs
-
-mul-if4 : tie.Need-mul-if4
-mul-if4 c = search needs
-
-add-if4 : tie.Need-add-if4
-add-if4 c = search needs
 
 returns-4 : tie.Need-returns-4
 returns-4 c =
@@ -84,12 +42,6 @@ returns-4 c =
     let some = e .before .before .before .before .if1 .left in
     sym (leads _ _ _ _ (w .result) false (w .ensures) some (rw (← e .before .wide8 .ensures) (e .if3 .left)) (rw (← c .before .wide2 .ensures) (ne-eqb _ _ (c .if4 .taken))))
 
-mul-result : tie.Need-mul-result
-mul-result c = search needs
-
-add-result : tie.Need-add-result
-add-result c = search needs
-
 returns-5 : tie.Need-returns-5
 returns-5 c =
     let e = c .before .before .before in
@@ -97,28 +49,37 @@ returns-5 c =
     let some = e .before .before .before .before .if1 .left in
     sym (leads _ _ _ _ (w .result) true (w .ensures) some (rw (← e .before .wide8 .ensures) (e .if3 .left)) (rw (← c .before .wide2 .ensures) (eq-eqb _ _ (c .if4 .left))))
 
+wide-requires : tie.Need-wide-requires
+wide-requires c κs = search needs
+
+wide8-requires : tie.Need-wide8-requires
+wide8-requires c κs = search needs
+
+wide-requires-2 : tie.Need-wide-requires-2
+wide-requires-2 c κs = search needs
+
 pub joins-spec : {M : Type 1} → statement M
 joins-spec =
     tie.close
     (tie.spec
-    mul-wide
-    mul-wide-2
-    index-1-wide
-    index-2-wide
+    (λ c. search needs)
+    (λ c. search needs)
+    (λ c. search needs)
+    (λ c. search needs)
     wide-requires
     returns
     returns-2
-    element-copy-out-wide8
+    (λ c. search needs)
     wide8-requires
     returns-3
-    mul-wide-3
-    mul-wide-4
-    index-1-wide-2
-    index-2-wide-2
+    (λ c. search needs)
+    (λ c. search needs)
+    (λ c. search needs)
+    (λ c. search needs)
     wide-requires-2
-    mul-if4
-    add-if4
+    (λ c. search needs)
+    (λ c. search needs)
     returns-4
-    mul-result
-    add-result
+    (λ c. search needs)
+    (λ c. search needs)
     returns-5)

@@ -35,39 +35,21 @@ loop-holds : tie.Need-loop-holds Inv-loop μ-loop
 unfolding weighted
 loop-holds c = record { within = omega arith; small = omega arith; sum = refl }
 
-cast-sum : tie.Need-cast-sum Inv-loop μ-loop
-cast-sum c = search needs
-
-add-sum : tie.Need-add-sum Inv-loop μ-loop
-add-sum c = search needs
-
-shared-slice-read-narrow : tie.Need-shared-slice-read-narrow Inv-loop μ-loop
-shared-slice-read-narrow c = search needs
-
-narrow-requires : tie.Need-narrow-requires Inv-loop μ-loop
-narrow-requires c κs = search needs
-
 mul-sum : tie.Need-mul-sum Inv-loop μ-loop
 mul-sum c = omega (arith, term-le (c .before .before .before .loop .i) (c .narrow .result) (omega arith) (c .narrow .ensures .1))
 
 add-sum-2 : tie.Need-add-sum-2 Inv-loop μ-loop
 add-sum-2 c = omega (arith, term-le (c .before .before .before .loop .i) (c .narrow .result) (omega arith) (c .narrow .ensures .1))
 
-add-i : tie.Need-add-i Inv-loop μ-loop
-add-i c = search needs
-
-loop-less : tie.Need-loop-less Inv-loop μ-loop
-loop-less c = search needs
-
 loop-again : tie.Need-loop-again Inv-loop μ-loop
 loop-again c = more (c .before .before .before .loop .inv) (omega arith) (c .narrow .ensures .0) (c .narrow .ensures .1)
-
-cast-result : tie.Need-cast-result Inv-loop μ-loop
-cast-result c = search needs
 
 returns : tie.Need-returns Inv-loop μ-loop
 unfolding check
 returns c = let e : c .before .loop .i ≡ 510 = omega arith in (ap (λ (x : ℕ). x % 65521) (c .before .loop .inv .sum ∙ ap (weighted _) e), omega arith)
+
+narrow-requires : tie.Need-narrow-requires Inv-loop μ-loop
+narrow-requires c κs = search needs
 
 pub check-spec : {M : Type 1} → statement M
 check-spec =
@@ -76,14 +58,14 @@ check-spec =
     Inv-loop
     μ-loop
     loop-holds
-    cast-sum
-    add-sum
-    shared-slice-read-narrow
+    (λ c. search needs)
+    (λ c. search needs)
+    (λ c. search needs)
     narrow-requires
     mul-sum
     add-sum-2
-    add-i
-    loop-less
+    (λ c. search needs)
+    (λ c. search needs)
     loop-again
-    cast-result
+    (λ c. search needs)
     returns)

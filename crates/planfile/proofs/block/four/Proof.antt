@@ -6,24 +6,6 @@ use Rattle.plan.specs.Block.{byte}
 use Rattle.planfile.proofs.block.four.Statement.{statement}
 use Rattle.planfile.proofs.block.four.Tie as tie
 
-two-requires : tie.Need-two-requires
-two-requires c κs = search needs
-
-add-two : tie.Need-add-two
-add-two c = search needs
-
-two-requires-2 : tie.Need-two-requires-2
-two-requires-2 c κs = search needs
-
-mul-result : tie.Need-mul-result
-mul-result c = search needs
-
-add-result : tie.Need-add-result
-add-result c = search needs
-
-cast-result : tie.Need-cast-result
-cast-result c = search needs
-
 returns : tie.Need-returns
 returns c =
     let s = c .before .before .before .args .block .now in
@@ -32,7 +14,20 @@ returns c =
     let fourth : byte s (i + 2 + 1) ≡ byte s (i + 1 + 1 + 1) = ap (byte s) (omega arith) in
     omega (arith, c .before .two .ensures .0, c .two2 .ensures .0, third, fourth)
 
+two-requires : tie.Need-two-requires
+two-requires c κs = search needs
+
+two-requires-2 : tie.Need-two-requires-2
+two-requires-2 c κs = search needs
+
 pub four-spec : {M : Type 1} → statement M
 four-spec =
     tie.close
-    (tie.spec two-requires add-two two-requires-2 mul-result add-result cast-result returns)
+    (tie.spec
+    two-requires
+    (λ c. search needs)
+    two-requires-2
+    (λ c. search needs)
+    (λ c. search needs)
+    (λ c. search needs)
+    returns)

@@ -45,21 +45,6 @@ loop-holds c =
     let none : from - from ≡ 0 = omega arith in
     record { begun = omega arith; within = omega arith; small = omega arith; says = rw none }
 
-shared-slice-read-narrow : tie.Need-shared-slice-read-narrow Inv-loop μ-loop
-shared-slice-read-narrow c = search needs
-
-narrow-requires : tie.Need-narrow-requires Inv-loop μ-loop
-narrow-requires c κs = search needs
-
-add-sum : tie.Need-add-sum Inv-loop μ-loop
-add-sum c = search needs
-
-add-i : tie.Need-add-i Inv-loop μ-loop
-add-i c = search needs
-
-loop-less : tie.Need-loop-less Inv-loop μ-loop
-loop-less c = search needs
-
 loop-again : tie.Need-loop-again Inv-loop μ-loop
 loop-again c = more (c .before .before .before .loop .inv) (omega arith) (c .narrow .ensures .0) (c .narrow .ensures .1)
 
@@ -70,6 +55,9 @@ returns c =
     let e : c .before .loop .i ≡ c .before .before .before .args .to = omega (arith, v .within) in
     rw e at (v .says)
 
+narrow-requires : tie.Need-narrow-requires Inv-loop μ-loop
+narrow-requires c κs = search needs
+
 pub zeros-spec : {M : Type 1} → statement M
 zeros-spec =
     tie.close
@@ -77,10 +65,10 @@ zeros-spec =
     Inv-loop
     μ-loop
     loop-holds
-    shared-slice-read-narrow
+    (λ c. search needs)
     narrow-requires
-    add-sum
-    add-i
-    loop-less
+    (λ c. search needs)
+    (λ c. search needs)
+    (λ c. search needs)
     loop-again
     returns)

@@ -17,18 +17,6 @@ header c = same-header (c .read .ensures)
 counted : (c : tie.After-read) → c .read .result .devices ≡ countIn (c .before .before .before .args .file .now)
 counted c = ap (λ (h : Header). h .devices) (header c)
 
-sub-read : tie.Need-sub-read
-sub-read c = search needs
-
-part-read-start : tie.Need-part-read-start
-part-read-start c = search needs
-
-part-read-end : tie.Need-part-read-end
-part-read-end c = search needs
-
-read-requires : tie.Need-read-requires
-read-requires c κs = search needs
-
 column-requires : tie.Need-column-requires
 column-requires c κs = let e = counted (c) in (omega arith, omega arith, omega arith)
 
@@ -44,9 +32,6 @@ masks-requires-2 c κs = let e = counted (c .before .before .before) in (omega a
 permissions-requires : tie.Need-permissions-requires
 permissions-requires c κs = let e = counted (c .before .before .before .before) in (omega arith, omega arith, e)
 
-core-with-requires : tie.Need-core-with-requires
-core-with-requires c κs = search needs
-
 returns : tie.Need-returns
 returns c =
     let p = c .before in
@@ -55,13 +40,19 @@ returns c =
     core-of _ (header (r .before)) (r .column .ensures) (m .before .before .column2 .ensures) (m .before .masks .ensures) (m .masks2 .ensures) (p .permissions .ensures)
     (c .core-with .ensures)
 
+read-requires : tie.Need-read-requires
+read-requires c κs = search needs
+
+core-with-requires : tie.Need-core-with-requires
+core-with-requires c κs = search needs
+
 pub core-of-spec : {M : Type 1} → statement M
 core-of-spec =
     tie.close
     (tie.spec
-    sub-read
-    part-read-start
-    part-read-end
+    (λ c. search needs)
+    (λ c. search needs)
+    (λ c. search needs)
     read-requires
     column-requires
     column-requires-2

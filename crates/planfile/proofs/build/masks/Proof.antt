@@ -19,36 +19,15 @@ abbrev μ-loop : tie.MeasureT-loop
 loop-holds : tie.Need-loop-holds Inv-loop μ-loop
 loop-holds c = filled-none (omega arith)
 
-add-four : tie.Need-add-four Inv-loop μ-loop
-add-four c = search needs
-
-mul-four : tie.Need-mul-four Inv-loop μ-loop
-mul-four c = search needs
-
-add-four-2 : tie.Need-add-four-2 Inv-loop μ-loop
-add-four-2 c = search needs
-
-four-requires : tie.Need-four-requires Inv-loop μ-loop
-four-requires c κs = search needs
-
-mul-out : tie.Need-mul-out Inv-loop μ-loop
-mul-out c = search needs
-
-array-write-out : tie.Need-array-write-out Inv-loop μ-loop
-array-write-out c = search needs
-
-add-d : tie.Need-add-d Inv-loop μ-loop
-add-d c = search needs
-
-loop-less : tie.Need-loop-less Inv-loop μ-loop
-loop-less c = search needs
-
 loop-again : tie.Need-loop-again Inv-loop μ-loop
 loop-again c = let a = c .before .before .before .before .args in filled-more (c .before .before .loop .inv) (c .before .loop-test .taken) (c .four .ensures ∙ sym (number-in (a .file .now) (1 + c .before .before .loop .d) (a .i) 4 (omega arith)))
 
 returns : tie.Need-returns Inv-loop μ-loop
 unfolding column
 returns c = filled-all (c .before .loop .inv) (c .loop-test .left)
+
+four-requires : tie.Need-four-requires Inv-loop μ-loop
+four-requires c κs = search needs
 
 pub masks-spec : {M : Type 1} → statement M
 masks-spec =
@@ -57,13 +36,13 @@ masks-spec =
     Inv-loop
     μ-loop
     loop-holds
-    add-four
-    mul-four
-    add-four-2
+    (λ c. search needs)
+    (λ c. search needs)
+    (λ c. search needs)
     four-requires
-    mul-out
-    array-write-out
-    add-d
-    loop-less
+    (λ c. search needs)
+    (λ c. search needs)
+    (λ c. search needs)
+    (λ c. search needs)
     loop-again
     returns)

@@ -16,26 +16,14 @@ abbrev μ-loop : tie.MeasureT-loop
 loop-holds : tie.Need-loop-holds Inv-loop μ-loop
 loop-holds c = filled-none (omega arith)
 
-peer-requires : tie.Need-peer-requires Inv-loop μ-loop
-peer-requires c κs = search needs
-
-mul-out : tie.Need-mul-out Inv-loop μ-loop
-mul-out c = search needs
-
-array-write-out : tie.Need-array-write-out Inv-loop μ-loop
-array-write-out c = search needs
-
-add-p : tie.Need-add-p Inv-loop μ-loop
-add-p c = search needs
-
-loop-less : tie.Need-loop-less Inv-loop μ-loop
-loop-less c = search needs
-
 loop-again : tie.Need-loop-again Inv-loop μ-loop
 loop-again c = filled-more (c .before .before .loop .inv) (c .before .loop-test .taken) (c .peer .ensures)
 
 returns : tie.Need-returns Inv-loop μ-loop
 returns c = filled-whole (c .before .loop .inv) (c .loop-test .left)
+
+peer-requires : tie.Need-peer-requires Inv-loop μ-loop
+peer-requires c κs = search needs
 
 pub peer-row-spec : {M : Type 1} → statement M
 peer-row-spec =
@@ -45,9 +33,9 @@ peer-row-spec =
     μ-loop
     loop-holds
     peer-requires
-    mul-out
-    array-write-out
-    add-p
-    loop-less
+    (λ c. search needs)
+    (λ c. search needs)
+    (λ c. search needs)
+    (λ c. search needs)
     loop-again
     returns)

@@ -18,12 +18,6 @@ Inv-loop file n out₀ d₀ out d = Filled 32 n (replicate 8 nobody) (λ e. tabl
 abbrev μ-loop : tie.MeasureT-loop
 μ-loop file n out₀ d₀ out d = n - d
 
-shared-slice-read-wide : tie.Need-shared-slice-read-wide Inv-loop μ-loop
-shared-slice-read-wide c = search needs
-
-wide-requires : tie.Need-wide-requires Inv-loop μ-loop
-wide-requires c κs = search needs
-
 -- byte 1 is the number of devices
 counted : (c : tie.After-wide Inv-loop μ-loop) → c .wide .result ≡ countIn (c .before .before .before .args .file .now)
 counted c = c .wide .ensures .0 ∙ sym (count-in (c .before .before .before .args .file .now))
@@ -34,23 +28,14 @@ loop-holds c = let e = counted (c) in filled-none (omega arith)
 peer-row-requires : tie.Need-peer-row-requires Inv-loop μ-loop
 peer-row-requires c κs = let e = counted (c .before .before) in omega arith
 
-mul-out : tie.Need-mul-out Inv-loop μ-loop
-mul-out c = search needs
-
-array-set-from-out : tie.Need-array-set-from-out Inv-loop μ-loop
-array-set-from-out c = search needs
-
-add-d : tie.Need-add-d Inv-loop μ-loop
-add-d c = search needs
-
-loop-less : tie.Need-loop-less Inv-loop μ-loop
-loop-less c = search needs
-
 loop-again : tie.Need-loop-again Inv-loop μ-loop
 loop-again c = filled-more (c .before .before .loop .inv) (c .before .loop-test .taken) (c .peer-row .ensures)
 
 returns : tie.Need-returns Inv-loop μ-loop
 returns c = filled-all (c .before .loop .inv) (c .loop-test .left) ∙ peers-of _ (counted (c .before .before))
+
+wide-requires : tie.Need-wide-requires Inv-loop μ-loop
+wide-requires c κs = search needs
 
 pub peers-of-spec : {M : Type 1} → statement M
 peers-of-spec =
@@ -58,13 +43,13 @@ peers-of-spec =
     (tie.spec
     Inv-loop
     μ-loop
-    shared-slice-read-wide
+    (λ c. search needs)
     wide-requires
     loop-holds
     peer-row-requires
-    mul-out
-    array-set-from-out
-    add-d
-    loop-less
+    (λ c. search needs)
+    (λ c. search needs)
+    (λ c. search needs)
+    (λ c. search needs)
     loop-again
     returns)

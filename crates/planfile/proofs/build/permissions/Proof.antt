@@ -16,41 +16,8 @@ Inv-loop file n out₀ q₀ q-end out q = Filled 256 (8 * n) 0 (λ k. entry (dev
 abbrev μ-loop : tie.MeasureT-loop
 μ-loop file n out₀ q₀ q-end out q = q-end - q
 
-mul-q-end : tie.Need-mul-q-end Inv-loop μ-loop
-mul-q-end c = search needs
-
 loop-holds : tie.Need-loop-holds Inv-loop μ-loop
 loop-holds c = filled-none (omega arith)
-
-add-out : tie.Need-add-out Inv-loop μ-loop
-add-out c = search needs
-
-mul-out : tie.Need-mul-out Inv-loop μ-loop
-mul-out c = search needs
-
-add-out-2 : tie.Need-add-out-2 Inv-loop μ-loop
-add-out-2 c = search needs
-
-mul-out-2 : tie.Need-mul-out-2 Inv-loop μ-loop
-mul-out-2 c = search needs
-
-add-out-3 : tie.Need-add-out-3 Inv-loop μ-loop
-add-out-3 c = search needs
-
-add-out-4 : tie.Need-add-out-4 Inv-loop μ-loop
-add-out-4 c = search needs
-
-shared-slice-read-out : tie.Need-shared-slice-read-out Inv-loop μ-loop
-shared-slice-read-out c = search needs
-
-array-write-out : tie.Need-array-write-out Inv-loop μ-loop
-array-write-out c = search needs
-
-add-q : tie.Need-add-q Inv-loop μ-loop
-add-q c = search needs
-
-loop-less : tie.Need-loop-less Inv-loop μ-loop
-loop-less c = search needs
 
 loop-again : tie.Need-loop-again Inv-loop μ-loop
 loop-again c = let q = c .before .before .loop .q in filled-more (c .before .before .loop .inv) (c .before .loop-test .taken) (sym (entry-in (c .before .before .before .args .file .now) (1 + q / 8) (q % 8) 2 (omega arith) (omega arith)))
@@ -64,17 +31,17 @@ permissions-spec =
     (tie.spec
     Inv-loop
     μ-loop
-    mul-q-end
+    (λ c. search needs)
     loop-holds
-    add-out
-    mul-out
-    add-out-2
-    mul-out-2
-    add-out-3
-    add-out-4
-    shared-slice-read-out
-    array-write-out
-    add-q
-    loop-less
+    (λ c. search needs)
+    (λ c. search needs)
+    (λ c. search needs)
+    (λ c. search needs)
+    (λ c. search needs)
+    (λ c. search needs)
+    (λ c. search needs)
+    (λ c. search needs)
+    (λ c. search needs)
+    (λ c. search needs)
     loop-again
     returns)

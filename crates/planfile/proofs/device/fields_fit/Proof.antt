@@ -4,21 +4,25 @@ use Rattle.areas.proofs.Turns.{failed, passed}
 use Rattle.planfile.proofs.device.fields_fit.Statement.{statement}
 use Rattle.planfile.proofs.device.fields_fit.Tie as tie
 
-shared-slice-read-ports-fit : tie.Need-shared-slice-read-ports-fit
-shared-slice-read-ports-fit c = search needs
-
-shared-slice-read-ports-fit-2 : tie.Need-shared-slice-read-ports-fit-2
-shared-slice-read-ports-fit-2 c = search needs
-
-ports-fit-requires : tie.Need-ports-fit-requires
-ports-fit-requires c κs = search needs
-
 returns : tie.Need-returns
 unfolding deviceFits
 returns c = simp (failed (c .before .ports-fit .ensures) (c .if1 .taken))
 
-shared-slice-read-masks-fit : tie.Need-shared-slice-read-masks-fit
-shared-slice-read-masks-fit c = search needs
+returns-2 : tie.Need-returns-2
+unfolding deviceFits
+returns-2 c =
+    let ports = passed (c .before .before .before .before .before .before .ports-fit .ensures) (c .before .before .before .before .before .if1 .left) in
+    simp (ports, ← c .before .before .before .four .ensures, ← c .before .before .four2 .ensures, failed (c .before .masks-fit .ensures) (c .if2 .taken))
+
+returns-3 : tie.Need-returns-3
+unfolding deviceFits
+returns-3 c =
+    let ports = passed (c .before .before .before .before .before .before .before .ports-fit .ensures) (c .before .before .before .before .before .before .if1 .left) in
+    let masks = passed (c .before .before .masks-fit .ensures) (c .before .if2 .left) in
+    simp (ports, ← c .before .before .before .before .four .ensures, ← c .before .before .before .four2 .ensures, masks) (c .entries-fit .ensures)
+
+ports-fit-requires : tie.Need-ports-fit-requires
+ports-fit-requires c κs = search needs
 
 four-requires : tie.Need-four-requires
 four-requires c κs = search needs
@@ -29,31 +33,18 @@ four-requires-2 c κs = search needs
 masks-fit-requires : tie.Need-masks-fit-requires
 masks-fit-requires c κs = search needs
 
-returns-2 : tie.Need-returns-2
-unfolding deviceFits
-returns-2 c =
-    let ports = passed (c .before .before .before .before .before .before .ports-fit .ensures) (c .before .before .before .before .before .if1 .left) in
-    simp (ports, ← c .before .before .before .four .ensures, ← c .before .before .four2 .ensures, failed (c .before .masks-fit .ensures) (c .if2 .taken))
-
 entries-fit-requires : tie.Need-entries-fit-requires
 entries-fit-requires c κs = search needs
-
-returns-3 : tie.Need-returns-3
-unfolding deviceFits
-returns-3 c =
-    let ports = passed (c .before .before .before .before .before .before .before .ports-fit .ensures) (c .before .before .before .before .before .before .if1 .left) in
-    let masks = passed (c .before .before .masks-fit .ensures) (c .before .if2 .left) in
-    simp (ports, ← c .before .before .before .before .four .ensures, ← c .before .before .before .four2 .ensures, masks) (c .entries-fit .ensures)
 
 pub fields-fit-spec : {M : Type 1} → statement M
 fields-fit-spec =
     tie.close
     (tie.spec
-    shared-slice-read-ports-fit
-    shared-slice-read-ports-fit-2
+    (λ c. search needs)
+    (λ c. search needs)
     ports-fit-requires
     returns
-    shared-slice-read-masks-fit
+    (λ c. search needs)
     four-requires
     four-requires-2
     masks-fit-requires

@@ -6,11 +6,8 @@ use Rattle.planfile.proofs.device.peer_device.Tie as tie
 returns : tie.Need-returns
 returns c = simp (eq-eqb _ _ (c .if1 .taken))
 
-cast-result : tie.Need-cast-result
-cast-result c = search needs
-
 returns-2 : tie.Need-returns-2
 returns-2 c = simp (ne-eqb _ _ (c .if1 .left))
 
 pub peer-device-spec : {M : Type 1} → statement M
-peer-device-spec = tie.close (tie.spec returns cast-result returns-2)
+peer-device-spec = tie.close (tie.spec returns (λ c. search needs) returns-2)

@@ -3,26 +3,17 @@ use Rattle.planfile.proofs.WrittenBlocks.{device-made}
 use Rattle.planfile.proofs.device.put.Statement.{statement}
 use Rattle.planfile.proofs.device.put.Tie as tie
 
+returns : tie.Need-returns
+returns c =
+    let k = c .before .before in
+    let e = k .before .before .before .before in
+    let n = e .before .before .before .before .before .before in
+    let z = n .before .before .before .before .before .before .before .before in
+    let s = z .before .before .before in
+    device-made (s .args .t1) (s .args .peers .now) (s .args .d) (z .clear .ensures) (n .put-own .ensures) (e .put-entries .ensures) (k .seal .ensures)
+
 clear-requires : tie.Need-clear-requires
 clear-requires c κs = search needs
-
-element-copy-out-put-own : tie.Need-element-copy-out-put-own
-element-copy-out-put-own c = search needs
-
-element-copy-out-put-own-2 : tie.Need-element-copy-out-put-own-2
-element-copy-out-put-own-2 c = search needs
-
-mul-put-own : tie.Need-mul-put-own
-mul-put-own c = search needs
-
-element-copy-out-put-own-3 : tie.Need-element-copy-out-put-own-3
-element-copy-out-put-own-3 c = search needs
-
-mul-put-own-2 : tie.Need-mul-put-own-2
-mul-put-own-2 c = search needs
-
-element-copy-out-put-own-4 : tie.Need-element-copy-out-put-own-4
-element-copy-out-put-own-4 c = search needs
 
 put-own-requires : tie.Need-put-own-requires
 put-own-requires c κs = search needs
@@ -33,31 +24,19 @@ put-entries-requires c κs = search needs
 seal-requires : tie.Need-seal-requires
 seal-requires c κs = search needs
 
-same-length : tie.Need-same-length
-same-length c = search needs
-
-returns : tie.Need-returns
-returns c =
-    let k = c .before .before in
-    let e = k .before .before .before .before in
-    let n = e .before .before .before .before .before .before in
-    let z = n .before .before .before .before .before .before .before .before in
-    let s = z .before .before .before in
-    device-made (s .args .t1) (s .args .peers .now) (s .args .d) (z .clear .ensures) (n .put-own .ensures) (e .put-entries .ensures) (k .seal .ensures)
-
 pub put-spec : {M : Type 1} → statement M
 put-spec =
     tie.close
     (tie.spec
     clear-requires
-    element-copy-out-put-own
-    element-copy-out-put-own-2
-    mul-put-own
-    element-copy-out-put-own-3
-    mul-put-own-2
-    element-copy-out-put-own-4
+    (λ c. search needs)
+    (λ c. search needs)
+    (λ c. search needs)
+    (λ c. search needs)
+    (λ c. search needs)
+    (λ c. search needs)
     put-own-requires
     put-entries-requires
     seal-requires
-    same-length
+    (λ c. search needs)
     returns)

@@ -45,44 +45,14 @@ abbrev μ-loop : tie.MeasureT-loop
 loop-holds : tie.Need-loop-holds Inv-loop μ-loop
 loop-holds c = none
 
-mul-put-entry : tie.Need-mul-put-entry Inv-loop μ-loop
-mul-put-entry c = search needs
-
-mul-put-entry-2 : tie.Need-mul-put-entry-2 Inv-loop μ-loop
-mul-put-entry-2 c = search needs
-
-index-1-put-entry : tie.Need-index-1-put-entry Inv-loop μ-loop
-index-1-put-entry c = search needs
-
-index-2-put-entry : tie.Need-index-2-put-entry Inv-loop μ-loop
-index-2-put-entry c = search needs
-
-mul-put-entry-3 : tie.Need-mul-put-entry-3 Inv-loop μ-loop
-mul-put-entry-3 c = search needs
-
-add-put-entry : tie.Need-add-put-entry Inv-loop μ-loop
-add-put-entry c = search needs
-
-element-copy-out-put-entry : tie.Need-element-copy-out-put-entry Inv-loop μ-loop
-element-copy-out-put-entry c = search needs
-
-put-entry-requires : tie.Need-put-entry-requires Inv-loop μ-loop
-put-entry-requires c κs = search needs
-
-add-p : tie.Need-add-p Inv-loop μ-loop
-add-p c = search needs
-
-loop-less : tie.Need-loop-less Inv-loop μ-loop
-loop-less c = search needs
-
 loop-again : tie.Need-loop-again Inv-loop μ-loop
 loop-again c = turn (c .before .before .before .before .before .before .before .loop .inv) (omega arith) (c .before .before .put-entry .ensures)
 
-same-length : tie.Need-same-length Inv-loop μ-loop
-same-length c = search needs
-
 returns : tie.Need-returns Inv-loop μ-loop
 returns c = done (c .before .loop .inv) (omega arith)
+
+put-entry-requires : tie.Need-put-entry-requires Inv-loop μ-loop
+put-entry-requires c κs = search needs
 
 pub put-entries-spec : {M : Type 1} → statement M
 put-entries-spec =
@@ -91,16 +61,16 @@ put-entries-spec =
     Inv-loop
     μ-loop
     loop-holds
-    mul-put-entry
-    mul-put-entry-2
-    index-1-put-entry
-    index-2-put-entry
-    mul-put-entry-3
-    add-put-entry
-    element-copy-out-put-entry
+    (λ c. search needs)
+    (λ c. search needs)
+    (λ c. search needs)
+    (λ c. search needs)
+    (λ c. search needs)
+    (λ c. search needs)
+    (λ c. search needs)
     put-entry-requires
-    add-p
-    loop-less
+    (λ c. search needs)
+    (λ c. search needs)
     loop-again
-    same-length
+    (λ c. search needs)
     returns)

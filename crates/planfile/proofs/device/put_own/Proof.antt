@@ -2,11 +2,11 @@ use borrow.Author.Needs.{needs}
 use Rattle.planfile.proofs.device.put_own.Statement.{statement}
 use Rattle.planfile.proofs.device.put_own.Tie as tie
 
+returns : tie.Need-returns
+returns c = cc
+
 put-requires : tie.Need-put-requires
 put-requires c κs = search needs
-
-cast-put : tie.Need-cast-put
-cast-put c = search needs
 
 put-requires-2 : tie.Need-put-requires-2
 put-requires-2 c κs = search needs
@@ -29,18 +29,12 @@ put-requires-5 c κs = search needs
 put-requires-6 : tie.Need-put-requires-6
 put-requires-6 c κs = search needs
 
-same-length : tie.Need-same-length
-same-length c = search needs
-
-returns : tie.Need-returns
-returns c = cc
-
 pub put-own-spec : {M : Type 1} → statement M
 put-own-spec =
     tie.close
     (tie.spec
     put-requires
-    cast-put
+    (λ c. search needs)
     put-requires-2
     narrow-requires
     put-requires-3
@@ -48,5 +42,5 @@ put-own-spec =
     put-requires-4
     put-requires-5
     put-requires-6
-    same-length
+    (λ c. search needs)
     returns)

@@ -23,39 +23,21 @@ right-number c = eq-eqb _ _ (sym (c .before .wide .ensures .0) ∙ c .if3 .left)
 right-fields : (c : tie.Else4) → deviceFits (c .before .before .before .before .before .before .before .before .before .before .args .n) (c .before .before .before .before .before .before .before .before .before .before .args .block .now) ≡ true
 right-fields c = passed (c .before .fields-fit .ensures) (c .if4 .left)
 
-checked-requires : tie.Need-checked-requires
-checked-requires c κs = search needs
-
 returns : tie.Need-returns
 unfolding first deviceTests
 returns c = simp (failed (c .before .checked .ensures) (c .if1 .taken))
-
-shared-slice-read-if2 : tie.Need-shared-slice-read-if2
-shared-slice-read-if2 c = search needs
 
 returns-2 : tie.Need-returns-2
 unfolding first deviceTests
 returns-2 c = simp (right-check (c .before .before), ne-eqb _ _ (c .if2 .taken))
 
-shared-slice-read-wide : tie.Need-shared-slice-read-wide
-shared-slice-read-wide c = search needs
-
-wide-requires : tie.Need-wide-requires
-wide-requires c κs = search needs
-
 returns-3 : tie.Need-returns-3
 unfolding first deviceTests
 returns-3 c = simp (right-check (c .before .before .before .before .before), right-kind (c .before .before .before), ← c .before .wide .ensures .0, ne-eqb _ _ (c .if3 .taken))
 
-fields-fit-requires : tie.Need-fields-fit-requires
-fields-fit-requires c κs = search needs
-
 returns-4 : tie.Need-returns-4
 unfolding first deviceTests
 returns-4 c = simp (right-check (c .before .before .before .before .before .before .before), right-kind (c .before .before .before .before .before), right-number (c .before .before), failed (c .before .fields-fit .ensures) (c .if4 .taken))
-
-rest-zero-requires : tie.Need-rest-zero-requires
-rest-zero-requires c κs = search needs
 
 returns-5 : tie.Need-returns-5
 unfolding first deviceTests
@@ -65,15 +47,27 @@ returns-6 : tie.Need-returns-6
 unfolding first deviceTests
 returns-6 c = simp (right-check (c .before .before .before .before .before .before .before .before .before), right-kind (c .before .before .before .before .before .before .before), right-number (c .before .before .before .before), right-fields (c .before .before), passed (c .before .rest-zero .ensures) (c .if5 .left))
 
+checked-requires : tie.Need-checked-requires
+checked-requires c κs = search needs
+
+wide-requires : tie.Need-wide-requires
+wide-requires c κs = search needs
+
+fields-fit-requires : tie.Need-fields-fit-requires
+fields-fit-requires c κs = search needs
+
+rest-zero-requires : tie.Need-rest-zero-requires
+rest-zero-requires c κs = search needs
+
 pub refusal-spec : {M : Type 1} → statement M
 refusal-spec =
     tie.close
     (tie.spec
     checked-requires
     returns
-    shared-slice-read-if2
+    (λ c. search needs)
     returns-2
-    shared-slice-read-wide
+    (λ c. search needs)
     wide-requires
     returns-3
     fields-fit-requires

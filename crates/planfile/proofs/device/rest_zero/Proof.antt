@@ -7,12 +7,14 @@ use Rattle.planfile.proofs.Gaps.{gaps}
 use Rattle.planfile.proofs.device.rest_zero.Statement.{statement}
 use Rattle.planfile.proofs.device.rest_zero.Tie as tie
 
-zeros-requires : tie.Need-zeros-requires
-zeros-requires c κs = search needs
-
 returns : tie.Need-returns
 unfolding deviceFields joined
 returns c = c .zeros .ensures ∙ gaps _ deviceFields refl
 
+zeros-requires : tie.Need-zeros-requires
+zeros-requires c κs = search needs
+
 pub rest-zero-spec : {M : Type 1} → statement M
-rest-zero-spec = tie.close (tie.spec zeros-requires returns)
+rest-zero-spec = tie.close (tie.spec
+    zeros-requires
+    returns)

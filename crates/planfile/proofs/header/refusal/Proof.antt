@@ -20,29 +20,17 @@ right-kind c = eq-eqb _ _ (c .if2 .left)
 right-fields : (c : tie.Else3) → headerFits (headerIn (c .before .before .before .before .before .before .before .args .block .now)) ≡ true
 right-fields c = passed (c .before .fields-fit .ensures) (c .if3 .left)
 
-checked-requires : tie.Need-checked-requires
-checked-requires c κs = search needs
-
 returns : tie.Need-returns
 unfolding first headerTests
 returns c = simp (failed (c .before .checked .ensures) (c .if1 .taken))
-
-shared-slice-read-if2 : tie.Need-shared-slice-read-if2
-shared-slice-read-if2 c = search needs
 
 returns-2 : tie.Need-returns-2
 unfolding first headerTests
 returns-2 c = simp (right-check (c .before .before), ne-eqb _ _ (c .if2 .taken))
 
-fields-fit-requires : tie.Need-fields-fit-requires
-fields-fit-requires c κs = search needs
-
 returns-3 : tie.Need-returns-3
 unfolding first headerTests
 returns-3 c = simp (right-check (c .before .before .before .before), right-kind (c .before .before), failed (c .before .fields-fit .ensures) (c .if3 .taken))
-
-rest-zero-requires : tie.Need-rest-zero-requires
-rest-zero-requires c κs = search needs
 
 returns-4 : tie.Need-returns-4
 unfolding first headerTests
@@ -52,13 +40,22 @@ returns-5 : tie.Need-returns-5
 unfolding first headerTests
 returns-5 c = simp (right-check (c .before .before .before .before .before .before), right-kind (c .before .before .before .before), right-fields (c .before .before), passed (c .before .rest-zero .ensures) (c .if4 .left))
 
+checked-requires : tie.Need-checked-requires
+checked-requires c κs = search needs
+
+fields-fit-requires : tie.Need-fields-fit-requires
+fields-fit-requires c κs = search needs
+
+rest-zero-requires : tie.Need-rest-zero-requires
+rest-zero-requires c κs = search needs
+
 pub refusal-spec : {M : Type 1} → statement M
 refusal-spec =
     tie.close
     (tie.spec
     checked-requires
     returns
-    shared-slice-read-if2
+    (λ c. search needs)
     returns-2
     fields-fit-requires
     returns-3

@@ -6,11 +6,13 @@ use Rattle.planfile.proofs.Gaps.{gaps}
 use Rattle.planfile.proofs.header.rest_zero.Statement.{statement}
 use Rattle.planfile.proofs.header.rest_zero.Tie as tie
 
-zeros-requires : tie.Need-zeros-requires
-zeros-requires c κs = search needs
-
 returns : tie.Need-returns
 returns c = c .zeros .ensures ∙ gaps _ headerFields refl
 
+zeros-requires : tie.Need-zeros-requires
+zeros-requires c κs = search needs
+
 pub rest-zero-spec : {M : Type 1} → statement M
-rest-zero-spec = tie.close (tie.spec zeros-requires returns)
+rest-zero-spec = tie.close (tie.spec
+    zeros-requires
+    returns)

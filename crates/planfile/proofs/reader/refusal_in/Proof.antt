@@ -26,49 +26,10 @@ returns : tie.Need-returns
 unfolding refusalIn
 returns c = simp (le-ltb _ _ (c .if1 .taken))
 
-mul-start : tie.Need-mul-start
-mul-start c = search needs
-
-add-end : tie.Need-add-end
-add-end c = search needs
-
-sub-refusal : tie.Need-sub-refusal
-sub-refusal c = search needs
-
-part-refusal-start : tie.Need-part-refusal-start
-part-refusal-start c = search needs
-
-part-refusal-end : tie.Need-part-refusal-end
-part-refusal-end c = search needs
-
-refusal-requires : tie.Need-refusal-requires
-refusal-requires c κs = search needs
-
 returns-2 : tie.Need-returns-2
 returns-2 c =
     let a = c .before .before .before .before .before .args in
     c .refusal .ensures ∙ rw part-block (of-header (a .file .now) (a .b) (c .before .before .if2 .taken) (omega arith))
-
-shared-slice-read-wide : tie.Need-shared-slice-read-wide
-shared-slice-read-wide c = search needs
-
-wide-requires : tie.Need-wide-requires
-wide-requires c κs = search needs
-
-sub-refusal-2 : tie.Need-sub-refusal-2
-sub-refusal-2 c = search needs
-
-sub-refusal-3 : tie.Need-sub-refusal-3
-sub-refusal-3 c = search needs
-
-part-refusal-start-2 : tie.Need-part-refusal-start-2
-part-refusal-start-2 c = search needs
-
-part-refusal-end-2 : tie.Need-part-refusal-end-2
-part-refusal-end-2 c = search needs
-
-refusal-requires-2 : tie.Need-refusal-requires-2
-refusal-requires-2 c κs = search needs
 
 returns-3 : tie.Need-returns-3
 returns-3 c =
@@ -76,23 +37,32 @@ returns-3 c =
     c .refusal2 .ensures
     ∙ rw (part-block, c .before .before .wide .ensures .0) (of-device (a .file .now) (a .b) (c .before .before .before .before .if2 .left) (omega arith))
 
+refusal-requires : tie.Need-refusal-requires
+refusal-requires c κs = search needs
+
+wide-requires : tie.Need-wide-requires
+wide-requires c κs = search needs
+
+refusal-requires-2 : tie.Need-refusal-requires-2
+refusal-requires-2 c κs = search needs
+
 pub refusal-in-spec : {M : Type 1} → statement M
 refusal-in-spec =
     tie.close
     (tie.spec
     returns
-    mul-start
-    add-end
-    sub-refusal
-    part-refusal-start
-    part-refusal-end
+    (λ c. search needs)
+    (λ c. search needs)
+    (λ c. search needs)
+    (λ c. search needs)
+    (λ c. search needs)
     refusal-requires
     returns-2
-    shared-slice-read-wide
+    (λ c. search needs)
     wide-requires
-    sub-refusal-2
-    sub-refusal-3
-    part-refusal-start-2
-    part-refusal-end-2
+    (λ c. search needs)
+    (λ c. search needs)
+    (λ c. search needs)
+    (λ c. search needs)
     refusal-requires-2
     returns-3)

@@ -21,29 +21,14 @@ header c = passes-header _ (fits (c .before .before)) (c .before .refusal-at .en
 number : (c : tie.After-wide) → c .wide .result ≡ countIn (c .before .before .before .before .before .before .before .args .file .now)
 number c = c .wide .ensures .0 ∙ sym (count-in (c .before .before .before .before .before .before .before .args .file .now))
 
-length-fits-requires : tie.Need-length-fits-requires
-length-fits-requires c κs = search needs
-
 returns : tie.Need-returns
 returns c = stops-long _ (failed (c .before .length-fits .ensures) (c .if1 .taken))
-
-refusal-at-requires : tie.Need-refusal-at-requires
-refusal-at-requires c κs = search needs
 
 returns-2 : tie.Need-returns-2
 returns-2 c = stops-header _ (fits (c .before .before)) (c .before .refusal-at .ensures) (c .if2 .taken)
 
 shared-slice-read-wide : tie.Need-shared-slice-read-wide
 shared-slice-read-wide c = let h = has-header (c .before .before .before .before .before .before .args .file .now) (fits (c .before .before .before)) in omega arith
-
-wide-requires : tie.Need-wide-requires
-wide-requires c κs = search needs
-
-add-if3 : tie.Need-add-if3
-add-if3 c = search needs
-
-mul-if3 : tie.Need-mul-if3
-mul-if3 c = search needs
 
 returns-3 : tie.Need-returns-3
 returns-3 c = let e = number (c .before) in stops-counted _ (fits (c .before .before .before .before .before)) (header (c .before .before .before)) (λ l. c .if3 .taken (omega arith))
@@ -59,6 +44,15 @@ returns-4 c =
     let e = number (c .before .before) in
     c .scan-devices .ensures ∙ devices-decide _ (fits (c .before .before .before .before .before .before)) (header (c .before .before .before .before)) (omega arith)
 
+length-fits-requires : tie.Need-length-fits-requires
+length-fits-requires c κs = search needs
+
+refusal-at-requires : tie.Need-refusal-at-requires
+refusal-at-requires c κs = search needs
+
+wide-requires : tie.Need-wide-requires
+wide-requires c κs = search needs
+
 pub scan-spec : {M : Type 1} → statement M
 scan-spec =
     tie.close
@@ -69,8 +63,8 @@ scan-spec =
     returns-2
     shared-slice-read-wide
     wide-requires
-    add-if3
-    mul-if3
+    (λ c. search needs)
+    (λ c. search needs)
     returns-3
     scan-devices-requires
     returns-4)

@@ -14,32 +14,17 @@ abbrev μ-loop : tie.MeasureT-loop
 loop-holds : tie.Need-loop-holds Inv-loop μ-loop
 loop-holds c = let p = c .before .pre in record { within = omega arith; counted = p .2; long = p .1; pass = λ e h. absurd (omega arith) }
 
-add-refusal-at : tie.Need-add-refusal-at Inv-loop μ-loop
-add-refusal-at c = search needs
-
-refusal-at-requires : tie.Need-refusal-at-requires Inv-loop μ-loop
-refusal-at-requires c κs = search needs
-
-add-t7 : tie.Need-add-t7 Inv-loop μ-loop
-add-t7 c = search needs
-
-cast-t8 : tie.Need-cast-t8 Inv-loop μ-loop
-cast-t8 c = search needs
-
 returns : tie.Need-returns Inv-loop μ-loop
 returns c = stops-device (c .before .before .before .loop .inv) (c .before .before .loop-test .taken) (c .before .refusal-at .ensures) (c .if1 .taken)
-
-add-d : tie.Need-add-d Inv-loop μ-loop
-add-d c = search needs
-
-loop-less : tie.Need-loop-less Inv-loop μ-loop
-loop-less c = search needs
 
 loop-again : tie.Need-loop-again Inv-loop μ-loop
 loop-again c = scanned-more (c .before .before .before .loop .inv) (c .before .before .loop-test .taken) (c .before .refusal-at .ensures) (c .if1 .left)
 
 returns-2 : tie.Need-returns-2 Inv-loop μ-loop
 returns-2 c = scanned-all (c .before .loop .inv) (c .loop-test .left)
+
+refusal-at-requires : tie.Need-refusal-at-requires Inv-loop μ-loop
+refusal-at-requires c κs = search needs
 
 pub scan-devices-spec : {M : Type 1} → statement M
 scan-devices-spec =
@@ -48,12 +33,12 @@ scan-devices-spec =
     Inv-loop
     μ-loop
     loop-holds
-    add-refusal-at
+    (λ c. search needs)
     refusal-at-requires
-    add-t7
-    cast-t8
+    (λ c. search needs)
+    (λ c. search needs)
     returns
-    add-d
-    loop-less
+    (λ c. search needs)
+    (λ c. search needs)
     loop-again
     returns-2)

@@ -10,9 +10,6 @@ use Rattle.planfile.proofs.WriterAnswers.{refused, misfit, done}
 use Rattle.planfile.proofs.writer.write.Statement.{statement}
 use Rattle.planfile.proofs.writer.write.Tie as tie
 
-is-held-requires : tie.Need-is-held-requires
-is-held-requires c κs = search needs
-
 returns : tie.Need-returns
 returns c = refused (c .before .is-held .ensures) (not-true _ (c .if1 .taken))
 
@@ -33,17 +30,11 @@ returns-2 c =
     let t = c .before .before .before in
     misfit (t .before .is-held .ensures) (not-false _ (t .if1 .left)) (c .if2 .taken)
 
-peers-of-requires : tie.Need-peers-of-requires
-peers-of-requires c κs = search needs
-
 put-file-requires : tie.Need-put-file-requires
 put-file-requires c κs =
     let t = c .before .before .before .before .before in
     let held = t .before .is-held .ensures .only (not-false _ (t .if1 .left)) in
     (held-devices _ held .1, omega arith)
-
-same-length : tie.Need-same-length
-same-length c = search needs
 
 returns-3 : tie.Need-returns-3
 returns-3 c =
@@ -53,6 +44,12 @@ returns-3 c =
     let plan = t .before .before .before .args .plan in
     done plan held (written-and-read plan held) (f .before .before .before .if2 .left)
     (f .put-file .ensures ∙ ap (λ (q : List (List ℕ)). fileOf (record { core = plan .core; peers = q })) (f .before .before .peers-of .ensures))
+
+is-held-requires : tie.Need-is-held-requires
+is-held-requires c κs = search needs
+
+peers-of-requires : tie.Need-peers-of-requires
+peers-of-requires c κs = search needs
 
 pub write-spec : {M : Type 1} → statement M
 write-spec =
@@ -65,5 +62,5 @@ write-spec =
     returns-2
     peers-of-requires
     put-file-requires
-    same-length
+    (λ c. search needs)
     returns-3)

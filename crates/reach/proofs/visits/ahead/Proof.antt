@@ -26,24 +26,15 @@ answered permissions peers s k q far e a b c d runs may joined takes = rw (← e
 is : {test answer b : Bool} → answer ≡ test → answer ≡ b → test ≡ b
 is e t = sym e ∙ t
 
-runs-requires : tie.Need-runs-requires
-runs-requires c κs = search needs
-
 returns : tie.Need-returns
 unfolding word
 returns c = answered _ _ _ _ _ _ refl false _ _ _ (is (c .before .runs .ensures) (not-true _ (c .if1 .taken))) refl refl refl
-
-sends-requires : tie.Need-sends-requires
-sends-requires c κs = search needs
 
 returns-2 : tie.Need-returns-2
 unfolding word
 returns-2 c =
     let e = c .before .before in
     answered _ _ _ _ _ _ refl true false _ _ (is (e .before .runs .ensures) (not-false _ (e .if1 .left))) (is (c .before .sends .ensures) (not-true _ (c .if2 .taken))) refl refl
-
-far-end-requires : tie.Need-far-end-requires
-far-end-requires c κs = search needs
 
 returns-3 : tie.Need-returns-3
 unfolding word
@@ -52,9 +43,6 @@ returns-3 c =
     let e = f .before .before in
     answered _ _ _ _ _ _ (c .before .far-end .ensures) true true false _
     (is (e .before .runs .ensures) (not-false _ (e .if1 .left))) (is (f .before .sends .ensures) (not-false _ (f .if2 .left))) (le-ltb _ _ (c .if3 .taken)) refl
-
-receives-requires : tie.Need-receives-requires
-receives-requires c κs = search needs
 
 returns-4 : tie.Need-returns-4
 unfolding word
@@ -75,6 +63,18 @@ returns-5 c =
     answered _ _ _ _ _ _ (g .before .far-end .ensures) true true true true
     (is (e .before .runs .ensures) (not-false _ (e .if1 .left))) (is (f .before .sends .ensures) (not-false _ (f .if2 .left))) (lt-ltb _ _ (g .if3 .left))
     (is (c .before .receives .ensures) (not-false _ (c .if4 .left)))
+
+runs-requires : tie.Need-runs-requires
+runs-requires c κs = search needs
+
+sends-requires : tie.Need-sends-requires
+sends-requires c κs = search needs
+
+far-end-requires : tie.Need-far-end-requires
+far-end-requires c κs = search needs
+
+receives-requires : tie.Need-receives-requires
+receives-requires c κs = search needs
 
 pub ahead-spec : {M : Type 1} → statement M
 ahead-spec =

@@ -4,23 +4,11 @@ use borrow.Author.Needs.{needs}
 use Rattle.report.proofs.lines.put_bad.Statement.{statement}
 use Rattle.report.proofs.lines.put_bad.Tie as tie
 
-slice-aggregate-put : tie.Need-slice-aggregate-put
-slice-aggregate-put c = search needs
-
-put-requires : tie.Need-put-requires
-put-requires c κs = search needs
-
-slice-aggregate-put-then : tie.Need-slice-aggregate-put-then
-slice-aggregate-put-then c = search needs
-
 put-then-requires : tie.Need-put-then-requires
 unfolding ascii
 put-then-requires c κs =
     let a = c .before .before .before .before .before .before .before .before in
     second-room (bad-parts (a .args .number) (a .args .block)) (c .before .before .before .before .put .ensures) (a .pre)
-
-slice-aggregate-put-then-2 : tie.Need-slice-aggregate-put-then-2
-slice-aggregate-put-then-2 c = search needs
 
 put-then-requires-2 : tie.Need-put-then-requires-2
 unfolding ascii
@@ -28,24 +16,24 @@ put-then-requires-2 c κs =
     let a = c .before .before .before .before .before .before .before .before .before .before .before .before .before in
     third-room (bad-parts (a .args .number) (a .args .block)) (c .before .before .before .before .before .before .before .before .before .put .ensures) (a .pre) (c .before .before .before .before .put-then .ensures)
 
-same-length : tie.Need-same-length
-same-length c = search needs
-
 returns : tie.Need-returns
 unfolding ascii
 returns c =
     let a = c .before .before .before .before .before .before .before .before .before .before .before .before .before .before .before .before in
     three (bad-parts (a .args .number) (a .args .block)) (c .before .before .before .before .before .before .before .before .before .before .before .before .put .ensures) (a .pre) (c .before .before .before .before .before .before .before .put-then .ensures) (c .before .before .put-then2 .ensures)
 
+put-requires : tie.Need-put-requires
+put-requires c κs = search needs
+
 pub put-bad-spec : {M : Type 1} → statement M
 put-bad-spec =
     tie.close
     (tie.spec
-    slice-aggregate-put
+    (λ c. search needs)
     put-requires
-    slice-aggregate-put-then
+    (λ c. search needs)
     put-then-requires
-    slice-aggregate-put-then-2
+    (λ c. search needs)
     put-then-requires-2
-    same-length
+    (λ c. search needs)
     returns)

@@ -4,17 +4,11 @@ use borrow.Author.Needs.{needs}
 use Rattle.report.proofs.lines.put_front.Statement.{statement}
 use Rattle.report.proofs.lines.put_front.Tie as tie
 
-slice-aggregate-put-then : tie.Need-slice-aggregate-put-then
-slice-aggregate-put-then c = search needs
-
 put-then-requires : tie.Need-put-then-requires
 unfolding ascii
 put-then-requires c κs =
     let a = c .before .before .before in
     first-room (front-parts (a .args .d) (a .args .k) (a .args .number) (a .args .n)) (a .args .text .now) (a .args .at) (a .pre)
-
-slice-aggregate-put-then-2 : tie.Need-slice-aggregate-put-then-2
-slice-aggregate-put-then-2 c = search needs
 
 put-then-requires-2 : tie.Need-put-then-requires-2
 unfolding ascii
@@ -28,9 +22,6 @@ put-field-requires c κs =
     let a = c .before .before .before .before .before .before .before .before .before .before .before .before in
     third-room (front-parts (a .args .d) (a .args .k) (a .args .number) (a .args .n)) (c .before .before .before .before .before .before .before .before .put-then .ensures) (a .pre) (c .before .before .before .put-then2 .ensures)
 
-same-length : tie.Need-same-length
-same-length c = search needs
-
 returns : tie.Need-returns
 unfolding ascii
 returns c =
@@ -41,10 +32,10 @@ pub put-front-spec : {M : Type 1} → statement M
 put-front-spec =
     tie.close
     (tie.spec
-    slice-aggregate-put-then
+    (λ c. search needs)
     put-then-requires
-    slice-aggregate-put-then-2
+    (λ c. search needs)
     put-then-requires-2
     put-field-requires
-    same-length
+    (λ c. search needs)
     returns)

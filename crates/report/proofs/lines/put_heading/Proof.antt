@@ -5,29 +5,11 @@ use Rattle.report.proofs.lines.put_heading.Statement.{statement}
 use Rattle.report.proofs.lines.put_heading.Tie as tie
 
 -- src/lines.rt:31:39
-slice-aggregate-put : tie.Need-slice-aggregate-put
-slice-aggregate-put c = search needs
-
 -- src/lines.rt:31:9
-put-requires : tie.Need-put-requires
-put-requires c κs = search needs
-
 -- src/lines.rt:32:9
-put-number-requires : tie.Need-put-number-requires
-put-number-requires c κs = search needs
-
 -- src/lines.rt:33:27
-slice-aggregate-put-2 : tie.Need-slice-aggregate-put-2
-slice-aggregate-put-2 c = search needs
-
 -- src/lines.rt:33:5
-put-requires-2 : tie.Need-put-requires-2
-put-requires-2 c κs = search needs
-
 -- src/lines.rt:27:1
-same-length : tie.Need-same-length
-same-length c = search needs
-
 -- src/lines.rt:27:1
 returns : tie.Need-returns
 unfolding ascii
@@ -35,14 +17,23 @@ returns c =
     let a = c .before .before .before .before .before .before .before .before .before .before .before .before .before .before .before in
     three (heading-parts (a .args .n)) (c .before .before .before .before .before .before .before .before .before .before .before .put .ensures) (a .pre) (c .before .before .before .before .before .before .before .put-number .ensures) (c .before .before .put2 .ensures)
 
+put-requires : tie.Need-put-requires
+put-requires c κs = search needs
+
+put-number-requires : tie.Need-put-number-requires
+put-number-requires c κs = search needs
+
+put-requires-2 : tie.Need-put-requires-2
+put-requires-2 c κs = search needs
+
 pub put-heading-spec : {M : Type 1} → statement M
 put-heading-spec =
     tie.close
     (tie.spec
-    slice-aggregate-put
+    (λ c. search needs)
     put-requires
     put-number-requires
-    slice-aggregate-put-2
+    (λ c. search needs)
     put-requires-2
-    same-length
+    (λ c. search needs)
     returns)

@@ -10,23 +10,11 @@ put-front-requires c κs =
     let a = c .before .before in
     first-room (line-parts (a .args .d) (a .args .k) (a .args .number) (a .args .n) (a .args .held)) (a .args .text .now) (a .args .at) (a .pre)
 
-slice-aggregate-put : tie.Need-slice-aggregate-put
-slice-aggregate-put c = search needs
-
-put-requires : tie.Need-put-requires
-put-requires c κs = search needs
-
-slice-aggregate-put-then : tie.Need-slice-aggregate-put-then
-slice-aggregate-put-then c = search needs
-
 put-then-requires : tie.Need-put-then-requires
 unfolding ascii
 put-then-requires c κs =
     let a = c .before .before .before .before .before .before .before .before .before .before .before .before in
     third-room (line-parts (a .args .d) (a .args .k) (a .args .number) (a .args .n) (a .args .held)) (c .before .before .before .before .before .before .before .before .before .put-front .ensures) (a .pre) (c .before .before .before .before .put .ensures)
-
-same-length : tie.Need-same-length
-same-length c = search needs
 
 returns : tie.Need-returns
 unfolding ascii
@@ -34,14 +22,17 @@ returns c =
     let a = c .before .before .before .before .before .before .before .before .before .before .before .before .before .before .before in
     three (line-parts (a .args .d) (a .args .k) (a .args .number) (a .args .n) (a .args .held)) (c .before .before .before .before .before .before .before .before .before .before .before .before .put-front .ensures) (a .pre) (c .before .before .before .before .before .before .before .put .ensures) (c .before .before .put-then .ensures)
 
+put-requires : tie.Need-put-requires
+put-requires c κs = search needs
+
 pub put-line-spec : {M : Type 1} → statement M
 put-line-spec =
     tie.close
     (tie.spec
     put-front-requires
-    slice-aggregate-put
+    (λ c. search needs)
     put-requires
-    slice-aggregate-put-then
+    (λ c. search needs)
     put-then-requires
-    same-length
+    (λ c. search needs)
     returns)

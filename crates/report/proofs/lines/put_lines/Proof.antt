@@ -36,18 +36,6 @@ mul-i-end c = omega (arith, held-devices _ (c .before .before .before .pre .0) .
 loop-holds : tie.Need-loop-holds Inv-loop μ-loop
 loop-holds c = (held-devices _ (c .before .before .before .pre .0) .1, omega arith, refl, λ plan e h f. lines-none)
 
-mul-get : tie.Need-mul-get Inv-loop μ-loop
-mul-get c = search needs
-
-element-copy-out-get : tie.Need-element-copy-out-get Inv-loop μ-loop
-element-copy-out-get c = search needs
-
-cast-get : tie.Need-cast-get Inv-loop μ-loop
-cast-get c = search needs
-
-get-requires : tie.Need-get-requires Inv-loop μ-loop
-get-requires c κs = search needs
-
 put-place-requires : tie.Need-put-place-requires Inv-loop μ-loop
 put-place-requires c κs =
     let s = c .before .before .before .before .before .before .before .before .before in
@@ -56,12 +44,6 @@ put-place-requires c κs =
     let room = lines-room (l .inv .3 _ refl (s .pre .0) (s .pre .1)) (s .pre .2) small in
     let short = line-short _ (s .pre .0) (l .i / 32) (l .i % 32) (omega arith) (omega arith) (s .pre .1 .each (l .i) small) in
     (small, s .pre .1 .size, omega (arith, room, short))
-
-add-i : tie.Need-add-i Inv-loop μ-loop
-add-i c = search needs
-
-loop-less : tie.Need-loop-less Inv-loop μ-loop
-loop-less c = search needs
 
 loop-again : tie.Need-loop-again Inv-loop μ-loop
 loop-again c =
@@ -85,13 +67,13 @@ loop-again c =
     ))
     (c .if1 .came)
 
-same-length : tie.Need-same-length Inv-loop μ-loop
-same-length c = search needs
-
 returns : tie.Need-returns Inv-loop μ-loop
 returns c =
     let s = c .before .before .before .before .before in
     lines-done (c .before .loop .inv .3 _ refl (s .pre .0) (s .pre .1)) (omega arith)
+
+get-requires : tie.Need-get-requires Inv-loop μ-loop
+get-requires c κs = search needs
 
 pub put-lines-spec : {M : Type 1} → statement M
 put-lines-spec =
@@ -101,13 +83,13 @@ put-lines-spec =
     μ-loop
     mul-i-end
     loop-holds
-    mul-get
-    element-copy-out-get
-    cast-get
+    (λ c. search needs)
+    (λ c. search needs)
+    (λ c. search needs)
     get-requires
     put-place-requires
-    add-i
-    loop-less
+    (λ c. search needs)
+    (λ c. search needs)
     loop-again
-    same-length
+    (λ c. search needs)
     returns)

@@ -8,9 +8,6 @@ use Rattle.state.specs.Start.{startOf}
 use Rattle.state.proofs.first.start.Statement.{statement}
 use Rattle.state.proofs.first.start.Tie as tie
 
-is-held-requires : tie.Need-is-held-requires
-is-held-requires c κs = search needs
-
 returns : tie.Need-returns
 returns c = outcome-refused (inl (denied (c .before .is-held .ensures) (c .if1 .taken), refl)) (λ z. omega arith)
 
@@ -19,21 +16,21 @@ returns-2 c =
     let held = granted (c .before .before .is-held .ensures) (c .before .if1 .left) in
     outcome-refused (inr (held, inl (c .if2 .taken, refl))) (λ z. omega arith)
 
-peers-of-requires : tie.Need-peers-of-requires
-peers-of-requires c κs = search needs
-
-write-first-requires : tie.Need-write-first-requires
-write-first-requires c κs = search needs
-
-same-length : tie.Need-same-length
-same-length c = search needs
-
 returns-3 : tie.Need-returns-3
 returns-3 c =
     let e = c .before .before .before .before .before .before in
     let held = granted (e .before .before .is-held .ensures) (e .before .if1 .left) in
     outcome-done (inr (held, inr (e .if2 .left, refl))) refl
     (c .before .before .write-first .ensures ∙ ap startOf (c .before .before .before .before .before .peers-of .ensures))
+
+is-held-requires : tie.Need-is-held-requires
+is-held-requires c κs = search needs
+
+peers-of-requires : tie.Need-peers-of-requires
+peers-of-requires c κs = search needs
+
+write-first-requires : tie.Need-write-first-requires
+write-first-requires c κs = search needs
 
 pub start-spec : {M : Type 1} → statement M
 start-spec =
@@ -44,5 +41,5 @@ start-spec =
     returns-2
     peers-of-requires
     write-first-requires
-    same-length
+    (λ c. search needs)
     returns-3)

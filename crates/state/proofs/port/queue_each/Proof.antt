@@ -34,24 +34,6 @@ abbrev μ-loop : tie.MeasureT-loop
 loop-holds : tie.Need-loop-holds Inv-loop μ-loop
 loop-holds c = (none, omega arith)
 
-mul-q : tie.Need-mul-q Inv-loop μ-loop
-mul-q c = search needs
-
-add-q : tie.Need-add-q Inv-loop μ-loop
-add-q c = search needs
-
-element-copy-out-queue : tie.Need-element-copy-out-queue Inv-loop μ-loop
-element-copy-out-queue c = search needs
-
-queue-requires : tie.Need-queue-requires Inv-loop μ-loop
-queue-requires c κs = search needs
-
-add-p : tie.Need-add-p Inv-loop μ-loop
-add-p c = search needs
-
-loop-less : tie.Need-loop-less Inv-loop μ-loop
-loop-less c = search needs
-
 loop-again : tie.Need-loop-again Inv-loop μ-loop
 loop-again c =
     let a = c .before .before .before .before .args in
@@ -59,12 +41,12 @@ loop-again c =
     again (a .permissions .now) (a .kind) (a .k) (a .d) (a .but) (l .p) (a .state .now) (l .state) (c .if1 .state) (l .inv) (c .before .loop-test .taken)
     (⊎-elim (λ w. inl (w .0 .taken, w .6 ∙ w .3 .ensures)) (λ w. inr (w .0 .left, w .1)) (c .if1 .came))
 
-same-length : tie.Need-same-length Inv-loop μ-loop
-same-length c = search needs
-
 returns : tie.Need-returns Inv-loop μ-loop
 unfolding queueAllAt
 returns c = done (c .before .loop .inv .0) (c .loop-test .left)
+
+queue-requires : tie.Need-queue-requires Inv-loop μ-loop
+queue-requires c κs = search needs
 
 pub queue-each-spec : {M : Type 1} → statement M
 queue-each-spec =
@@ -73,12 +55,12 @@ queue-each-spec =
     Inv-loop
     μ-loop
     loop-holds
-    mul-q
-    add-q
-    element-copy-out-queue
+    (λ c. search needs)
+    (λ c. search needs)
+    (λ c. search needs)
     queue-requires
-    add-p
-    loop-less
+    (λ c. search needs)
+    (λ c. search needs)
     loop-again
-    same-length
+    (λ c. search needs)
     returns)

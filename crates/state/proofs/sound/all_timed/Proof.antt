@@ -24,15 +24,9 @@ returns : tie.Need-returns Inv-loop μ-loop
 unfolding allTimed
 returns c = sym (every-all _ _ (λ i l. c .before .before .loop .inv .1 i (omega arith)))
 
-device-timed-requires : tie.Need-device-timed-requires Inv-loop μ-loop
-device-timed-requires c κs = search needs
-
 returns-2 : tie.Need-returns-2 Inv-loop μ-loop
 unfolding allTimed
 returns-2 c = sym (every-not _ _ _ (omega arith) (sym (c .before .device-timed .ensures) ∙ not-true _ (c .if2 .taken)))
-
-add-d : tie.Need-add-d Inv-loop μ-loop
-add-d c = search needs
 
 loop-less : tie.Need-loop-less Inv-loop μ-loop
 loop-less c = omega arith
@@ -44,6 +38,9 @@ returns-3 : tie.Need-returns-3 Inv-loop μ-loop
 unfolding allTimed
 returns-3 c = sym (every-all _ _ (λ i l. c .before .loop .inv .1 i (omega arith)))
 
+device-timed-requires : tie.Need-device-timed-requires Inv-loop μ-loop
+device-timed-requires c κs = search needs
+
 pub all-timed-spec : {M : Type 1} → statement M
 all-timed-spec =
     tie.close
@@ -54,7 +51,7 @@ all-timed-spec =
     returns
     device-timed-requires
     returns-2
-    add-d
+    (λ c. search needs)
     loop-less
     loop-again
     returns-3)

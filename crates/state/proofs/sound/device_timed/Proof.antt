@@ -24,35 +24,8 @@ Inv-loop state d register k₀ k = (k ≤ 32) × ((i : ℕ) → i < k → timerS
 abbrev μ-loop : tie.MeasureT-loop
 μ-loop state d register k₀ k = 32 - k
 
-mul-inside : tie.Need-mul-inside Inv-loop μ-loop
-mul-inside c = search needs
-
-inside-requires : tie.Need-inside-requires Inv-loop μ-loop
-inside-requires c κs = search needs
-
 loop-holds : tie.Need-loop-holds Inv-loop μ-loop
 loop-holds c = (omega arith, below-none _)
-
-cast-get : tie.Need-cast-get Inv-loop μ-loop
-cast-get c = search needs
-
-get-requires : tie.Need-get-requires Inv-loop μ-loop
-get-requires c κs = search needs
-
-mul-inside-2 : tie.Need-mul-inside-2 Inv-loop μ-loop
-mul-inside-2 c = search needs
-
-add-inside : tie.Need-add-inside Inv-loop μ-loop
-add-inside c = search needs
-
-add-inside-2 : tie.Need-add-inside-2 Inv-loop μ-loop
-add-inside-2 c = search needs
-
-inside-requires-2 : tie.Need-inside-requires-2 Inv-loop μ-loop
-inside-requires-2 c κs = search needs
-
-timer-sound-requires : tie.Need-timer-sound-requires Inv-loop μ-loop
-timer-sound-requires c κs = search needs
 
 returns : tie.Need-returns Inv-loop μ-loop
 unfolding deviceTimed
@@ -60,9 +33,6 @@ returns c =
     let w = c .before .before in
     let e = tested _ _ _ (w .before .before .before .before .inside .ensures) (w .before .get .ensures) (w .inside2 .ensures) (c .before .timer-sound .ensures) in
     sym (every-not 32 _ _ (omega arith) (e ∙ not-true _ (c .if1 .taken)))
-
-add-k : tie.Need-add-k Inv-loop μ-loop
-add-k c = search needs
 
 loop-less : tie.Need-loop-less Inv-loop μ-loop
 loop-less c = omega arith
@@ -77,24 +47,36 @@ returns-2 : tie.Need-returns-2 Inv-loop μ-loop
 unfolding deviceTimed
 returns-2 c = sym (every-all 32 _ (λ i l. c .before .loop .inv .1 i (omega arith)))
 
+inside-requires : tie.Need-inside-requires Inv-loop μ-loop
+inside-requires c κs = search needs
+
+get-requires : tie.Need-get-requires Inv-loop μ-loop
+get-requires c κs = search needs
+
+inside-requires-2 : tie.Need-inside-requires-2 Inv-loop μ-loop
+inside-requires-2 c κs = search needs
+
+timer-sound-requires : tie.Need-timer-sound-requires Inv-loop μ-loop
+timer-sound-requires c κs = search needs
+
 pub device-timed-spec : {M : Type 1} → statement M
 device-timed-spec =
     tie.close
     (tie.spec
     Inv-loop
     μ-loop
-    mul-inside
+    (λ c. search needs)
     inside-requires
     loop-holds
-    cast-get
+    (λ c. search needs)
     get-requires
-    mul-inside-2
-    add-inside
-    add-inside-2
+    (λ c. search needs)
+    (λ c. search needs)
+    (λ c. search needs)
     inside-requires-2
     timer-sound-requires
     returns
-    add-k
+    (λ c. search needs)
     loop-less
     loop-again
     returns-2)

@@ -17,23 +17,22 @@ returns-3 : tie.Need-returns-3
 unfolding flagSound
 returns-3 c = simp (le-leb _ _ (c .before .before .if1 .left), ne-eqb _ _ (c .before .if2 .left), lt-ltb _ _ (c .if3 .taken))
 
-mul-inside : tie.Need-mul-inside
-mul-inside c = search needs
-
-add-inside : tie.Need-add-inside
-add-inside c = search needs
-
-add-inside-2 : tie.Need-add-inside-2
-add-inside-2 c = search needs
-
-inside-requires : tie.Need-inside-requires
-inside-requires c κs = search needs
-
 returns-4 : tie.Need-returns-4
 unfolding flagSound
 returns-4 c = simp (le-leb _ _ (c .before .before .before .if1 .left), ne-eqb _ _ (c .before .before .if2 .left), le-ltb _ _ (c .before .if3 .left), ← c .inside .ensures)
 
+inside-requires : tie.Need-inside-requires
+inside-requires c κs = search needs
+
 pub flag-sound-spec : {M : Type 1} → statement M
 flag-sound-spec =
     tie.close
-    (tie.spec returns returns-2 returns-3 mul-inside add-inside add-inside-2 inside-requires returns-4)
+    (tie.spec
+    returns
+    returns-2
+    returns-3
+    (λ c. search needs)
+    (λ c. search needs)
+    (λ c. search needs)
+    inside-requires
+    returns-4)

@@ -5,15 +5,9 @@ use borrow.Author.Needs.{needs}
 use Rattle.state.proofs.sound.inside.Statement.{statement}
 use Rattle.state.proofs.sound.inside.Tie as tie
 
-mul-result : tie.Need-mul-result
-mul-result c = search needs
-
-shared-slice-read-result : tie.Need-shared-slice-read-result
-shared-slice-read-result c = search needs
-
 returns : tie.Need-returns
 unfolding word
 returns c = refl
 
 pub inside-spec : {M : Type 1} → statement M
-inside-spec = tie.close (tie.spec mul-result shared-slice-read-result returns)
+inside-spec = tie.close (tie.spec (λ c. search needs) (λ c. search needs) returns)

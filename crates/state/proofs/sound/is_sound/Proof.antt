@@ -43,17 +43,11 @@ fit c i = omega (arith, c .shared-slice-known .given i)
 returns : tie.Need-returns
 returns c = decided _ _ (fit (c .before)) false _ _ _ (ne-eqb _ _ (c .if1 .taken)) refl refl refl
 
-all-timed-requires : tie.Need-all-timed-requires
-all-timed-requires c κs = search needs
-
 returns-2 : tie.Need-returns-2
 returns-2 c =
     let e = c .before .before .before in
     let timed = sym (c .before .all-timed .ensures) ∙ not-true _ (c .if2 .taken) in
     decided _ _ (fit (e .before)) true false _ _ (eq-eqb _ _ (e .if1 .left)) timed refl refl
-
-rest-zero-requires : tie.Need-rest-zero-requires
-rest-zero-requires c κs = search needs
 
 returns-3 : tie.Need-returns-3
 returns-3 c =
@@ -61,12 +55,6 @@ returns-3 c =
     let timed = sym (c .before .before .before .all-timed .ensures) ∙ not-false _ (c .before .before .if2 .left) in
     let rest = sym (c .before .rest-zero .ensures) ∙ not-true _ (c .if3 .taken) in
     decided _ _ (fit (e .before)) true true false _ (eq-eqb _ _ (e .if1 .left)) timed rest refl
-
-peers-of-requires : tie.Need-peers-of-requires
-peers-of-requires c κs = search needs
-
-ports-sound-requires : tie.Need-ports-sound-requires
-ports-sound-requires c κs = search needs
 
 returns-4 : tie.Need-returns-4
 returns-4 c =
@@ -78,6 +66,18 @@ returns-4 c =
     let rest = sym (t .before .rest-zero .ensures) ∙ not-false _ (t .if3 .left) in
     let ports = all-ports plan s _ _ (c .before .before .before .before .before .peers-of .ensures) (c .ports-sound .ensures) in
     decided plan s (fit (e .before)) true true true _ (eq-eqb _ _ (e .if1 .left)) timed rest ports
+
+all-timed-requires : tie.Need-all-timed-requires
+all-timed-requires c κs = search needs
+
+rest-zero-requires : tie.Need-rest-zero-requires
+rest-zero-requires c κs = search needs
+
+peers-of-requires : tie.Need-peers-of-requires
+peers-of-requires c κs = search needs
+
+ports-sound-requires : tie.Need-ports-sound-requires
+ports-sound-requires c κs = search needs
 
 pub is-sound-spec : {M : Type 1} → statement M
 is-sound-spec =

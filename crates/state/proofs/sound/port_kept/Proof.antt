@@ -6,30 +6,9 @@ use borrow.Author.Needs.{needs}
 use Rattle.state.proofs.sound.port_kept.Statement.{statement}
 use Rattle.state.proofs.sound.port_kept.Tie as tie
 
-mul-at : tie.Need-mul-at
-mul-at c = search needs
-
-add-at : tie.Need-add-at
-add-at c = search needs
-
-add-inside : tie.Need-add-inside
-add-inside c = search needs
-
-inside-requires : tie.Need-inside-requires
-inside-requires c κs = search needs
-
 returns : tie.Need-returns
 unfolding portKept
 returns c = simp (← c .before .inside .ensures, lt-leb _ _ (c .if1 .taken))
-
-add-inside-2 : tie.Need-add-inside-2
-add-inside-2 c = search needs
-
-inside-requires-2 : tie.Need-inside-requires-2
-inside-requires-2 c κs = search needs
-
-flag-sound-requires : tie.Need-flag-sound-requires
-flag-sound-requires c κs = search needs
 
 returns-2 : tie.Need-returns-2
 unfolding portKept
@@ -40,21 +19,6 @@ returns-2 c =
       ← c .before .before .inside2 .ensures,
       sym (c .before .flag-sound .ensures) ∙ not-true _ (c .if2 .taken),
     )
-
-add-inside-3 : tie.Need-add-inside-3
-add-inside-3 c = search needs
-
-inside-requires-3 : tie.Need-inside-requires-3
-inside-requires-3 c κs = search needs
-
-add-inside-4 : tie.Need-add-inside-4
-add-inside-4 c = search needs
-
-inside-requires-4 : tie.Need-inside-requires-4
-inside-requires-4 c κs = search needs
-
-waiting-sound-requires : tie.Need-waiting-sound-requires
-waiting-sound-requires c κs = search needs
 
 returns-3 : tie.Need-returns-3
 unfolding portKept
@@ -69,22 +33,40 @@ returns-3 c =
       ← c .waiting-sound .ensures,
     )
 
+inside-requires : tie.Need-inside-requires
+inside-requires c κs = search needs
+
+inside-requires-2 : tie.Need-inside-requires-2
+inside-requires-2 c κs = search needs
+
+flag-sound-requires : tie.Need-flag-sound-requires
+flag-sound-requires c κs = search needs
+
+inside-requires-3 : tie.Need-inside-requires-3
+inside-requires-3 c κs = search needs
+
+inside-requires-4 : tie.Need-inside-requires-4
+inside-requires-4 c κs = search needs
+
+waiting-sound-requires : tie.Need-waiting-sound-requires
+waiting-sound-requires c κs = search needs
+
 pub port-kept-spec : {M : Type 1} → statement M
 port-kept-spec =
     tie.close
     (tie.spec
-    mul-at
-    add-at
-    add-inside
+    (λ c. search needs)
+    (λ c. search needs)
+    (λ c. search needs)
     inside-requires
     returns
-    add-inside-2
+    (λ c. search needs)
     inside-requires-2
     flag-sound-requires
     returns-2
-    add-inside-3
+    (λ c. search needs)
     inside-requires-3
-    add-inside-4
+    (λ c. search needs)
     inside-requires-4
     waiting-sound-requires
     returns-3)

@@ -22,24 +22,9 @@ abbrev μ-loop : tie.MeasureT-loop
 loop-holds : tie.Need-loop-holds Inv-loop μ-loop
 loop-holds c = (omega arith, below-none _)
 
-mul-inside : tie.Need-mul-inside Inv-loop μ-loop
-mul-inside c = search needs
-
-add-inside : tie.Need-add-inside Inv-loop μ-loop
-add-inside c = search needs
-
-add-inside-2 : tie.Need-add-inside-2 Inv-loop μ-loop
-add-inside-2 c = search needs
-
-inside-requires : tie.Need-inside-requires Inv-loop μ-loop
-inside-requires c κs = search needs
-
 returns : tie.Need-returns Inv-loop μ-loop
 unfolding portZero
 returns c = sym (every-not 4 _ (c .before .before .before .loop .i) (omega arith) (rw (← c .before .inside .ensures) (ne-eqb _ _ (c .if1 .taken))))
-
-add-i : tie.Need-add-i Inv-loop μ-loop
-add-i c = search needs
 
 loop-less : tie.Need-loop-less Inv-loop μ-loop
 loop-less c = omega arith
@@ -51,6 +36,9 @@ returns-2 : tie.Need-returns-2 Inv-loop μ-loop
 unfolding portZero
 returns-2 c = sym (every-all 4 _ (λ i l. c .before .loop .inv .1 i (omega arith)))
 
+inside-requires : tie.Need-inside-requires Inv-loop μ-loop
+inside-requires c κs = search needs
+
 pub port-zero-spec : {M : Type 1} → statement M
 port-zero-spec =
     tie.close
@@ -58,12 +46,12 @@ port-zero-spec =
     Inv-loop
     μ-loop
     loop-holds
-    mul-inside
-    add-inside
-    add-inside-2
+    (λ c. search needs)
+    (λ c. search needs)
+    (λ c. search needs)
     inside-requires
     returns
-    add-i
+    (λ c. search needs)
     loop-less
     loop-again
     returns-2)

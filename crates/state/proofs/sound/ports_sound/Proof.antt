@@ -20,33 +20,9 @@ abbrev μ-loop : tie.MeasureT-loop
 loop-holds : tie.Need-loop-holds Inv-loop μ-loop
 loop-holds c = (omega arith, below-none _)
 
-element-copy-out-port-sound : tie.Need-element-copy-out-port-sound Inv-loop μ-loop
-element-copy-out-port-sound c = search needs
-
-mul-port-sound : tie.Need-mul-port-sound Inv-loop μ-loop
-mul-port-sound c = search needs
-
-mul-port-sound-2 : tie.Need-mul-port-sound-2 Inv-loop μ-loop
-mul-port-sound-2 c = search needs
-
-index-1-port-sound : tie.Need-index-1-port-sound Inv-loop μ-loop
-index-1-port-sound c = search needs
-
-index-2-port-sound : tie.Need-index-2-port-sound Inv-loop μ-loop
-index-2-port-sound c = search needs
-
-element-copy-out-port-sound-2 : tie.Need-element-copy-out-port-sound-2 Inv-loop μ-loop
-element-copy-out-port-sound-2 c = search needs
-
-port-sound-requires : tie.Need-port-sound-requires Inv-loop μ-loop
-port-sound-requires c κs = search needs
-
 returns : tie.Need-returns Inv-loop μ-loop
 unfolding portsSound
 returns c = sym (every-not 256 _ _ (omega arith) (sym (c .before .port-sound .ensures) ∙ not-true _ (c .if1 .taken)))
-
-add-q : tie.Need-add-q Inv-loop μ-loop
-add-q c = search needs
 
 loop-less : tie.Need-loop-less Inv-loop μ-loop
 loop-less c = omega arith
@@ -58,6 +34,9 @@ returns-2 : tie.Need-returns-2 Inv-loop μ-loop
 unfolding portsSound
 returns-2 c = sym (every-all 256 _ (λ i l. c .before .loop .inv .1 i (omega arith)))
 
+port-sound-requires : tie.Need-port-sound-requires Inv-loop μ-loop
+port-sound-requires c κs = search needs
+
 pub ports-sound-spec : {M : Type 1} → statement M
 ports-sound-spec =
     tie.close
@@ -65,15 +44,15 @@ ports-sound-spec =
     Inv-loop
     μ-loop
     loop-holds
-    element-copy-out-port-sound
-    mul-port-sound
-    mul-port-sound-2
-    index-1-port-sound
-    index-2-port-sound
-    element-copy-out-port-sound-2
+    (λ c. search needs)
+    (λ c. search needs)
+    (λ c. search needs)
+    (λ c. search needs)
+    (λ c. search needs)
+    (λ c. search needs)
     port-sound-requires
     returns
-    add-q
+    (λ c. search needs)
     loop-less
     loop-again
     returns-2)

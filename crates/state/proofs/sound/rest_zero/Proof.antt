@@ -13,14 +13,12 @@ returns : tie.Need-returns
 unfolding zerosIn
 returns c = sym (every-all portsAt _ (λ i l. or-left _ _ (lt-ltb i (deviceWords * c .before .before .args .n) (omega arith))))
 
-mul-zeros : tie.Need-mul-zeros
-mul-zeros c = search needs
-
 zeros-requires : tie.Need-zeros-requires
 zeros-requires c κs = search needs
 
-returns-2 : tie.Need-returns-2
-returns-2 c = search needs
-
 pub rest-zero-spec : {M : Type 1} → statement M
-rest-zero-spec = tie.close (tie.spec returns mul-zeros zeros-requires returns-2)
+rest-zero-spec = tie.close (tie.spec
+    returns
+    (λ c. search needs)
+    zeros-requires
+    (λ c. search needs))

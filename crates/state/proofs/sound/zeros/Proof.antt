@@ -44,17 +44,8 @@ loop-holds c = record { begun = omega arith; within = omega arith; room = omega 
 inside-requires : tie.Need-inside-requires Inv-loop μ-loop
 inside-requires c κs = omega (arith, c .before .loop .inv .room)
 
-cast-sum : tie.Need-cast-sum Inv-loop μ-loop
-cast-sum c = search needs
-
 add-sum : tie.Need-add-sum Inv-loop μ-loop
 add-sum c = omega (arith, c .before .before .loop .inv .small, c .before .before .loop .inv .room, c .inside .ok)
-
-add-i : tie.Need-add-i Inv-loop μ-loop
-add-i c = search needs
-
-loop-less : tie.Need-loop-less Inv-loop μ-loop
-loop-less c = search needs
 
 loop-again : tie.Need-loop-again Inv-loop μ-loop
 loop-again c = more (c .before .before .loop .inv) (omega arith) (c .inside .ensures) (omega (arith, c .inside .ok))
@@ -73,9 +64,9 @@ zeros-spec =
     μ-loop
     loop-holds
     inside-requires
-    cast-sum
+    (λ c. search needs)
     add-sum
-    add-i
-    loop-less
+    (λ c. search needs)
+    (λ c. search needs)
     loop-again
     returns)
