@@ -19,8 +19,8 @@ enum { TOLD = 1 * 65536 + HANDLER * 256 + IDENTIFIER };
 /* An array as the two parameters that an area is. */
 #define AREA(array) (array), sizeof(array) / sizeof *(array)
 
-/* A plan file has at most 16,896 bytes; one more shows that a file is too long. */
-static bench_u8 file[16897];
+/* One byte more than a plan file can have shows that a file is too long. */
+static bench_u8 file[BENCH_FILE + 1];
 static bench_size length;
 
 /* A round builds the next state in another area, so two of them take turns. */
@@ -85,7 +85,7 @@ int main(void) {
     /* How long the handler has to wait: until nothing waits. */
     bench_u32 wait;
     begin();
-    must("settle", bench_settle(file, length, AREA(states[now]), 4096, &wait));
+    must("settle", bench_settle(file, length, AREA(states[now]), BENCH_ROUNDS, &wait));
     printf("nothing waits after %u rounds\n", wait);
 
     acknowledge_after(wait);

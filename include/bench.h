@@ -8,18 +8,18 @@
  *    2 a state that is not sound                8 it may not send this kind
  *    3 an area of the wrong length, or one      9 the bit is already so
  *      that cannot be lent (see below)         10 the link is already so
- *    4 no such device or port                  11 an allowance above 4,096
+ *    4 no such device or port                  11 an allowance above BENCH_ROUNDS
  *    5 an identifier or a value too great      12 still waiting after the allowance
  *    6 no source or no handler of it
  *
  * A refused call changes no area and gives 0 for a value, but for 12 (bench_settle) and 20 to 26 (bench_plan_read).
  * docs/RULES.md has the rules, and "The C door" there the numbers below.
  *
- * A plan is the bytes of its file. An area is a pointer and its length, in words or bytes: a state has 2,080 words, the
- * bytes sent 256 words, the words told 1,056, a text at least BENCH_TEXT bytes. Before anything else a call refuses by 3
- * what cannot be lent together: areas that share a byte with each other, with the plan or with a value's place, words that
- * are not aligned, null with a length, and a length that runs over the end of memory. A value goes to any place, aligned or
- * not; null says that it is not wanted. Beside that 3 it is 0 too, and is left as it was only where its own place is shared.
+ * A plan is the bytes of its file. An area is a pointer and its length, in words or bytes; the lengths have names below.
+ * Before anything else a call refuses by 3 what cannot be lent together: areas that share a byte with each other, with the
+ * plan or with a value's place, words that are not aligned, null with a length, and a length that runs over the end of
+ * memory. A value goes to any place, aligned or not; null says that it is not wanted. Beside that 3 it is 0 too, and is left
+ * as it was only where its own place is shared.
  *
  * These tests are C and stand in this file: they are not proved, and tests/lending.sh tries them. What the archive does
  * behind them is proved for every input. What is left to the caller: that an area is as long as its length says.
@@ -37,7 +37,17 @@ typedef unsigned long bench_size;
 /* An address fits a bench_size: what is lent is compared so. */
 typedef char bench_size_fits_an_address[sizeof(bench_size) == sizeof(void *) ? 1 : -1];
 
-enum { BENCH_STATE = 2080, BENCH_SENT = 256, BENCH_TOLD = 1056, BENCH_TEXT = 14347 };
+/* Lengths: of a state and of the areas for what is sent and told, in words; of the least area for a text and of the longest plan
+ * file, in bytes. */
+enum { BENCH_STATE = 2080, BENCH_SENT = 256, BENCH_TOLD = 1056, BENCH_TEXT = 14347, BENCH_FILE = 16896 };
+
+/* The most rounds that may be allowed, and the word of a port that sent nothing. */
+enum { BENCH_ROUNDS = 4096, BENCH_NOTHING = 256 };
+
+/* Where words stand in a state. Device d has its register at BENCH_DEVICE x d, and behind it its 32 timers. Port p of device d has
+ * BENCH_PORT words from BENCH_PORTS + BENCH_PORT x (8 x d + p) on: two sets that wait, interrupts and acknowledges, then its next
+ * and whether it runs. */
+enum { BENCH_DEVICE = 33, BENCH_PORTS = 1056, BENCH_PORT = 4, BENCH_NEXT = 2, BENCH_RUNNING = 3 };
 
 /* Kinds of code. */
 enum { BENCH_TIME, BENCH_INTERRUPT, BENCH_ACKNOWLEDGE, BENCH_RESERVED };
@@ -46,12 +56,13 @@ enum { BENCH_TIME, BENCH_INTERRUPT, BENCH_ACKNOWLEDGE, BENCH_RESERVED };
 enum { BENCH_NAMED, BENCH_LINK_ERROR, BENCH_IGNORED, BENCH_FORWARDED, BENCH_TOLD_HOST };
 
 /* The stack that each call needs, in bytes, and each program, from its arguments down: measured by painting it and rounded up
- * (tests/stack.sh, which fails where one needs more). */
+ * (tests/stack.sh, which fails where one needs more). It covers the first call of a process, where memcpy, memmove and memset
+ * may still have to be bound. */
 enum {
-    BENCH_STACK_CODE_READ = 256, BENCH_STACK_CODE_WRITE = 256, BENCH_STACK_REACT = 256, BENCH_STACK_PLAN_READ = 4096,
-    BENCH_STACK_START = 5120, BENCH_STACK_REQUEST = 7168, BENCH_STACK_ACKNOWLEDGE = 7168, BENCH_STACK_LINK_STOP = 6144,
-    BENCH_STACK_LINK_START = 6144, BENCH_STACK_RESET = 5120, BENCH_STACK_ROUND = 7168, BENCH_STACK_SETTLE = 14336,
-    BENCH_STACK_REACH = 28672, BENCH_STACK_REPORT = 38912,
+    BENCH_STACK_CODE_READ = 256, BENCH_STACK_CODE_WRITE = 256, BENCH_STACK_REACT = 256, BENCH_STACK_PLAN_READ = 9216,
+    BENCH_STACK_START = 10240, BENCH_STACK_REQUEST = 11264, BENCH_STACK_ACKNOWLEDGE = 11264, BENCH_STACK_LINK_STOP = 10240,
+    BENCH_STACK_LINK_START = 10240, BENCH_STACK_RESET = 10240, BENCH_STACK_ROUND = 10240, BENCH_STACK_SETTLE = 17408,
+    BENCH_STACK_REACH = 28672, BENCH_STACK_REPORT = 41984,
     BENCH_STACK_PROGRAM_SETTLE = 73728, BENCH_STACK_PROGRAM_DECODE = 92160
 };
 
@@ -244,8 +255,8 @@ static inline bench_u32 bench_reset(const bench_u8 *plan, bench_size plan_length
 
 /* ---- rounds, settling, reach, and the text */
 
-/* One round from an old state. The word of the bytes sent at 8 x device + port is the byte that the port sent, 256 for none;
- * a word told is kind x 65,536 + device x 256 + identifier, kinds 1 interrupt, 2 acknowledge, 3 timeout. How many words
+/* One round from an old state. The word of the bytes sent at 8 x device + port is the byte that the port sent, or
+ * BENCH_NOTHING; a word told is kind x 65,536 + device x 256 + identifier, kinds 1 interrupt, 2 acknowledge, 3 timeout. How many words
  * were told goes to *count, and behind them are zeros. 1; 2; 3. */
 static inline bench_u32 bench_round(const bench_u8 *plan, bench_size plan_length, const bench_u32 *old, bench_size old_length,
                                     bench_u32 *next, bench_size next_length, bench_u32 *sent, bench_size sent_length,

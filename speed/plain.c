@@ -8,14 +8,14 @@ void *memcpy(void *, const void *, usize);
 void *memset(void *, int, usize);
 
 enum { INTERRUPT, ACKNOWLEDGE };
-enum { NONE = 256, PORTS = 1056, ALLOWANCE = 4096 };
+enum { NONE = BENCH_NOTHING, NEXT = BENCH_NEXT, RUNNING = BENCH_RUNNING };
 
 struct plan {
     u32 devices, loads[2];
     u8 role[32], ports[32];
     u32 source[32], handler[32];
-    u8 permissions[256];
-    u16 peers[256];
+    u8 permissions[BENCH_SENT];
+    u16 peers[BENCH_SENT];
 };
 
 static u32 two(const u8 *b) {
@@ -73,7 +73,7 @@ static void load_device(const u8 *b, u32 d, struct plan *plan) {
 
 static u32 read_plan(const u8 *file, usize length, struct plan *plan, u32 *block) {
     *block = 0;
-    if (length < 512 || length > 16896 || length % 512)
+    if (length < 512 || length > BENCH_FILE || length % 512)
         return 20;
     u32 n = file[1], router = two(file + 2), node = two(file + 4);
     u32 bad = any_block(file, 6, n >= 1 && n <= 32 && router >= 1 && router <= node, file[0] == 1);
@@ -104,30 +104,31 @@ static u32 read_plan(const u8 *file, usize length, struct plan *plan, u32 *block
 static int timers_sound(const u32 *s, u32 n) {
     for (u32 d = 0; d < n; d++)
         for (u32 k = 0; k < 32; k++) {
-            u32 t = s[33 * d + 1 + k];
-            if (s[33 * d] >> k & 1 ? t < 1 || t > 65535 : t)
+            const u32 *w = s + device_at(d);
+            u32 t = w[1 + k];
+            if (w[0] >> k & 1 ? t < 1 || t > 65535 : t)
                 return 0;
         }
     return 1;
 }
 
 static int port_sound(const struct plan *plan, const u32 *s, u32 q) {
-    const u32 *w = s + PORTS + 4 * q;
+    const u32 *w = s + port_at(q);
     if (q % 8 >= plan->ports[q / 8])
-        return !(w[0] | w[1] | w[2] | w[3]);
+        return !(w[0] | w[1] | w[NEXT] | w[RUNNING]);
     u32 peer = plan->peers[q], may = plan->permissions[q];
-    if (w[2] > 31 || w[3] > 1 || w[3] != (peer == NONE ? 0 : s[PORTS + 4 * peer + 3]) || (w[0] & w[1]))
+    if (w[NEXT] > 31 || w[RUNNING] > 1 || w[RUNNING] != (peer == NONE ? 0 : s[port_at(peer) + RUNNING]) || (w[0] & w[1]))
         return 0;
-    return !((w[0] && !(w[3] && (may & 1))) || (w[1] && !(w[3] && (may & 4))));
+    return !((w[0] && !(w[RUNNING] && (may & 1))) || (w[1] && !(w[RUNNING] && (may & 4))));
 }
 
 static int sound(const struct plan *plan, const u32 *s) {
     if (!timers_sound(s, plan->devices))
         return 0;
-    for (u32 i = 33 * plan->devices; i < PORTS; i++)
+    for (u32 i = device_at(plan->devices); i < BENCH_PORTS; i++)
         if (s[i])
             return 0;
-    for (u32 q = 0; q < 256; q++)
+    for (u32 q = 0; q < BENCH_SENT; q++)
         if (!port_sound(plan, s, q))
             return 0;
     return 1;
@@ -136,14 +137,14 @@ static int sound(const struct plan *plan, const u32 *s) {
 static void start(const struct plan *plan, u32 *s) {
     memset(s, 0, BENCH_STATE * sizeof *s);
     for (u32 q = 0; q < 8 * plan->devices; q++)
-        s[PORTS + 4 * q + 3] = plan->peers[q] != NONE;
+        s[port_at(q) + RUNNING] = plan->peers[q] != NONE;
 }
 
 /* ---- calls and rounds */
 
 static void queue(const struct plan *plan, u32 *s, u32 q, u32 kind, u32 k) {
-    u32 *w = s + PORTS + 4 * q;
-    if (w[3] && (plan->permissions[q] >> 2 * kind & 1)) {
+    u32 *w = s + port_at(q);
+    if (w[RUNNING] && (plan->permissions[q] >> 2 * kind & 1)) {
         w[kind] |= 1u << k;
         w[1 - kind] &= ~(1u << k);
     }
@@ -151,12 +152,12 @@ static void queue(const struct plan *plan, u32 *s, u32 q, u32 kind, u32 k) {
 
 /* The request of a source whose bit is clear. A node has one port. */
 static u32 request(const struct plan *plan, u32 *s, u32 d, u32 k) {
-    if (!s[PORTS + 4 * 8 * d + 3])
+    if (!s[port_at(8 * d) + RUNNING])
         return 7;
     if (!(plan->permissions[8 * d] & 1))
         return 8;
-    s[33 * d] |= 1u << k;
-    s[33 * d + 1 + k] = plan->loads[plan->role[d]];
+    s[device_at(d)] |= 1u << k;
+    s[device_at(d) + 1 + k] = plan->loads[plan->role[d]];
     queue(plan, s, 8 * d, INTERRUPT, k);
     return 0;
 }
@@ -164,7 +165,7 @@ static u32 request(const struct plan *plan, u32 *s, u32 d, u32 k) {
 static u32 tick(const struct plan *plan, u32 *next, u32 *told) {
     u32 count = 0;
     for (u32 d = 0; d < plan->devices; d++) {
-        u32 *w = next + 33 * d;
+        u32 *w = next + device_at(d);
         for (u32 rest = w[0]; rest; rest &= rest - 1) {
             u32 k = __builtin_ctz(rest);
             if (--w[1 + k])
@@ -178,20 +179,20 @@ static u32 tick(const struct plan *plan, u32 *next, u32 *told) {
 }
 
 static void post(const struct plan *plan, const u32 *old, u32 *next, u32 *sent) {
-    for (u32 q = 0; q < 256; q++)
+    for (u32 q = 0; q < BENCH_SENT; q++)
         sent[q] = NONE;
     for (u32 d = 0; d < plan->devices; d++)
         for (u32 q = 8 * d; q < 8 * d + plan->ports[d]; q++) {
-            const u32 *w = old + PORTS + 4 * q;
-            u32 *v = next + PORTS + 4 * q, all = w[0] | w[1];
+            const u32 *w = old + port_at(q);
+            u32 *v = next + port_at(q), all = w[0] | w[1];
             if (!all)
                 continue;
-            u32 above = all >> w[2] << w[2];
+            u32 above = all >> w[NEXT] << w[NEXT];
             u32 k = __builtin_ctz(above ? above : all);
             sent[q] = (w[0] >> k & 1 ? 128 : 160) + k;
             v[0] &= ~(1u << k);
             v[1] &= ~(1u << k);
-            v[2] = (k + 1) % 32;
+            v[NEXT] = (k + 1) % 32;
         }
 }
 
@@ -201,8 +202,8 @@ static u32 arrive(const struct plan *plan, const u32 *sent, u32 *next, u32 *told
             u32 peer = plan->peers[q];
             if (peer == NONE || sent[peer] == NONE)
                 continue;
-            u32 kind = sent[peer] >= 160, k = sent[peer] % 32, *w = next + 33 * d;
-            if (!next[PORTS + 4 * q + 3] || !(plan->permissions[q] >> (2 * kind + 1) & 1) || (w[0] >> k & 1) != kind)
+            u32 kind = sent[peer] >= 160, k = sent[peer] % 32, *w = next + device_at(d);
+            if (!next[port_at(q) + RUNNING] || !(plan->permissions[q] >> (2 * kind + 1) & 1) || (w[0] >> k & 1) != kind)
                 continue;
             w[0] ^= 1u << k;
             w[1 + k] = kind == ACKNOWLEDGE ? 0 : plan->loads[plan->role[d]];
@@ -226,7 +227,7 @@ static inline u32 play(const struct plan *plan, const u32 *old, u32 *next, u32 *
 
 static int waits(const struct plan *plan, const u32 *s) {
     for (u32 q = 0; q < 8 * plan->devices; q++)
-        if (s[PORTS + 4 * q] | s[PORTS + 4 * q + 1])
+        if (s[port_at(q)] | s[port_at(q) + 1])
             return 1;
     return 0;
 }
@@ -249,7 +250,7 @@ static u32 settle(const struct plan *plan, u32 *areas[2], u32 allowance, u32 *ro
 static u32 visit(const struct plan *plan, const u32 *s, u32 d, u32 set) {
     for (u32 q = 8 * d; q < 8 * d + plan->ports[d]; q++) {
         u32 peer = plan->peers[q];
-        if (!s[PORTS + 4 * q + 3] || !(plan->permissions[q] & 1) || !(plan->permissions[peer] & 2))
+        if (!s[port_at(q) + RUNNING] || !(plan->permissions[q] & 1) || !(plan->permissions[peer] & 2))
             continue;
         u32 ahead = peer / 8;
         if (set >> ahead & 1)
@@ -284,13 +285,13 @@ static u8 *put_line(const struct plan *plan, u32 *areas[2], u32 d, u32 k, u8 *at
         *at++ = 'r';
         return put_number(put_number(at, refused, ' '), 0, '\n');
     }
-    if (settle(plan, areas, ALLOWANCE, &rounds, &home)) {
+    if (settle(plan, areas, BENCH_ROUNDS, &rounds, &home)) {
         *at++ = '-';
         *at++ = ' ';
     } else
         at = put_number(at, rounds, ' ');
     for (u32 e = 0; e < plan->devices; e++)
-        held += areas[home][33 * e] >> k & 1;
+        held += areas[home][device_at(e)] >> k & 1;
     return put_number(at, held, '\n');
 }
 

@@ -5,6 +5,15 @@ typedef bench_u8 u8;
 typedef bench_u32 u32;
 typedef bench_size usize;
 
+/* Where the words of device d stand in a state, and those of port q. */
+static inline u32 device_at(u32 d) {
+    return BENCH_DEVICE * d;
+}
+
+static inline u32 port_at(u32 q) {
+    return BENCH_PORTS + BENCH_PORT * q;
+}
+
 u32 plain_plan_read(const u8 *file, usize length, u32 *block);
 u32 plain_round(const u8 *file, usize length, const u32 *old, usize old_length, u32 *next, usize next_length, u32 *sent,
                 usize sent_length, u32 *told, usize told_length, u32 *count);

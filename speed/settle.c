@@ -4,7 +4,7 @@
 long read(int, void *, usize);
 long write(int, const void *, usize);
 
-static u8 file[16896 + 1], text[BENCH_TEXT];
+static u8 file[BENCH_FILE + 1], text[BENCH_TEXT];
 
 int main(void) {
     usize length = 0;

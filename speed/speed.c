@@ -39,7 +39,7 @@ static const struct bench benches[ALL] = {
 };
 
 /* What a call is given: a plan, and the state before it. */
-static u8 file[16896 + 1];
+static u8 file[BENCH_FILE + 1];
 static usize length;
 static u32 before[BENCH_STATE];
 
@@ -65,7 +65,7 @@ static void round(const struct bench *b, struct given *g) {
 
 static void settle(const struct bench *b, struct given *g) {
     memcpy(g->state, before, sizeof before);
-    g->number = b->settle(file, length, g->state, BENCH_STATE, 4096, &g->value);
+    g->number = b->settle(file, length, g->state, BENCH_STATE, BENCH_ROUNDS, &g->value);
 }
 
 static void reach(const struct bench *b, struct given *g) {
@@ -171,23 +171,19 @@ static u32 random(u32 x) {
     return x * 2654435761u * 1664525u + 1013904223u;
 }
 
-/* The four words of port q in the state before a call. */
-static u32 *port(u32 q) {
-    return before + 1056 + 4 * q;
-}
-
 /* A state in which, of the identifiers in a set, every device holds some and every connected port waits with all, as
    interrupts or acknowledges. */
 static void busy(u32 set) {
     bench_start(file, length, before, BENCH_STATE);
     for (u32 d = 0; d < file[1]; d++) {
-        before[33 * d] = random(d) & set;
+        u32 *w = before + device_at(d);
+        w[0] = random(d) & set;
         for (u32 k = 0; k < 32; k++)
-            before[33 * d + 1 + k] = before[33 * d] >> k & 1 ? 60000 : 0;
+            w[1 + k] = w[0] >> k & 1 ? 60000 : 0;
     }
     for (u32 q = 0; q < 8u * file[1]; q++) {
-        u32 *w = port(q), some = random(1000 + q);
-        if (w[3])
+        u32 *w = before + port_at(q), some = random(1000 + q);
+        if (w[BENCH_RUNNING])
             memcpy(w, (u32[]){set & some, set & ~some, some >> 27}, 12);
     }
 }

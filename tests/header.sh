@@ -1,7 +1,7 @@
 #!/bin/sh
-# The header against the door's source: what include/bench.h declares of the archive is what crates/door exports, and each
-# function that people call takes what the one behind it takes. Both are read here; nothing else compares them, as C's linker
-# knows names alone.
+# The header against the crates' sources: what include/bench.h declares of the archive is what crates/door exports, each function
+# that people call takes what the one behind it takes, and a size or a place is the number that the crates have for it. Both are
+# read here; nothing else compares them, as C's linker knows names alone.
 set -eu
 cd "$(dirname "$0")/.."
 work=$(mktemp -d)
@@ -29,4 +29,15 @@ line include/bench.h >"$work/header"
 grep -o 'bench_u32 bench_for_header_[a-z_]*([^)]*);' "$work/header" | tr -d ';' | diff "$work/exported" -
 grep -o 'static inline bench_u32 bench_[a-z_]*([^)]*) {' "$work/header" |
     sed 's/^static inline //; s/ {$//; s/ bench_/ bench_for_header_/' | diff "$work/exported" -
+
+# The number that a crate has for a name, and the one that the header has: same CRATE NAME NAME_IN_C.
+same() {
+    ours=$(sed -n "s/^pub const $2: [a-z0-9]* = \([0-9]*\);/\1/p" "crates/$1/src/lib.rt")
+    theirs=$(grep -o "BENCH_$3 = [0-9]*" "$work/header")
+    [ "BENCH_$3 = $ours" = "$theirs" ] || { echo "$1 has $ours for $2, and the header $theirs"; exit 1; }
+}
+for name in DEVICE PORTS PORT NEXT RUNNING; do same state $name $name; done
+for name in SENT TOLD NOTHING ROUNDS; do same bench $name $name; done
+same state WORDS STATE
+same report LONGEST TEXT
 echo "header: ok"

@@ -16,7 +16,7 @@ void *memcpy(void *to, const void *from, unsigned long bytes);
 void *memset(void *to, int byte, unsigned long bytes);
 int strcmp(const char *one, const char *other);
 
-static bench_u8 file[16897];
+static bench_u8 file[BENCH_FILE + 1];
 static bench_size file_length;
 static bench_u32 started[BENCH_STATE];
 
@@ -61,7 +61,7 @@ static bench_u32 round(places at, lengths n) {
 }
 
 static bench_u32 settle(places at, lengths n) {
-    return bench_settle(at[0], n[0], at[1], n[1], 4096, at[2]);
+    return bench_settle(at[0], n[0], at[1], n[1], BENCH_ROUNDS, at[2]);
 }
 
 static bench_u32 reach(places at, lengths n) {
@@ -343,9 +343,9 @@ static void try_one_area(bench_u32 device, bench_u32 k) {
     number = bench_round(file, file_length, state, BENCH_STATE, state, BENCH_STATE, sent, BENCH_SENT, told, BENCH_TOLD, 0);
     if (number != 3 || memcmp(state, before, sizeof state))
         fail("a round in one area (device, answer)", device, number);
-    number = bench_settle(file, file_length, state, BENCH_STATE, 4096, &rounds);
+    number = bench_settle(file, file_length, state, BENCH_STATE, BENCH_ROUNDS, &rounds);
     for (bench_u32 d = 0; d < file[1]; d++)
-        held += state[33 * d] >> k & 1;
+        held += state[BENCH_DEVICE * d] >> k & 1;
     if (number == 12)
         printf("%u %u - %u\n", device, k, held);
     else

@@ -1,5 +1,8 @@
 """The bench by another method, plain lists and sets, written from docs/RULES.md. For tests alone."""
 
+# The most rounds that settling may be allowed.
+MOST_ROUNDS = 4096
+
 
 class Plan:
     def __init__(self, file):

@@ -6,7 +6,7 @@ usage: scripts.py > crates/scripts/stdout     run in the repository's root
 import sys
 
 sys.path.insert(0, "tests")
-from other_bench import Bench, Plan  # noqa: E402
+from other_bench import MOST_ROUNDS, Bench, Plan  # noqa: E402
 
 DATA = "crates/scripts/data"
 
@@ -53,7 +53,7 @@ class Player:
 
     def settle(self, allowance):
         """Settling, and what the second area, of nines before, then begins and ends with."""
-        refused = self.refusal() or (11 if allowance > 4096 else 0)
+        refused = self.refusal() or (11 if allowance > MOST_ROUNDS else 0)
         played = 0
         while not refused and self.bench.waiting() and played < allowance:
             self.bench.round()

@@ -6,17 +6,15 @@ usage: settle.py [FILE]     without FILE, the file on standard input
 """
 import sys
 
-from other_bench import Bench, Plan
+from other_bench import MOST_ROUNDS, Bench, Plan
 from reader import read
-
-ALLOWANCE = 4096
 
 
 def settle(bench):
     """The least number of rounds until no port waits, or "-"; the bench has then played them."""
     rounds = 0
     while bench.waiting():
-        if rounds == ALLOWANCE:
+        if rounds == MOST_ROUNDS:
             return "-"
         bench.round()
         rounds += 1

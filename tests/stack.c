@@ -1,14 +1,19 @@
 /* The stack that each call of include/bench.h needs: it is made on a stack of paint, and what is no paint afterwards was used.
  *
- *     stack PLAN...     prints the call, the bytes used at most over all plans, and the bytes that the header says;
- *                       then what the header says of the programs. Fails where a call needs more, and where one was
- *                       never done but always refused, as its measure then says nothing. */
+ *     stack PLAN...     prints the call, the bytes used at most over all plans, those used where it is the first call of its
+ *                       process, and the bytes that the header says; then what the header says of the programs. Fails
+ *                       where a call needs more, and where one was never done but always refused, as its measure then
+ *                       says nothing. */
 #include "bench.h"
 
 /* The kit's compiler has no headers of C's library. */
 int open(const char *name, int how);
 int close(int file);
 long read(int file, void *into, unsigned long bytes);
+int fork(void);
+int wait(int *status);
+_Noreturn void _exit(int status);
+void *mmap(void *at, unsigned long bytes, int may, int how, int file, long from);
 int printf(const char *format, ...);
 void *memcpy(void *to, const void *from, unsigned long bytes);
 void *memset(void *to, int byte, unsigned long bytes);
@@ -17,7 +22,7 @@ enum { STACK = 1 << 18, PAINT = 0xA5 };
 static _Alignas(16) bench_u8 stack[STACK];
 
 /* What the calls are given. */
-static bench_u8 file[16897], text[BENCH_TEXT];
+static bench_u8 file[BENCH_FILE + 1], text[BENCH_TEXT];
 static bench_size length, device, handler;
 static bench_u32 k, value, set, answer;
 static bench_u32 before[BENCH_STATE], state[BENCH_STATE], next[BENCH_STATE], sent[BENCH_SENT], told[BENCH_TOLD];
@@ -69,7 +74,7 @@ static void round(void) {
 }
 
 static void settle(void) {
-    answer = bench_settle(file, length, state, BENCH_STATE, 4096, &value);
+    answer = bench_settle(file, length, state, BENCH_STATE, BENCH_ROUNDS, &value);
 }
 
 static void reach(void) {
@@ -83,23 +88,23 @@ static void report(void) {
 static struct call {
     const char *name;
     void (*make)(void);
-    bench_size says, needs;
-    int done;
+    bench_size says, needs, first;
+    int done, first_done;
 } calls[] = {
-    {"bench_code_read", code_read, BENCH_STACK_CODE_READ, 0, 0},
-    {"bench_code_write", code_write, BENCH_STACK_CODE_WRITE, 0, 0},
-    {"bench_react", react, BENCH_STACK_REACT, 0, 0},
-    {"bench_plan_read", plan_read, BENCH_STACK_PLAN_READ, 0, 0},
-    {"bench_start", start, BENCH_STACK_START, 0, 0},
-    {"bench_request", request, BENCH_STACK_REQUEST, 0, 0},
-    {"bench_acknowledge", acknowledge, BENCH_STACK_ACKNOWLEDGE, 0, 0},
-    {"bench_link_stop", link_stop, BENCH_STACK_LINK_STOP, 0, 0},
-    {"bench_link_start", link_start, BENCH_STACK_LINK_START, 0, 0},
-    {"bench_reset", reset, BENCH_STACK_RESET, 0, 0},
-    {"bench_round", round, BENCH_STACK_ROUND, 0, 0},
-    {"bench_settle", settle, BENCH_STACK_SETTLE, 0, 0},
-    {"bench_reach", reach, BENCH_STACK_REACH, 0, 0},
-    {"bench_report", report, BENCH_STACK_REPORT, 0, 0},
+    {"bench_code_read", code_read, BENCH_STACK_CODE_READ, 0, 0, 0, 0},
+    {"bench_code_write", code_write, BENCH_STACK_CODE_WRITE, 0, 0, 0, 0},
+    {"bench_react", react, BENCH_STACK_REACT, 0, 0, 0, 0},
+    {"bench_plan_read", plan_read, BENCH_STACK_PLAN_READ, 0, 0, 0, 0},
+    {"bench_start", start, BENCH_STACK_START, 0, 0, 0, 0},
+    {"bench_request", request, BENCH_STACK_REQUEST, 0, 0, 0, 0},
+    {"bench_acknowledge", acknowledge, BENCH_STACK_ACKNOWLEDGE, 0, 0, 0, 0},
+    {"bench_link_stop", link_stop, BENCH_STACK_LINK_STOP, 0, 0, 0, 0},
+    {"bench_link_start", link_start, BENCH_STACK_LINK_START, 0, 0, 0, 0},
+    {"bench_reset", reset, BENCH_STACK_RESET, 0, 0, 0, 0},
+    {"bench_round", round, BENCH_STACK_ROUND, 0, 0, 0, 0},
+    {"bench_settle", settle, BENCH_STACK_SETTLE, 0, 0, 0, 0},
+    {"bench_reach", reach, BENCH_STACK_REACH, 0, 0, 0, 0},
+    {"bench_report", report, BENCH_STACK_REPORT, 0, 0, 0, 0},
 };
 enum { CALLS = sizeof calls / sizeof *calls };
 
@@ -115,19 +120,30 @@ static void on_paint(void (*make)(void)) {
                        "cc", "memory");
 }
 
-static void measure(struct call *call) {
+/* The state in which a call is measured. */
+static void prepare(const struct call *call) {
     memcpy(state, before, sizeof state);
     if (call->make == link_start)
         bench_link_stop(file, length, state, BENCH_STATE, device, 0);
-    answer = 0;
-    memset(stack, PAINT, STACK);
-    on_paint(call->make);
-    call->done |= answer == 0;
+}
+
+/* Makes the call, and gives the bytes that are no paint then. */
+static bench_size used(const struct call *call) {
     bench_size bare = 0;
+    answer = 0;
+    on_paint(call->make);
     while (bare < STACK && stack[bare] == PAINT)
         bare++;
-    if (STACK - bare > call->needs)
-        call->needs = STACK - bare;
+    return STACK - bare;
+}
+
+static void measure(struct call *call) {
+    prepare(call);
+    memset(stack, PAINT, STACK);
+    bench_size needs = used(call);
+    call->done |= answer == 0;
+    if (needs > call->needs)
+        call->needs = needs;
 }
 
 static void measure_all(void) {
@@ -145,7 +161,6 @@ static int in_mask(bench_u32 mask, bench_size d, bench_u32 i) {
 /* The device requests k, or everybody requests what it can; then rounds go by. The handler is one that holds k by then, if
  * there is one. */
 static void let_go_by(int everybody, bench_u32 rounds) {
-    bench_start(file, length, before, BENCH_STATE);
     bench_request(file, length, before, BENCH_STATE, device, k);
     for (bench_size d = 0; everybody && d < file[1]; d++)
         for (bench_u32 i = 0; i < 32; i++)
@@ -155,19 +170,24 @@ static void let_go_by(int everybody, bench_u32 rounds) {
         memcpy(before, next, sizeof before);
     }
     for (bench_size d = 0; d < file[1]; d++)
-        if (in_mask(8, d, k) && before[33 * d] >> k & 1)
+        if (in_mask(8, d, k) && before[BENCH_DEVICE * d] >> k & 1)
             handler = d;
 }
 
-/* In the network as it starts, with the codes on their way, and when they have arrived. */
-static void measure_source(void) {
+/* The network as it starts; then with the codes of the device alone, or of everybody, before, on and after their way. */
+enum { ALONE = 5, SCENES = 9 };
+static void play_scene(int scene) {
+    static const bench_u32 rounds[] = {0, 2, 21, 40};
     bench_start(file, length, before, BENCH_STATE);
-    measure_all();
-    for (int everybody = 0; everybody < 2; everybody++)
-        for (bench_u32 rounds = 0; rounds <= 40; rounds += rounds ? 19 : 2) {
-            let_go_by(everybody, rounds);
-            measure_all();
-        }
+    if (scene)
+        let_go_by((scene - 1) / 4, rounds[(scene - 1) % 4]);
+}
+
+static void measure_source(void) {
+    for (int scene = 0; scene < SCENES; scene++) {
+        play_scene(scene);
+        measure_all();
+    }
 }
 
 /* Every source in turn; then a state that is not sound, and a file that is not accepted. */
@@ -196,20 +216,81 @@ static void lengthen(void) {
     block[511] = sum % 65521 / 256;
 }
 
-static int load(const char *name) {
+static void load(const char *name) {
     int from = open(name, 0);
     long got;
     length = 0;
     while ((got = read(from, file + length, sizeof file - length)) > 0)
         length += got;
     close(from);
+}
+
+/* ---- a call that is the first of its process
+ *
+ * C's functions may be bound at their first use, which takes stack too, and a process that has called the bench, or one of them,
+ * has bound them. So a state is made in one process, and the call in another. Both are begun by a third, which has paint on its
+ * stack for them, and up to then copies and fills by loops alone. */
+
+/* What these processes share. */
+static struct shared {
+    bench_size handler, used;
+    int done;
+    bench_u32 state[BENCH_STATE];
+} *shared;
+
+static void lay_paint(void) {
+    for (volatile bench_u8 *at = stack; at < stack + STACK; at++)
+        *at = PAINT;
+}
+
+static void measure_first(struct call *call, int scene) {
+    shared->used = shared->done = 0;
+    if (fork() == 0) {
+        play_scene(scene);
+        prepare(call);
+        shared->handler = handler;
+        memcpy(shared->state, state, sizeof state);
+        _exit(0);
+    }
+    wait(0);
+    if (fork() == 0) {
+        handler = shared->handler;
+        for (unsigned i = 0; i < BENCH_STATE; i++)
+            state[i] = ((volatile bench_u32 *)shared->state)[i];
+        shared->used = used(call);
+        shared->done = answer == 0;
+        _exit(0);
+    }
+    wait(0);
+    call->first_done |= shared->done;
+    if (shared->used > call->first)
+        call->first = shared->used;
+}
+
+/* The first source of a plan stands for all, and its codes for everybody's: where C's functions are bound does not hang on them. */
+static void measure_first_calls(void) {
+    for (device = 0, k = 0; !in_mask(4, device, k); device += ++k / 32, k %= 32)
+        ;
+    for (int scene = 0; scene < ALONE; scene++)
+        for (unsigned i = 0; i < CALLS; i++)
+            measure_first(&calls[i], scene);
+}
+
+static int accepted(void) {
     return bench_plan_read(file, length, 0) == 0;
 }
 
 int main(int count, char **plans) {
     int faults = 0;
+    shared = mmap(0, sizeof *shared, 3, 0x21, -1, 0);
+    lay_paint();
     for (int i = 1; i < count; i++) {
-        if (!load(plans[i])) {
+        load(plans[i]);
+        measure_first_calls();
+    }
+    for (int i = 1; i < count; i++) {
+        load(plans[i]);
+        if (!accepted()) {
             printf("no plan: %s\n", plans[i]);
             return 1;
         }
@@ -219,10 +300,11 @@ int main(int count, char **plans) {
         measure_plan();
     }
     for (unsigned i = 0; i < CALLS; i++) {
-        printf("%s %lu %lu\n", calls[i].name, calls[i].needs, calls[i].says);
-        if (!calls[i].done)
-            printf("%s was never done\n", calls[i].name);
-        faults |= calls[i].needs > calls[i].says || !calls[i].done;
+        struct call call = calls[i];
+        printf("%s %lu %lu %lu\n", call.name, call.needs, call.first, call.says);
+        if (!call.done || !call.first_done)
+            printf("%s was never done\n", call.name);
+        faults |= call.needs > call.says || call.first > call.says || !call.done || !call.first_done;
     }
     printf("bin/settle - %u\nbin/decode - %u\n", BENCH_STACK_PROGRAM_SETTLE, BENCH_STACK_PROGRAM_DECODE);
     return faults;

@@ -19,7 +19,7 @@ static flag find_source(struct trial *trial) {
         u32 at = (first + i) % (DEVICES * IDENTIFIERS), d = at / IDENTIFIERS, k = at % IDENTIFIERS;
         if (d >= plan.bytes[1] || !in_mask(&plan, d, SOURCES, k))
             continue;
-        if (!port_words(&state, d, 0)[3] || !(port_entry(&plan, d, 0)[2] & 1))
+        if (!port_words(&state, d, 0)[AT_RUNNING] || !(port_entry(&plan, d, 0)[2] & 1))
             continue;
         trial->source = d;
         trial->k = k;
@@ -39,7 +39,7 @@ static flag make_source(struct trial *trial) {
         block[HANDLERS + trial->k / 8] &= ~(1 << trial->k % 8);
         entry[2] |= 1;
         seal(&plan, 1 + d);
-        port_words(&state, d, 0)[3] = port_words(&state, entry[0], entry[1])[3] = 1;
+        port_words(&state, d, 0)[AT_RUNNING] = port_words(&state, entry[0], entry[1])[AT_RUNNING] = 1;
         trial->source = d;
         return 1;
     }
@@ -52,8 +52,8 @@ static void unset(u32 k) {
         device_words(&state, d)[0] &= ~(1u << k);
         device_words(&state, d)[1 + k] = 0;
         for (u32 p = 0; p < PORTS; p++) {
-            port_words(&state, d, p)[0] &= ~(1u << k);
-            port_words(&state, d, p)[1] &= ~(1u << k);
+            port_words(&state, d, p)[AT_INTERRUPTS] &= ~(1u << k);
+            port_words(&state, d, p)[AT_ACKNOWLEDGES] &= ~(1u << k);
         }
     }
 }
@@ -63,11 +63,11 @@ static void crowd(u32 k) {
     for (u32 d = 0; d < plan.bytes[1]; d++)
         for (u32 p = 0; p < device_block(&plan, d)[3]; p++) {
             u32 *words = port_words(&state, d, p), others = ~(1u << k);
-            words[2] = (k + 1) % IDENTIFIERS;
-            if (words[3] && port_entry(&plan, d, p)[2] & 4)
-                words[1] = others & ~words[0];
-            if (words[3] && port_entry(&plan, d, p)[2] & 1)
-                words[0] = others & ~words[1];
+            words[AT_NEXT] = (k + 1) % IDENTIFIERS;
+            if (words[AT_RUNNING] && port_entry(&plan, d, p)[2] & 4)
+                words[AT_ACKNOWLEDGES] = others & ~words[AT_INTERRUPTS];
+            if (words[AT_RUNNING] && port_entry(&plan, d, p)[2] & 1)
+                words[AT_INTERRUPTS] = others & ~words[AT_ACKNOWLEDGES];
         }
 }
 
@@ -123,7 +123,7 @@ static void check_sent(struct trial *trial, u32 round) {
 static void check_rest(const struct trial *trial) {
     for (u32 d = 0; d < DEVICES; d++)
         for (u32 p = 0; p < PORTS; p++)
-            if ((port_words(&state, d, p)[0] | port_words(&state, d, p)[1]) >> trial->k & 1)
+            if ((port_words(&state, d, p)[AT_INTERRUPTS] | port_words(&state, d, p)[AT_ACKNOWLEDGES]) >> trial->k & 1)
                 fail("demand 3: still waiting (device, port)", d, p);
 }
 

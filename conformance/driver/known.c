@@ -43,11 +43,11 @@ static void known_choice(u32 waiting, u32 next, u32 sent, u32 then) {
     state.length = STATE_WORDS;
     right_lengths(&played);
     must_be("the start", 0, try_change(START, &plan, &state, 0, 0));
-    port_words(&state, 0, 0)[0] = waiting;
-    port_words(&state, 0, 0)[2] = next;
+    port_words(&state, 0, 0)[AT_INTERRUPTS] = waiting;
+    port_words(&state, 0, 0)[AT_NEXT] = next;
     must_be("a round", 0, try_round(&plan, &state, &played));
     must_be("the code chosen", sent, played.sent[0]);
-    must_be("the next then", then, port_words(&played.next, 0, 0)[2]);
+    must_be("the next then", then, port_words(&played.next, 0, 0)[AT_NEXT]);
 }
 
 /* A load of 1 set in a round clears in the next. */
@@ -80,7 +80,7 @@ void known_values(void) {
     known_choice(1 << 5 | 1 << 9, 6, 128 + 9, 10);
     known_choice(1 << 5, 6, 128 + 5, 6);
     known_choice(1u << 31, 31, 128 + 31, 0);
-    known_choice(0, 6, 256, 6);
+    known_choice(0, 6, SENT_NONE, 6);
     must_be("allowance 4,096", 0, try_settle(&plan, &state, MOST_ALLOWED));
     must_be("allowance 4,097", 11, try_settle(&plan, &state, MOST_ALLOWED + 1));
     known_timer();

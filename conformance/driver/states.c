@@ -2,11 +2,11 @@
 #include "driver.h"
 
 u32 *device_words(struct state *state, u32 device) {
-    return state->words + 33 * device;
+    return state->words + DEVICE_WORDS * device;
 }
 
 u32 *port_words(struct state *state, u32 device, u32 port) {
-    return state->words + 1056 + 4 * (8 * device + port);
+    return state->words + FIRST_PORT + PORT_WORDS * (PORTS * device + port);
 }
 
 static u32 some_of(u32 density) {
@@ -18,17 +18,17 @@ static u32 some_of(u32 density) {
 static void sound_port(struct plan *plan, struct state *state, u32 d, u32 p, u32 density, u32 stopped) {
     const u8 *entry = port_entry(plan, d, p);
     u32 *words = port_words(state, d, p);
-    words[2] = pick(32);
+    words[AT_NEXT] = pick(32);
     if (entry[0] == 255)
         return;
     u32 *peer = port_words(state, entry[0], entry[1]);
     flag met = entry[0] < d || (entry[0] == d && entry[1] < p);
-    words[3] = met ? peer[3] : !once_in(stopped);
-    if (!words[3])
+    words[AT_RUNNING] = met ? peer[AT_RUNNING] : !once_in(stopped);
+    if (!words[AT_RUNNING])
         return;
     u32 interrupts = once_in(4) ? 0xFFFFFFFF : random_word();
-    words[0] = entry[2] & 1 ? some_of(density) & interrupts : 0;
-    words[1] = entry[2] & 4 ? some_of(density) & ~interrupts : 0;
+    words[AT_INTERRUPTS] = entry[2] & 1 ? some_of(density) & interrupts : 0;
+    words[AT_ACKNOWLEDGES] = entry[2] & 4 ? some_of(density) & ~interrupts : 0;
 }
 
 void sound_state(struct plan *plan, struct state *state) {
@@ -68,15 +68,15 @@ static flag break_port(const u8 *entry, u32 *words, u32 clause) {
     u32 bit = 1u << pick(32);
     flag connected = entry[0] != 255;
     switch (clause) {
-    case 4: words[2] = out_of(32); return 1;
-    case 5: words[3] = out_of(2); return 1;
-    case 6: words[3] ^= 1; words[0] = words[1] = 0; return connected;
-    case 7: words[3] = 1; return !connected;
-    case 8: words[0] |= bit; words[1] |= bit; return words[3] && (entry[2] & 5) == 5;
-    case 9: words[0] |= bit; return !words[3];
-    case 10: words[1] |= bit; return !words[3];
-    case 11: words[0] |= bit; words[1] &= ~bit; return words[3] && !(entry[2] & 1);
-    default: words[1] |= bit; words[0] &= ~bit; return words[3] && !(entry[2] & 4);
+    case 4: words[AT_NEXT] = out_of(32); return 1;
+    case 5: words[AT_RUNNING] = out_of(2); return 1;
+    case 6: words[AT_RUNNING] ^= 1; words[AT_INTERRUPTS] = words[AT_ACKNOWLEDGES] = 0; return connected;
+    case 7: words[AT_RUNNING] = 1; return !connected;
+    case 8: words[AT_INTERRUPTS] |= bit; words[AT_ACKNOWLEDGES] |= bit; return words[AT_RUNNING] && (entry[2] & 5) == 5;
+    case 9: words[AT_INTERRUPTS] |= bit; return !words[AT_RUNNING];
+    case 10: words[AT_ACKNOWLEDGES] |= bit; return !words[AT_RUNNING];
+    case 11: words[AT_INTERRUPTS] |= bit; words[AT_ACKNOWLEDGES] &= ~bit; return words[AT_RUNNING] && !(entry[2] & 1);
+    default: words[AT_ACKNOWLEDGES] |= bit; words[AT_INTERRUPTS] &= ~bit; return words[AT_RUNNING] && !(entry[2] & 4);
     }
 }
 
@@ -84,11 +84,11 @@ static flag break_at(struct plan *plan, struct state *state, u32 clause) {
     u32 d = pick(DEVICES), p = pick(PORTS), value = once_in(2) ? 1 : 1u << pick(32);
     flag device = d < plan->bytes[1], port = device && p < device_block(plan, d)[3];
     if (clause == 13) {
-        device_words(state, d)[pick(33)] = value;
+        device_words(state, d)[pick(DEVICE_WORDS)] = value;
         return !device;
     }
     if (clause == 14) {
-        port_words(state, d, p)[pick(4)] = value;
+        port_words(state, d, p)[pick(PORT_WORDS)] = value;
         return !port;
     }
     if (clause < 4)

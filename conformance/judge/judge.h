@@ -12,7 +12,11 @@ typedef unsigned int u32;
 typedef unsigned long size;
 
 enum { DEVICES = 32, PORTS = 8, IDENTIFIERS = 32, BLOCK = 512, LONGEST_FILE = BLOCK * (1 + DEVICES) };
-enum { STATE_WORDS = 2080, SENT_WORDS = 256, TOLD_WORDS = 1056, TEXT_BYTES = 14347, MOST_ALLOWED = 4096 };
+enum { STATE_WORDS = 2080, SENT_WORDS = 256, TOLD_WORDS = 1056, TEXT_BYTES = 14347, MOST_ALLOWED = 4096, SENT_NONE = 256 };
+
+/* The words of a state. Of a device: the register and the timers. Behind all devices, of a port: these four. */
+enum { AT_INTERRUPTS, AT_ACKNOWLEDGES, AT_NEXT, AT_RUNNING, PORT_WORDS };
+enum { DEVICE_WORDS = 1 + IDENTIFIERS, FIRST_PORT = DEVICE_WORDS * DEVICES };
 
 /* Kinds of code. NOTHING is what waits, or is sent, where no code does. */
 enum kind { TIME_CODE, INTERRUPT, ACKNOWLEDGE, RESERVED, NOTHING };

@@ -2,7 +2,7 @@
  * what is sent comes from the old waiting sets only. */
 #include "judge.h"
 
-enum { TOLD_INTERRUPT = 1, TOLD_ACKNOWLEDGE = 2, TOLD_TIMEOUT = 3, SENT_NONE = 256 };
+enum { TOLD_INTERRUPT = 1, TOLD_ACKNOWLEDGE = 2, TOLD_TIMEOUT = 3 };
 
 /* A kind that the port may not send changes nothing: what waits of the other kind stays. */
 void queue(struct port *port, struct code code) {

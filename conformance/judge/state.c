@@ -1,8 +1,5 @@
-/* The state: how it starts, and how it stands in an area of 2,080 words. */
+/* The state: how it starts, and how it stands in an area of words. */
 #include "judge.h"
-
-/* Of a device: the register and the timers. Of a port: waiting interrupts, waiting acknowledges, next, running. */
-enum { DEVICE_WORDS = 1 + IDENTIFIERS, FIRST_PORT = DEVICE_WORDS * DEVICES, PORT_WORDS = 4 };
 
 static size device_at(u32 d) {
     return DEVICE_WORDS * d;
@@ -64,11 +61,11 @@ static flag waiting_read(struct port *port, u32 k, flag interrupt, flag acknowle
 }
 
 static flag port_read(struct port *port, const u32 *words) {
-    port->next = words[2];
-    port->running = words[3] == 1;
-    flag sound = words[2] < IDENTIFIERS && words[3] <= 1 && !(port->running && !port->peer);
+    port->next = words[AT_NEXT];
+    port->running = words[AT_RUNNING] == 1;
+    flag sound = words[AT_NEXT] < IDENTIFIERS && words[AT_RUNNING] <= 1 && !(port->running && !port->peer);
     for (u32 k = 0; k < IDENTIFIERS; k++)
-        sound &= waiting_read(port, k, words[0] >> k & 1, words[1] >> k & 1);
+        sound &= waiting_read(port, k, words[AT_INTERRUPTS] >> k & 1, words[AT_ACKNOWLEDGES] >> k & 1);
     return sound;
 }
 
@@ -122,9 +119,9 @@ void state_write(const struct network *net, u32 *words) {
             u32 *of_port = words + port_at(d, p);
             for (u32 k = 0; k < IDENTIFIERS; k++)
                 if (port->waiting[k] != NOTHING)
-                    of_port[port->waiting[k] == ACKNOWLEDGE] |= (u32)1 << k;
-            of_port[2] = port->next;
-            of_port[3] = port->running;
+                    of_port[port->waiting[k] == ACKNOWLEDGE ? AT_ACKNOWLEDGES : AT_INTERRUPTS] |= (u32)1 << k;
+            of_port[AT_NEXT] = port->next;
+            of_port[AT_RUNNING] = port->running;
         }
     }
 }
