@@ -1,12 +1,13 @@
 -- Each public function's promise allows one answer and one exit of the areas.
-use mathlib.Core.Path.{_≡_}
-use mathlib.Core.List.{List, _∷_}
+use mathlib.Core.Path.{_≡_, sym, _∙_}
+use mathlib.Core.List.{List, [], _∷_}
 use Prim.Native.Nat.{ℕ, _+_, _*_, _<_}
 use Rattle.answers.specs.Ordered.{ask, Ordered}
 use Rattle.answers.proofs.Unique.{ordered-once, outcome-once}
+use Rattle.plan.specs.declared.Core.{Core}
 use Rattle.plan.specs.declared.Plan.{Plan}
 use Rattle.state.specs.State.{State}
-use Rattle.calls.specs.Calls.{deviceAsks, ownAsks, sendAsks, callAsks, linkAsks, called, Takes, unlinked, Stops, linked, Links, reset, Resets}
+use Rattle.calls.specs.Calls.{deviceAsks, ownAsks, sendAsks, callAsks, linkAsks, called, calledIn, Takes, unlinked, Stops, linked, Links, reset, Resets}
 
 -- one number, and one state after the call
 abbrev pub Once : (State → ℕ → State → Type 0) → Type 0
@@ -33,3 +34,8 @@ own-refusal-unique mask k = ordered-once (ownAsks mask k)
 pub send-refusal-unique : (permissions : List ℕ) (kind d k : ℕ) (state : State) (r s : ℕ) → Ordered (ask 4 (d < 32) ∷ sendAsks permissions kind d k state) r
     → Ordered (ask 4 (d < 32) ∷ sendAsks permissions kind d k state) s → r ≡ s
 send-refusal-unique permissions kind d k state = ordered-once (ask 4 (d < 32) ∷ sendAsks permissions kind d k state)
+
+-- a call that is taken in any area
+pub take-unique : (core : Core) (kind d k : ℕ) (state a b : State) → ((peers : List (List ℕ)) → a ≡ calledIn (record { core = core; peers = peers }) kind d k state)
+    → ((peers : List (List ℕ)) → b ≡ calledIn (record { core = core; peers = peers }) kind d k state) → a ≡ b
+take-unique core kind d k state a b p q = p [] ∙ sym (q [])

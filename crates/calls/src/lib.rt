@@ -13,7 +13,7 @@ ghost use Rattle.state.specs.State.{words, running};
 ghost use Rattle.state.specs.Network.{peer};
 ghost use Rattle.state.specs.Queue.{sendsAt};
 ghost use Rattle.state.specs.Mark.{mark as Mark·mark};
-ghost use Rattle.calls.specs.Calls.{deviceAsks, ownAsks, sendAsks, callAsks, linkAsks, called, calledIn, Takes, halted, cleared, emptied, unlinked, linked, Stops, Links, Resets};
+ghost use Rattle.calls.specs.Calls.{deviceAsks, ownAsks, sendAsks, callAsks, linkAsks, calledIn, Takes, halted, cleared, emptied, unlinked, linked, Stops, Links, Resets};
 use plan::Core;
 use plan::NOBODY;
 use plan::Plan;
