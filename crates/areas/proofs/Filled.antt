@@ -48,23 +48,6 @@ module _ {A : Type 0} {m n : ℕ} {z : A} {f : ℕ → A} where
             ∙ set-table m (filling z f d) (filling z f (d + 1)) d v (omega arith) (simp (lt-ltb d (d + 1) (omega arith)) (sym e)) (λ k l q. other z f d k q);
       }
 
-  -- places whose values they began with
-  pub filled-still : {d e : ℕ} {out : List A} → Filled m n z f d out → d ≤ e → e ≤ n → ((k : ℕ) → d ≤ k → k < e → f k ≡ z) → Filled m n z f e out
-  filled-still {d} {e} p l h q =
-      record {
-        within = h;
-        room = p .room;
-        same = p .same ∙ same-table m (filling z f d) (filling z f e) (λ k b. by-place k);
-      }
-    where
-      by-place : (k : ℕ) → filling z f d k ≡ filling z f e k
-      by-place k =
-          dite (decLt k d)
-          (λ a. simp (lt-ltb k d a, lt-ltb k e (omega arith)))
-          (λ a. dite (decLt k e)
-          (λ b. simp (le-ltb k d (omega arith), lt-ltb k e b) (sym (q k (omega arith) b)))
-          (λ b. simp (le-ltb k d (omega arith), le-ltb k e (omega arith))))
-
   pub filled-all : {d : ℕ} {out : List A} → Filled m n z f d out → n ≤ d → out ≡ table m (filling z f n)
   filled-all {d} {out} p h =
       let e : d ≡ n = omega (arith, p .within) in p .same ∙ ap (λ (k : ℕ). table m (filling z f k)) e
