@@ -1,9 +1,3 @@
-pub mod Facts
-pub mod Filled
-pub mod Loops
 pub mod Puts
-pub mod Tables
-pub mod Tests
-pub mod Turns
 pub mod Unique
 pub mod Written

@@ -6,7 +6,7 @@ use Prim.Native.Nat.{ℕ, _+_}
 use lib.Dec.{leb}
 use lib.ListN.{length}
 use Rattle.areas.specs.Put.{Puts, copied}
-use Rattle.areas.specs.Table.{table}
+use Rattle.lists.specs.Table.{table}
 
 pub put-unique : {area : List ℕ} {at : ℕ} {word a b : List ℕ} {r s : ℕ} → Puts area at word a r → Puts area at word b s → (r ≡ s) × (a ≡ b)
 put-unique p q = (p .next ∙ sym (q .next), p .exit ∙ sym (q .exit))

@@ -6,8 +6,8 @@ use native.Mathlib.Omega.{arith}
 use lib.ListN.{length, getD, set, length-set}
 use lib.Seq.{getD-set-same, getD-set-other}
 use borrow.Author.Count.{below-more}
-use Rattle.areas.specs.Table.{table}
-use Rattle.areas.proofs.Tables.{is-table}
+use Rattle.lists.specs.Table.{table}
+use Rattle.lists.proofs.Tables.{is-table}
 
 -- the first i of its n words are those of f
 pub record Written (n : ℕ) (f : ℕ → ℕ) (area : List ℕ) (i : ℕ) : Type 0 where

@@ -1,3 +1,1 @@
-pub mod Loop
 pub mod Put
-pub mod Table

@@ -5,7 +5,7 @@ ghost use Prim.Native.Nat.{_+_};
 ghost use lib.Dec.{leb};
 ghost use lib.ListN.{length};
 ghost use Rattle.areas.specs.Put.{Puts, copied};
-ghost use Rattle.areas.specs.Table.{table};
+ghost use Rattle.lists.specs.Table.{table};
 
 // Puts the word at a place of the area, and answers the place after it. A word with no room for all
 // of it changes nothing, and the answer is the place itself.

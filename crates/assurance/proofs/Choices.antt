@@ -8,7 +8,7 @@ use native.Mathlib.Omega.{arith}
 use lib.Bits.{bitOr}
 use lib.ListN.{getD, List·getD-eq-default}
 use borrow.Author.Tests.{le-ltb}
-use Rattle.areas.proofs.Tables.{length-table, getD-table}
+use Rattle.lists.proofs.Tables.{length-table, getD-table}
 use Rattle.bits.specs.Set.{bit}
 use Rattle.bits.specs.First.{Finds, after}
 use Rattle.bits.specs.declared.Found.{Found}

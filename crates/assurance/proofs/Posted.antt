@@ -6,7 +6,7 @@ use Prim.Native.Nat.{ℕ, suc, _+_, _-_, _*_, _/_, _%_, _<_}
 use native.Mathlib.Decide.{ℕ-discrete}
 use native.Mathlib.Omega.{arith}
 use lib.ListN.{length}
-use Rattle.areas.proofs.Loops.{untouched, own}
+use Rattle.lists.proofs.Loops.{untouched, own}
 use Rattle.bits.specs.Set.{bit, leave}
 use Rattle.bits.specs.First.{following}
 use Rattle.bits.specs.declared.Found.{Found}

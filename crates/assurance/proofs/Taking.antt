@@ -8,8 +8,8 @@ use native.Mathlib.Omega.{arith}
 use lib.Dec.{eqb}
 use lib.ListN.{length}
 use borrow.Author.Tests.{eqb-true, eq-eqb, ne-eqb}
-use Rattle.areas.proofs.Loops.{keeps, hit}
-use Rattle.areas.proofs.Tests.{and-left, and-right, both}
+use Rattle.lists.proofs.Loops.{keeps, hit}
+use Rattle.lists.proofs.Tests.{and-left, and-right, both}
 use Rattle.bits.specs.Set.{bit, join, leave}
 use Rattle.bits.proofs.Sets.{join-same, leave-same}
 use Rattle.device.specs.Permissions.{maySend}

@@ -8,11 +8,11 @@ use native.Mathlib.Numerals.{add-one}
 use native.Mathlib.Omega.{arith}
 use lib.ListN.{length, take, drop, set, length-append, length-take, drop-of-length-le}
 use lib.Seq.{take-all, take-append-le, drop-cons, set-append-seam, set-out}
-use Rattle.areas.specs.Loop.{upTo}
-use Rattle.areas.proofs.Loops.{upTo-step, upTo-same, upTo-add, upTo-still}
+use Rattle.lists.specs.Loop.{upTo}
+use Rattle.lists.proofs.Loops.{upTo-step, upTo-same, upTo-add, upTo-still}
 use Rattle.state.specs.State.{State}
 use Rattle.bench.specs.Round.{World}
-use Rattle.bench.specs.Shown.{shown, Notes, Seen, seen, Shows, Follows}
+use Rattle.bench.specs.inner.Shown.{shown, Notes, Seen, seen, Shows, Follows}
 
 -- ---- the area
 

@@ -9,10 +9,10 @@ use native.Mathlib.Omega.{arith}
 use lib.ListN.{length, getD, replicate, length-replicate, getD-replicate, List·getD-eq-default}
 use lib.Seq.{ext-getD}
 use borrow.Author.Tests.{lt-ltb, le-ltb}
-use Rattle.areas.specs.Loop.{upTo}
-use Rattle.areas.specs.Table.{table}
-use Rattle.areas.proofs.Loops.{untouched}
-use Rattle.areas.proofs.Tables.{length-table, getD-table}
+use Rattle.lists.specs.Loop.{upTo}
+use Rattle.lists.specs.Table.{table}
+use Rattle.lists.proofs.Loops.{untouched}
+use Rattle.lists.proofs.Tables.{length-table, getD-table}
 use Rattle.bits.specs.Set.{bit}
 use Rattle.plan.specs.Fields.{nobody}
 use Rattle.plan.specs.Reading.{Held}
@@ -22,8 +22,8 @@ use Rattle.state.specs.State.{State, words, word, put, deviceWords, portsAt, re
 use Rattle.state.specs.Network.{devices, portsOf, exists, peer}
 use Rattle.state.specs.Sound.{Sound}
 use Rattle.bench.specs.Round.{World, nothing, sentWords, tick, sentBytes, arrives, round}
-use Rattle.bench.specs.Idle.{Rests, Unused, portsPast, Blank, Idles, Laid, Copies, Silent}
-use Rattle.bench.specs.Shown.{Seen, seen, Follows}
+use Rattle.bench.specs.inner.Idle.{Rests, Unused, portsPast, Blank, Idles, Laid, Copies, Silent}
+use Rattle.bench.specs.inner.Shown.{Seen, seen, Follows}
 use Rattle.bench.proofs.Ticks.{tick-other}
 use Rattle.state.proofs.Plans.{few, owned, absent-loose}
 use Rattle.state.proofs.Words.{word-past, length-put, word-same, word-other}

@@ -9,15 +9,15 @@ use lib.Seq.{take-all}
 use Rattle.answers.specs.Ordered.{Condition, Ordered}
 use Rattle.answers.proofs.Outcomes.{Holds, passed, stopped}
 use Rattle.areas.specs.Put.{over}
-use Rattle.areas.specs.Table.{table}
-use Rattle.areas.proofs.Tables.{length-table}
+use Rattle.lists.specs.Table.{table}
+use Rattle.lists.proofs.Tables.{length-table}
 use Rattle.plan.specs.Reading.{Held}
 use Rattle.plan.specs.declared.Plan.{Plan}
 use Rattle.state.specs.State.{State, words}
 use Rattle.state.specs.Sound.{stateAsks}
-use Rattle.bench.specs.Round.{Areas, sentWords, round}
+use Rattle.bench.specs.Round.{Areas, sentWords, round, areas}
 use Rattle.bench.specs.RoundCall.{toldWords, roundAsks, Plays}
-use Rattle.bench.specs.Shown.{shown, areas, Played}
+use Rattle.bench.specs.inner.Shown.{shown, Played}
 use Rattle.bench.proofs.ToldRoom.{told-fits}
 
 -- with room for all words

@@ -12,19 +12,19 @@ use borrow.Author.Count.{below-none, below-more}
 use Rattle.answers.specs.Decides.{Decides}
 use Rattle.answers.specs.Ordered.{Condition, Ordered}
 use Rattle.answers.proofs.Outcomes.{Holds, passed, stopped}
-use Rattle.areas.specs.Loop.{upTo}
+use Rattle.lists.specs.Loop.{upTo}
 use Rattle.areas.specs.Put.{copied}
-use Rattle.areas.specs.Table.{table}
-use Rattle.areas.proofs.Loops.{upTo-step}
+use Rattle.lists.specs.Table.{table}
+use Rattle.lists.proofs.Loops.{upTo-step}
 use Rattle.plan.specs.Reading.{Held}
 use Rattle.plan.specs.declared.Plan.{Plan}
 use Rattle.state.specs.State.{State, words, portAt, waiting}
 use Rattle.state.specs.Sound.{Sound, stateAsks}
 use Rattle.state.proofs.Keeping.{both-kinds}
 use Rattle.bench.specs.Round.{round}
-use Rattle.bench.specs.Idle.{Blank}
-use Rattle.bench.specs.Settling.{rounds, Quiet, Pair, mostRounds, settleAsks, Settles, Ends}
-use Rattle.bench.specs.Shown.{pair}
+use Rattle.bench.specs.inner.Idle.{Blank}
+use Rattle.bench.specs.Settling.{rounds, Quiet, Pair, mostRounds, settleAsks, Settles, pair}
+use Rattle.bench.specs.inner.Ends.{Ends}
 
 -- ---- whether a port waits
 

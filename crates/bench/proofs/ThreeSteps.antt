@@ -5,7 +5,7 @@ use Prim.Native.Nat.{ℕ}
 use Rattle.plan.specs.declared.Plan.{Plan}
 use Rattle.state.specs.State.{State}
 use Rattle.bench.specs.Round.{ticked, posted, sentBytes, reached, afterSending, round}
-use Rattle.bench.specs.Shown.{seen, Shows, Follows, Played}
+use Rattle.bench.specs.inner.Shown.{seen, Shows, Follows, Played}
 use Rattle.bench.proofs.Following.{shown-none, world}
 
 pub played-by : {plan : Plan} {old first second third last : State} {bytes before middle after : List ℕ} {n m : ℕ}

@@ -6,7 +6,7 @@ use mathlib.Core.Logic.{_≢_}
 use Prim.Native.Nat.{ℕ, zero, suc, _*_, _/_, _%_, _<_}
 use native.Mathlib.Omega.{arith}
 use lib.Dec.{eqb·suc-zero}
-use Rattle.areas.proofs.Loops.{keeps}
+use Rattle.lists.proofs.Loops.{keeps}
 use Rattle.bits.specs.Set.{bit, leave}
 use Rattle.bits.proofs.Sets.{bit-two, leave-same, leave-other, leave-lt}
 use Rattle.plan.specs.Reading.{Held}

@@ -8,10 +8,10 @@ use native.Mathlib.Omega.{arith}
 use lib.Dec.{eqb, ltb, leb}
 use lib.ListN.{length, getD, length-append, List·getD-eq-default}
 use borrow.Author.Tests.{ltb-true, ltb-false, eqb-true, lt-ltb, le-ltb}
-use Rattle.areas.specs.Loop.{upTo}
-use Rattle.areas.proofs.Facts.{facts}
-use Rattle.areas.proofs.Tables.{length-table}
-use Rattle.areas.proofs.Tests.{and-left}
+use Rattle.lists.specs.Loop.{upTo}
+use Rattle.lists.proofs.Facts.{facts}
+use Rattle.lists.proofs.Tables.{length-table}
+use Rattle.lists.proofs.Tests.{and-left}
 use Rattle.codes.specs.declared.Code.{Code}
 use Rattle.codes.specs.declared.Code.the-variants.{Time, Interrupt, Acknowledge, Reserved}
 use Rattle.device.specs.Reaction.{ruled, reactsTo, reacts}
@@ -21,7 +21,7 @@ use Rattle.device.specs.declared.Side.{Side}
 use Rattle.device.proofs.Rule.{ruled-cases}
 use Rattle.plan.specs.Fields.{portsFit, nobody}
 use Rattle.plan.specs.Reading.{Held}
-use Rattle.plan.specs.Memory.{portRight, deviceRight, rowRight}
+use Rattle.plan.specs.inner.Memory.{portRight, deviceRight, rowRight}
 use Rattle.plan.specs.declared.Plan.{Plan}
 use Rattle.plan.proofs.BothWays.{held-right, held-devices}
 use Rattle.plan.proofs.There.{right-says}

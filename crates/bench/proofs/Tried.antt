@@ -11,7 +11,7 @@ use borrow.Author.Tests.{eq-eqb}
 use borrow.Author.Count.{below-none, below-more}
 use Rattle.answers.specs.Ordered.{ask, Ordered}
 use Rattle.answers.proofs.Outcomes.{Holds, holds}
-use Rattle.areas.specs.Table.{table}
+use Rattle.lists.specs.Table.{table}
 use Rattle.bits.specs.Set.{bit}
 use Rattle.bits.proofs.Sets.{bit-two}
 use Rattle.plan.specs.Reading.{Held}
@@ -21,9 +21,9 @@ use Rattle.state.specs.Network.{devices, source}
 use Rattle.state.specs.Sound.{Sound}
 use Rattle.state.specs.Start.{startOf, begun, started}
 use Rattle.calls.specs.Calls.{deviceAsks, ownAsks, sendAsks, called}
-use Rattle.bench.specs.Settling.{rounds, Pair, mostRounds, after, Ends}
-use Rattle.bench.specs.Trials.{holders, requested, Answered, heldAfter, Tries, refused, settled, waiting, FoundAt, foundWords, Finds, Fits, TriesAll, placeAsks, lent}
-use Rattle.bench.specs.Shown.{pair}
+use Rattle.bench.specs.Settling.{rounds, Pair, mostRounds, after, pair}
+use Rattle.bench.specs.inner.Ends.{Ends, placeAsks}
+use Rattle.bench.specs.Trials.{holders, requested, Answered, heldAfter, Tries, refused, settled, waiting, FoundAt, foundWords, Finds, Fits, TriesAll, lent}
 use Rattle.calls.proofs.Asked.{call-foreign, call-answered}
 use Rattle.state.proofs.Started.{started-sound}
 use Rattle.calls.proofs.Called.{call-sound}

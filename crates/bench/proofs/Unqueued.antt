@@ -4,7 +4,7 @@ use mathlib.Core.Bool.{true}
 use Prim.Native.Nat.{ℕ, _*_, _≤_, _<_}
 use native.Mathlib.Omega.{arith}
 use lib.Bits.{bitOr, or-zero-l}
-use Rattle.areas.proofs.Loops.{keeps, untouched}
+use Rattle.lists.proofs.Loops.{keeps, untouched}
 use Rattle.bits.specs.Set.{leave}
 use Rattle.bits.specs.First.{Finds, following}
 use Rattle.bits.specs.declared.Found.{Found}

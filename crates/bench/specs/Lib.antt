@@ -2,5 +2,4 @@ pub mod Round
 pub mod RoundCall
 pub mod Settling
 pub mod Trials
-pub mod Shown
-pub mod Idle
+pub mod inner

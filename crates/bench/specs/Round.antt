@@ -5,8 +5,8 @@ use Prim.Native.Nat.{ℕ, zero, suc, _+_, _*_, _/_, _%_}
 use lib.Bits.{bitOr}
 use lib.Dec.{eqb, ltb}
 use lib.ListN.{getD}
-use Rattle.areas.specs.Loop.{upTo}
-use Rattle.areas.specs.Table.{table}
+use Rattle.lists.specs.Loop.{upTo}
+use Rattle.lists.specs.Table.{table}
 use Rattle.bits.specs.Set.{bit, leave}
 use Rattle.bits.specs.First.{firstFrom, following}
 use Rattle.bits.specs.declared.Found.{Found}
@@ -127,6 +127,9 @@ pub record Areas : Type 0 where
   pub next : State
   pub sent : List ℕ
   pub told : List ℕ
+
+abbrev pub areas : State → List ℕ → List ℕ → Areas
+areas next sent told = record { next = next; sent = sent; told = told }
 
 abbrev pub sentWords : ℕ
 sentWords = 256

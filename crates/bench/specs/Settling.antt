@@ -1,12 +1,11 @@
 -- RULES, "Settling": rounds until no port waits; the least number of them.
 use mathlib.Core.Path.{_≡_}
 use mathlib.Core.List.{List, [], _∷_, _++_}
-use mathlib.Core.Logic.{_⊎_}
 use Prim.Native.Nat.{ℕ, _≤_, _<_}
 use lib.ListN.{length}
 use Rattle.answers.specs.Ordered.{Condition, ask, Ordered}
-use Rattle.areas.specs.Loop.{upTo}
-use Rattle.areas.specs.Table.{table}
+use Rattle.lists.specs.Loop.{upTo}
+use Rattle.lists.specs.Table.{table}
 use Rattle.plan.specs.declared.Plan.{Plan}
 use Rattle.state.specs.State.{State, words, waiting}
 use Rattle.state.specs.Sound.{stateAsks}
@@ -30,6 +29,9 @@ pub record Pair : Type 0 where
   pub state : State
   pub second : List ℕ
 
+abbrev pub pair : State → List ℕ → Pair
+pair state second = record { state = state; second = second }
+
 -- the most rounds that may be allowed
 abbrev pub mostRounds : ℕ
 mostRounds = 4096
@@ -52,10 +54,3 @@ pub record Settles (plan : Plan) (before : Pair) (allowance number value : ℕ) 
   pub made : number ≡ 0 → Least plan (before .state) value × (now ≡ after plan (before .state) value)
   pub still : number ≡ 12 → (value ≡ allowance) × (now ≡ after plan (before .state) allowance)
   pub kept : (number ≡ 0 → ⊥) → (number ≡ 12 → ⊥) → (value ≡ 0) × (now ≡ before)
-
--- ---- no rules: what settling comes to where nothing is refused
-
-abbrev pub Ends : Plan → State → ℕ → ℕ → ℕ → Pair → Type 0
-Ends plan s allowance number value now =
-    ((number ≡ 0) × (value ≤ allowance) × Least plan s value × (now ≡ after plan s value))
-    ⊎ ((number ≡ 12) × (value ≡ allowance) × ((n : ℕ) → n ≤ allowance → Quiet (rounds plan n s) → ⊥) × (now ≡ after plan s allowance))

@@ -4,14 +4,14 @@ use mathlib.Core.List.{List, [], _∷_}
 use Prim.Native.Nat.{ℕ, zero, suc, _+_, _*_, _/_, _%_, _≤_, _<_}
 use lib.ListN.{length, getD}
 use Rattle.answers.specs.Ordered.{Condition, ask, Ordered}
-use Rattle.areas.specs.Table.{table}
+use Rattle.lists.specs.Table.{table}
 use Rattle.bits.specs.Set.{bit}
 use Rattle.plan.specs.Reading.{Held}
 use Rattle.plan.specs.declared.Plan.{Plan}
 use Rattle.state.specs.State.{State, words, register}
 use Rattle.state.specs.Network.{devices}
 use Rattle.state.specs.Start.{started}
-use Rattle.calls.specs.Calls.{called, callAsks, ownAsks}
+use Rattle.calls.specs.Calls.{called, callAsks}
 use Rattle.bench.specs.Settling.{rounds, Quiet, Least, mostRounds}
 
 -- how many of the first n devices hold identifier k
@@ -58,6 +58,9 @@ pub record Lent : Type 0 where
   pub second : List ℕ
   pub found : List ℕ
 
+abbrev pub lent : List ℕ → List ℕ → List ℕ → Lent
+lent state second found = record { state = state; second = second; found = found }
+
 -- their lengths are right
 abbrev pub Fits : ℕ → ℕ → ℕ → Type 0
 Fits state second found = (state ≡ words) × (second ≡ words) × (found ≡ foundWords)
@@ -71,12 +74,3 @@ pub record TriesAll (plan : Plan) (before : Lent) (number : ℕ) (after : Lent) 
   pub answers : Ordered (trialsAsks plan before) number
   pub made : number ≡ 0 → Finds plan (after .found) × (after .state ≡ table words (λ i. 0)) × (after .second ≡ table words (λ i. 0))
   pub kept : (number ≡ 0 → ⊥) → after ≡ before
-
--- ---- no rules: what the private functions say on the way
-
--- what the plan alone asks of a place: the device is one of n, and the mask has the identifier
-abbrev pub placeAsks : ℕ → ℕ → ℕ → ℕ → List Condition
-placeAsks n d mask k = ask 4 (d < n) ∷ ownAsks mask k
-
-abbrev pub lent : List ℕ → List ℕ → List ℕ → Lent
-lent state second found = record { state = state; second = second; found = found }

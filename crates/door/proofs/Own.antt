@@ -5,13 +5,11 @@ use mathlib.Core.Logic.{inl, inr}
 use Prim.Native.Nat.{ℕ}
 use native.Mathlib.Omega.{arith}
 use lib.ListN.{length}
-use Rattle.areas.proofs.Tables.{length-table}
+use Rattle.lists.proofs.Tables.{length-table}
 use Rattle.plan.specs.declared.Plan.{Plan}
 use Rattle.state.specs.State.{State, words}
-use Rattle.bench.specs.Settling.{Pair, Settles}
-use Rattle.bench.specs.Shown.{pair}
-use Rattle.report.specs.Report.{Areas, Reports}
-use Rattle.report.specs.Pieces.{lent}
+use Rattle.bench.specs.Settling.{Pair, Settles, pair}
+use Rattle.report.specs.Report.{Areas, Reports, lent}
 use Rattle.door.specs.Own.{own, SettlesOwn, ReportsOwn}
 
 own-long : length own ≡ words

@@ -15,13 +15,11 @@ use Rattle.calls.specs.Calls.{Takes, Stops, Links, Resets}
 use Rattle.calls.proofs.Unique.{Once, call-unique, link-stop-unique, link-start-unique, reset-unique}
 use Rattle.bench.specs.Round.{Areas}
 use Rattle.bench.specs.RoundCall.{Plays}
-use Rattle.bench.specs.Settling.{Pair}
-use Rattle.bench.specs.Shown.{pair}
+use Rattle.bench.specs.Settling.{Pair, pair}
 use Rattle.bench.proofs.Unique.{round-unique, settle-unique}
 use Rattle.reach.specs.Reach.{Reaches}
 use Rattle.reach.proofs.Unique.{reach-unique}
-use Rattle.report.specs.Report.{Areas as Texts}
-use Rattle.report.specs.Pieces.{lent}
+use Rattle.report.specs.Report.{Areas as Texts, lent}
 use Rattle.report.proofs.Unique.{report-unique}
 use Rattle.door.specs.Numbers.{kindOf, valueOf, codeOf, actionOf, sideOf, planIn}
 use Rattle.door.specs.Own.{own, SettlesOwn, ReportsOwn}

@@ -9,7 +9,7 @@ ghost use Rattle.plan.specs.Refusals.{verdict};
 ghost use Rattle.state.specs.Start.{Starts};
 ghost use Rattle.calls.specs.Calls.{Takes, Stops, Links, Resets};
 ghost use Rattle.bench.specs.RoundCall.{Plays};
-ghost use Rattle.bench.specs.Shown.{areas};
+ghost use Rattle.bench.specs.Round.{areas};
 ghost use Rattle.reach.specs.Reach.{Reaches};
 ghost use Rattle.door.specs.Numbers.{kindOf, valueOf, codeOf, actionOf, sideOf, planIn};
 ghost use Rattle.door.specs.Own.{SettlesOwn, ReportsOwn};

@@ -9,8 +9,8 @@ use native.Mathlib.Omega.{arith}
 use lib.Dec.{eqb}
 use lib.ListN.{length, getD}
 use borrow.Author.Tests.{lt-ltb}
-use Rattle.areas.proofs.Loops.{keeps, keeps-both}
-use Rattle.areas.proofs.Tables.{getD-table}
+use Rattle.lists.proofs.Loops.{keeps, keeps-both}
+use Rattle.lists.proofs.Tables.{getD-table}
 use Rattle.bits.specs.Set.{bit, join, leave}
 use Rattle.bits.specs.declared.Found.{Found}
 use Rattle.bits.specs.declared.Found.the-variants.{At, Nowhere}

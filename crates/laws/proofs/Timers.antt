@@ -7,8 +7,8 @@ use Prim.Native.Nat.{ℕ, zero, suc, _+_, _-_, _*_, _/_, _%_, _≤_, _<_}
 use native.Mathlib.Decide.{ℕ-discrete}
 use native.Mathlib.Omega.{arith}
 use lib.ListN.{length, getD}
-use Rattle.areas.specs.Loop.{upTo}
-use Rattle.areas.proofs.Loops.{keeps, keeps-from, untouched, own, came}
+use Rattle.lists.specs.Loop.{upTo}
+use Rattle.lists.proofs.Loops.{keeps, keeps-from, untouched, own, came}
 use Rattle.bits.specs.Set.{bit, leave}
 use Rattle.bits.proofs.Sets.{bit-two}
 use Rattle.codes.specs.Codes.{byteOf}

@@ -8,14 +8,14 @@ use native.Mathlib.Decide.{decLt}
 use native.Mathlib.Omega.{arith}
 use lib.Dec.{eqb, ltb}
 use lib.ListN.{List·getD-eq-default}
-use Rattle.areas.specs.Table.{table}
-use Rattle.areas.proofs.Tables.{length-table, getD-table}
+use Rattle.lists.specs.Table.{table}
+use Rattle.lists.proofs.Tables.{length-table, getD-table}
 use Rattle.plan.specs.Block.{block}
 use Rattle.plan.specs.Fields.{entry, nobody, peerIn}
 use Rattle.plan.specs.Refusals.{deviceBlock, countIn, peerOf, verdict, accepts}
 use Rattle.plan.specs.Reading.{column, planOf}
-use Rattle.plan.specs.Memory.{at, right}
-use Rattle.plan.specs.File.{fileOf}
+use Rattle.plan.specs.inner.Memory.{at, right}
+use Rattle.plan.specs.inner.File.{fileOf}
 use Rattle.plan.proofs.Shape.{Numbers, Shaped}
 use Rattle.plan.proofs.Good.{Good, good}
 use Rattle.plan.proofs.Runs.{block-bytes}

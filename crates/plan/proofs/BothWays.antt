@@ -9,15 +9,15 @@ use native.Mathlib.Omega.{arith}
 use lib.Dec.{eqb, leb, ltb}
 use lib.ListN.{length, getD, List·getD-eq-default}
 use borrow.Author.Tests.{ltb-true, eqb-true, eq-eqb, ne-eqb}
-use Rattle.areas.proofs.Facts.{facts}
-use Rattle.areas.proofs.Tests.{and-left, and-right}
+use Rattle.lists.proofs.Facts.{facts}
+use Rattle.lists.proofs.Tests.{and-left, and-right}
 use Rattle.plan.specs.Fields.{portsFit, masksFit, nobody}
 use Rattle.plan.specs.Header.{headerOf}
 use Rattle.plan.specs.Refusals.{Test, test, Verdict, accepts, first, tests, verdict}
 use Rattle.plan.specs.Reading.{planOf, Accepted, Held, zeros}
 use Rattle.plan.specs.declared.Plan.{Plan}
-use Rattle.plan.specs.Memory.{portRight, deviceRight, rowRight, right}
-use Rattle.plan.specs.File.{fileOf}
+use Rattle.plan.specs.inner.Memory.{portRight, deviceRight, rowRight, right}
+use Rattle.plan.specs.inner.File.{fileOf}
 use Rattle.plan.proofs.Firsts.{fails}
 use Rattle.plan.proofs.Shape.{Shaped}
 use Rattle.plan.proofs.Good.{devices-fit, header-says, zero-accepts}

@@ -6,8 +6,8 @@ use native.Mathlib.Omega.{arith}
 use lib.Dec.{eqb}
 use borrow.Author.Count.{below-more}
 use borrow.Author.Tests.{eq-eqb, ne-eqb}
-use Rattle.areas.specs.Table.{joined, every}
-use Rattle.areas.proofs.Tests.{every-at}
+use Rattle.lists.specs.Table.{joined, every}
+use Rattle.lists.proofs.Tests.{every-at}
 use Rattle.plan.specs.Fields.{joins}
 use Rattle.plan.specs.Refusals.{first, joinTests}
 use Rattle.plan.proofs.Firsts.{AllPass, all-joined, all-table, stops-joined, stops-table, first-accepts, first-stops}

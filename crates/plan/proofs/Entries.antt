@@ -7,12 +7,12 @@ use Prim.Native.Nat.{ℕ, _+_, _*_, _/_, _%_, _≤_, _<_}
 use native.Mathlib.Omega.{arith}
 use lib.Dec.{eqb, ltb, leb}
 use borrow.Author.Tests.{ltb-true, lt-ltb, le-ltb, ne-eqb}
-use Rattle.areas.proofs.Tests.{or-cases, or-left, or-right}
+use Rattle.lists.proofs.Tests.{or-cases, or-left, or-right}
 use Rattle.plan.specs.Block.{byte}
 use Rattle.plan.specs.Fields.{portsIn, entry, unconnected, connected, entryFits, nobody, peerIn}
-use Rattle.plan.specs.Memory.{portRight}
-use Rattle.plan.specs.File.{entryNumbers}
-use Rattle.areas.proofs.Facts.{facts}
+use Rattle.plan.specs.inner.Memory.{portRight}
+use Rattle.plan.specs.inner.File.{entryNumbers}
+use Rattle.lists.proofs.Facts.{facts}
 
 -- port p of a device with so many ports, of n devices: the four bytes e of its entry, its peer and its permissions
 pub data Port (n ports p : ℕ) (e : ℕ → ℕ) (peer permissions : ℕ) : Type 0 where

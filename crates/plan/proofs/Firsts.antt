@@ -6,7 +6,7 @@ use mathlib.Core.Logic.{_⊎_, inl, inr}
 use Prim.Native.Nat.{ℕ, zero, suc, _<_}
 use native.Mathlib.Decide.{ℕ-discrete}
 use native.Mathlib.Omega.{arith}
-use Rattle.areas.specs.Table.{table, joined}
+use Rattle.lists.specs.Table.{table, joined}
 use Rattle.plan.specs.Refusals.{Test, Verdict, accepts, first}
 
 -- every test is passed

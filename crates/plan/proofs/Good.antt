@@ -5,13 +5,13 @@ use mathlib.Core.List.{List, _++_}
 use Prim.Native.Nat.{ℕ, _+_, _*_, _≤_, _<_}
 use native.Mathlib.Omega.{arith}
 use lib.ListN.{length, getD}
-use Rattle.areas.specs.Table.{joined}
+use Rattle.lists.specs.Table.{joined}
 use Rattle.plan.specs.Block.{block, numberIn, restZero, checked, kindField}
 use Rattle.plan.specs.Fields.{devicesFit, loadsFit, numberField, deviceFields, roleIn, portsIn, sourceIn, handlerIn, portsFit, masksFit, entryFits, deviceFits, joins}
 use Rattle.plan.specs.Header.{headerFields, headerIn, headerFits}
 use Rattle.plan.specs.Refusals.{Test, test, accepts, lengthFits, headerTests, deviceTests, joinTests, deviceBlock, countIn, portsOf, peerOf, tests, verdict}
 use Rattle.plan.specs.declared.Header.{Header}
-use Rattle.areas.proofs.Facts.{facts}
+use Rattle.lists.proofs.Facts.{facts}
 use Rattle.plan.proofs.Firsts.{AllPass, Numbered, first-accepts, accepts-all, all-append, all-front, all-back, all-joined, all-at, all-table, all-table-at, numbered-append, numbered-joined, numbered-table}
 
 -- ---- the facts

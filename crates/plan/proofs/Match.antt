@@ -9,8 +9,8 @@ use native.Mathlib.Omega.{arith}
 use lib.Dec.{ltb}
 use lib.ListN.{length, getD}
 use borrow.Author.Tests.{lt-ltb, le-ltb}
-use Rattle.areas.specs.Table.{table, joined}
-use Rattle.areas.proofs.Tables.{getD-table, is-table, same-joined}
+use Rattle.lists.specs.Table.{table, joined}
+use Rattle.lists.proofs.Tables.{getD-table, is-table, same-joined}
 use Rattle.plan.specs.Block.{block}
 use Rattle.plan.specs.Fields.{roleIn, portsIn, sourceIn, handlerIn, entry, nobody, peerIn, joins}
 use Rattle.plan.specs.Refusals.{deviceBlock, countIn, portsOf, peerOf}
@@ -18,9 +18,9 @@ use Rattle.plan.specs.Header.{headerIn, headerOf, headerFits, coreWith}
 use Rattle.plan.specs.Reading.{column, planOf}
 use Rattle.plan.specs.declared.Header.{Header}
 use Rattle.plan.specs.declared.Plan.{Plan}
-use Rattle.plan.specs.Memory.{at, peerAt, rowRight, right}
-use Rattle.plan.specs.File.{fileOf}
-use Rattle.areas.proofs.Facts.{facts}
+use Rattle.plan.specs.inner.Memory.{at, peerAt, rowRight, right}
+use Rattle.plan.specs.inner.File.{fileOf}
+use Rattle.lists.proofs.Facts.{facts}
 use Rattle.plan.proofs.Shape.{Shaped}
 use Rattle.plan.proofs.Good.{Good, GoodDevice, devices-fit, header-says}
 use Rattle.plan.proofs.Rows.{Says, Row, absent-right, row-right, read-header, read-device}

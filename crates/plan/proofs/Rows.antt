@@ -6,16 +6,16 @@ use Prim.Native.Nat.{ℕ, zero, suc, _+_, _*_, _≤_, _<_}
 use native.Mathlib.Omega.{arith}
 use lib.ListN.{length}
 use borrow.Author.Tests.{lt-ltb, le-ltb}
-use Rattle.areas.specs.Table.{table, joined}
-use Rattle.areas.proofs.Tables.{is-table}
+use Rattle.lists.specs.Table.{table, joined}
+use Rattle.lists.proofs.Tables.{is-table}
 use Rattle.plan.specs.Block.{byte}
 use Rattle.plan.specs.Fields.{devicesFit, deviceFields, roleIn, portsIn, sourceIn, handlerIn, entryFields, entry, nobody, peerIn}
 use Rattle.plan.specs.Header.{headerFields, headerIn, headerOf, headerFits}
 use Rattle.plan.specs.declared.Core.{Core}
 use Rattle.plan.specs.declared.Header.{Header}
-use Rattle.plan.specs.Memory.{at, peerAt, deviceRight, rowRight}
-use Rattle.plan.specs.File.{Holding, holdings, blockOf, headerHoldings, entryNumbers, ownHoldings, deviceHoldings}
-use Rattle.areas.proofs.Facts.{facts}
+use Rattle.plan.specs.inner.Memory.{at, peerAt, deviceRight, rowRight}
+use Rattle.plan.specs.inner.File.{Holding, holdings, blockOf, headerHoldings, entryNumbers, ownHoldings, deviceHoldings}
+use Rattle.lists.proofs.Facts.{facts}
 use Rattle.plan.proofs.Shape.{Numbers}
 use Rattle.plan.proofs.Good.{GoodHeader, GoodDevice}
 use Rattle.plan.proofs.Bytes.{Bytes}

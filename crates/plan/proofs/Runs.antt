@@ -8,8 +8,8 @@ use native.Mathlib.Nat.{mul-suc, mul-zero, mul-le-mul-left}
 use native.Mathlib.Omega.{arith}
 use lib.ListN.{length, getD, take, drop, length-drop, length-take, List·getD-eq-default}
 use lib.Seq.{take-add, take-all, take-at, drop-at, take-append-le, drop-append-le, drop-append-add, drop-drop, getD-take, getD-drop, length-take-le}
-use Rattle.areas.specs.Table.{joined}
-use Rattle.areas.proofs.Tables.{length-joined, same-joined}
+use Rattle.lists.specs.Table.{joined}
+use Rattle.lists.proofs.Tables.{length-joined, same-joined}
 use Rattle.plan.specs.Block.{block}
 
 -- n runs of m

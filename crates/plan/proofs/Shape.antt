@@ -4,7 +4,7 @@ use mathlib.Core.List.{List, []}
 use Prim.Native.Nat.{ℕ, _<_}
 use lib.ListN.{length, getD}
 use Rattle.plan.specs.declared.Plan.{Plan}
-use Rattle.plan.specs.Memory.{at}
+use Rattle.plan.specs.inner.Memory.{at}
 
 -- so many numbers, each below a bound
 pub record Numbers (l : List ℕ) (size bound : ℕ) : Type 0 where

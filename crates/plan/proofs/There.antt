@@ -8,9 +8,9 @@ use native.Mathlib.Decide.{decLt}
 use native.Mathlib.Omega.{arith}
 use lib.ListN.{length, length-append}
 use borrow.Author.Tests.{lt-ltb, le-ltb}
-use Rattle.areas.specs.Table.{joined}
-use Rattle.areas.proofs.Tables.{length-joined}
-use Rattle.areas.proofs.Tests.{and-left}
+use Rattle.lists.specs.Table.{joined}
+use Rattle.lists.proofs.Tables.{length-joined}
+use Rattle.lists.proofs.Tests.{and-left}
 use Rattle.plan.specs.Block.{block}
 use Rattle.plan.specs.Fields.{loadsFit, joins}
 use Rattle.plan.specs.Header.{headerIn, headerOf, headerFits}
@@ -18,9 +18,9 @@ use Rattle.plan.specs.Refusals.{deviceBlock, countIn}
 use Rattle.plan.specs.Reading.{Accepted}
 use Rattle.plan.specs.declared.Header.{Header}
 use Rattle.plan.specs.declared.Plan.{Plan}
-use Rattle.plan.specs.Memory.{at, peerAt, rowRight, right}
-use Rattle.plan.specs.File.{blockOf, headerHoldings, deviceHoldings, fileOf}
-use Rattle.areas.proofs.Facts.{facts}
+use Rattle.plan.specs.inner.Memory.{at, peerAt, rowRight, right}
+use Rattle.plan.specs.inner.File.{blockOf, headerHoldings, deviceHoldings, fileOf}
+use Rattle.lists.proofs.Facts.{facts}
 use Rattle.plan.proofs.Shape.{Shaped}
 use Rattle.plan.proofs.Good.{Good, GoodDevice, devices-fit, header-says, accepted}
 use Rattle.plan.proofs.Bytes.{Bytes, bytes-append, bytes-joined}

@@ -4,7 +4,7 @@ use mathlib.Core.Bool.{Bool}
 use mathlib.Core.List.{List, []}
 use Prim.Native.Nat.{ℕ, min}
 use lib.ListN.{getD}
-use Rattle.areas.specs.Table.{joined}
+use Rattle.lists.specs.Table.{joined}
 use Rattle.plan.specs.Fields.{devicesFit, loadsFit, portsFit, masksFit}
 use Rattle.plan.specs.Refusals.{first, joinTests}
 use Rattle.answers.specs.Decides.{Decides}

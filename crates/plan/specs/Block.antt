@@ -4,7 +4,7 @@ use mathlib.Core.List.{List, [], _∷_}
 use Prim.Native.Nat.{ℕ, zero, suc, _+_, _*_, _%_}
 use lib.Dec.{eqb, ltb, leb}
 use lib.ListN.{getD, take, drop}
-use Rattle.areas.specs.Table.{every}
+use Rattle.lists.specs.Table.{every}
 
 -- block b of a file
 unfoldable pub block : List ℕ → ℕ → List ℕ

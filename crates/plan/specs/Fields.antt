@@ -4,7 +4,7 @@ use mathlib.Core.List.{List, [], _∷_, _++_}
 use Prim.Native.Nat.{ℕ, _+_, _*_, _/_, _%_}
 use lib.Bits.{bitAnd}
 use lib.Dec.{eqb, ltb, leb}
-use Rattle.areas.specs.Table.{every, joined}
+use Rattle.lists.specs.Table.{every, joined}
 use Rattle.plan.specs.Block.{Field, field, numberIn, kindField}
 
 -- ---- block 0

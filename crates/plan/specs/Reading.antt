@@ -5,7 +5,7 @@ use mathlib.Core.List.{List}
 use Prim.Native.Nat.{ℕ, _/_, _%_, _<_}
 use lib.Dec.{eqb, ltb}
 use lib.ListN.{getD, replicate}
-use Rattle.areas.specs.Table.{table}
+use Rattle.lists.specs.Table.{table}
 use Rattle.plan.specs.Block.{block}
 use Rattle.plan.specs.Fields.{roleIn, sourceIn, handlerIn, entry, nobody}
 use Rattle.plan.specs.Header.{headerIn, noHeader, coreWith}

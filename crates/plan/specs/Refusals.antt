@@ -4,7 +4,7 @@ use mathlib.Core.List.{List, [], _∷_, _++_}
 use Prim.Native.Nat.{ℕ, _+_, _*_, _%_}
 use lib.Dec.{eqb, leb}
 use lib.ListN.{length}
-use Rattle.areas.specs.Table.{table, joined}
+use Rattle.lists.specs.Table.{table, joined}
 use Rattle.plan.specs.Block.{block, numberIn, restZero, checked, kindField}
 use Rattle.plan.specs.Fields.{numberField, deviceFields, portsIn, deviceFits, peerIn, joins}
 use Rattle.plan.specs.Header.{devicesField, headerFields, headerIn, headerFits}

@@ -3,7 +3,7 @@ ghost use mathlib.Core.Path.{_≡_};
 ghost use mathlib.Core.List.{[]};
 ghost use Prim.Native.Nat.{_<_, min};
 ghost use lib.ListN.{length, getD};
-ghost use Rattle.areas.specs.Table.{joined};
+ghost use Rattle.lists.specs.Table.{joined};
 ghost use Rattle.plan.specs.Fields.{joins as Fields·joins};
 ghost use Rattle.plan.specs.Refusals.{first, joinTests};
 

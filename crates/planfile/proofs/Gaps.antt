@@ -8,11 +8,11 @@ use native.Mathlib.Decide.{decLt}
 use native.Mathlib.Omega.{arith}
 use lib.Dec.{ltb, leb}
 use borrow.Author.Tests.{lt-ltb, le-ltb, lt-leb, le-leb}
-use Rattle.areas.proofs.Facts.{facts}
-use Rattle.areas.proofs.Tests.{and-left, and-right, both}
+use Rattle.lists.proofs.Facts.{facts}
+use Rattle.lists.proofs.Tests.{and-left, and-right, both}
 use Rattle.plan.specs.Block.{byte, Field, lies, liesIn, restZero}
 use Rattle.plan.proofs.Holdings.{ascends, Ascends, ascending, in-block, before-all, or-false, rest-at, rest-all}
-use Rattle.planfile.specs.Zeros.{zerosIn}
+use Rattle.planfile.specs.inner.Zeros.{zerosIn}
 
 -- the runs between fields, from a place on up to byte 510, are zero; fields that touch have none between them
 abbrev pub gapsZero : ℕ → List Field → List ℕ → Bool

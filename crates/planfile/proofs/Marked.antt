@@ -2,7 +2,7 @@
 use mathlib.Core.Path.{_≡_, refl}
 use mathlib.Core.List.{List, [], _∷_, _++_}
 use Prim.Native.Nat.{ℕ, zero, suc}
-use Rattle.areas.specs.Table.{table, joined}
+use Rattle.lists.specs.Table.{table, joined}
 use Rattle.plan.specs.Refusals.{Test, Verdict, first}
 use Rattle.plan.proofs.Firsts.{AllPass, Stops, here, later}
 

@@ -9,8 +9,8 @@ use native.Mathlib.Omega.{arith}
 use lib.Dec.{ltb}
 use lib.ListN.{replicate, length-replicate, getD-replicate}
 use borrow.Author.Tests.{lt-ltb, le-ltb}
-use Rattle.areas.specs.Table.{table}
-use Rattle.areas.proofs.Tables.{is-table, same-table}
+use Rattle.lists.specs.Table.{table}
+use Rattle.lists.proofs.Tables.{is-table, same-table}
 use Rattle.plan.specs.Block.{block}
 use Rattle.plan.specs.Fields.{roleIn, sourceIn, handlerIn, entry, nobody, peerIn}
 use Rattle.plan.specs.Header.{headerIn, coreWith}
@@ -19,7 +19,7 @@ use Rattle.plan.specs.Reading.{column, planOf}
 use Rattle.plan.specs.declared.Core.{Core}
 use Rattle.plan.specs.declared.Header.{Header}
 use Rattle.plan.specs.declared.Plan.{Plan}
-use Rattle.areas.proofs.Filled.{filling}
+use Rattle.lists.proofs.Filled.{filling}
 
 pub same-plan : {p q : Plan} → p .core ≡ q .core → p .peers ≡ q .peers → p ≡ q
 same-plan e g = ap₂ (λ c ps. record { core = c; peers = ps }) e g

@@ -7,8 +7,8 @@ use Prim.Native.Nat.{ℕ, _+_, _*_, _≤_, _<_, min}
 use native.Mathlib.Omega.{arith}
 use lib.ListN.{length, getD}
 use borrow.Author.Tests.{ne-eqb, eqb-true}
-use Rattle.areas.specs.Table.{joined, every}
-use Rattle.areas.proofs.Tests.{and-right, every-at}
+use Rattle.lists.specs.Table.{joined, every}
+use Rattle.lists.proofs.Tests.{and-right, every-at}
 use Rattle.plan.specs.Block.{block}
 use Rattle.plan.specs.Fields.{portsFit, masksFit, roleIn, portsIn, sourceIn, handlerIn, entryFits, deviceFits}
 use Rattle.plan.specs.Refusals.{Test, Verdict, accepts, first, deviceTests, joinTests, deviceBlock, countIn, portsOf, peerOf, tests, verdict}
@@ -18,7 +18,7 @@ use Rattle.plan.specs.declared.Plan.{Plan}
 use Rattle.plan.specs.declared.Read.{Read}
 use Rattle.plan.proofs.Firsts.{AllPass, Numbered, Stops, passes-or-stops, first-accepts, first-stops, accepts-all, all-front, all-back, all-at, stops-front, numbered-append, numbered-joined}
 use Rattle.planfile.specs.declared.reader.Place.{Place}
-use Rattle.planfile.specs.Scan.{ofDevice, scanTests, scanned}
+use Rattle.planfile.specs.inner.Scan.{ofDevice, scanTests, scanned}
 use Rattle.planfile.proofs.SameConnections.{Leads, entry-leads, same-tests, devices-held, ports-held, peer-held}
 use Rattle.planfile.proofs.Marked.{Each, stops-each, each-joined, each-table, first-behind}
 use Rattle.planfile.proofs.Scans.{header, long, counted, devices, few, header-numbered, device-numbered}

@@ -9,9 +9,9 @@ use native.Mathlib.Omega.{arith}
 use lib.Dec.{eqb, ltb, leb}
 use lib.ListN.{getD}
 use borrow.Author.Tests.{lt-ltb, ltb-true, eq-eqb, ne-eqb}
-use Rattle.areas.specs.Table.{joined}
-use Rattle.areas.proofs.Tables.{getD-table, same-table, same-joined}
-use Rattle.areas.proofs.Tests.{and-left, and-right, or-cases}
+use Rattle.lists.specs.Table.{joined}
+use Rattle.lists.proofs.Tables.{getD-table, same-table, same-joined}
+use Rattle.lists.proofs.Tests.{and-left, and-right, or-cases}
 use Rattle.plan.specs.Fields.{entry, portsIn, peerIn, nobody, unconnected, connected, entryFits, joins}
 use Rattle.plan.specs.Refusals.{test, joinTests, countIn, portsOf, peerOf}
 use Rattle.plan.specs.Reading.{column, planOf}

@@ -10,14 +10,14 @@ use lib.Dec.{eqb}
 use lib.ListN.{length, take, drop}
 use borrow.Author.Count.{below-more}
 use borrow.Author.Tests.{lt-ltb, leb-true, eq-eqb, ne-eqb}
-use Rattle.areas.specs.Table.{joined}
-use Rattle.areas.proofs.Tests.{and-left}
+use Rattle.lists.specs.Table.{joined}
+use Rattle.lists.proofs.Tests.{and-left}
 use Rattle.plan.specs.Block.{block}
 use Rattle.plan.specs.Header.{headerIn}
 use Rattle.plan.specs.Refusals.{Test, test, Verdict, first, lengthFits, headerTests, deviceTests, deviceBlock, countIn}
 use Rattle.plan.proofs.Firsts.{AllPass, Stops, here, Numbered, passes-or-stops, first-stops, first-accepts, accepts-all, stops-front, stops-back, all-append, all-joined, stops-joined}
 use Rattle.plan.proofs.Good.{devices-fit, header-says}
-use Rattle.planfile.specs.Scan.{ofDevice, blockTests, refusalIn, placeOf, deviceScan, scanTests, scanned}
+use Rattle.planfile.specs.inner.Scan.{ofDevice, blockTests, refusalIn, placeOf, deviceScan, scanTests, scanned}
 use Rattle.planfile.specs.declared.reader.Place.{Place}
 use Rattle.planfile.proofs.Marked.{Each, stops-each, first-behind}
 

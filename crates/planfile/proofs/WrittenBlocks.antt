@@ -6,10 +6,10 @@ use native.Mathlib.Numerals.{add-one}
 use native.Mathlib.Omega.{arith}
 use lib.ListN.{length, take, length-append}
 use lib.Seq.{take-at, take-all, length-take-le}
-use Rattle.areas.specs.Table.{joined}
+use Rattle.lists.specs.Table.{joined}
 use Rattle.plan.specs.Header.{headerOf}
-use Rattle.plan.specs.File.{Holding, filled, cleared, sealed, blockOf, headerHoldings, ownHoldings, entryHoldings, deviceHoldings, fileOf}
-use Rattle.plan.specs.Memory.{at, peerAt}
+use Rattle.plan.specs.inner.File.{Holding, filled, cleared, sealed, blockOf, headerHoldings, ownHoldings, entryHoldings, deviceHoldings, fileOf}
+use Rattle.plan.specs.inner.Memory.{at, peerAt}
 use Rattle.plan.specs.declared.Core.{Core}
 use Rattle.plan.proofs.Holdings.{filled-append, length-made}
 

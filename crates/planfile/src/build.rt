@@ -2,7 +2,7 @@
 ghost use mathlib.Core.Path.{_≡_};
 ghost use Prim.Native.Nat.{_+_, _*_, _<_, _≤_};
 ghost use lib.ListN.{length};
-ghost use Rattle.areas.specs.Table.{table};
+ghost use Rattle.lists.specs.Table.{table};
 ghost use Rattle.plan.specs.Block.{numberAt};
 ghost use Rattle.plan.specs.Fields.{peerIn};
 ghost use Rattle.plan.specs.Refusals.{deviceBlock, countIn};

@@ -4,12 +4,12 @@ ghost use mathlib.Core.Bool.{cond};
 ghost use Prim.Native.Nat.{_+_, _*_, _/_, _%_, _<_};
 ghost use lib.Dec.{eqb};
 ghost use lib.ListN.{length};
-ghost use Rattle.areas.specs.Table.{every, joined};
+ghost use Rattle.lists.specs.Table.{every, joined};
 ghost use Rattle.plan.specs.Block.{restZero};
 ghost use Rattle.plan.specs.Fields.{deviceFields, unconnected as Fields·unconnected, connected as Fields·connected, entryFits, deviceFits};
 ghost use Rattle.plan.specs.Refusals.{first, deviceTests};
-ghost use Rattle.plan.specs.File.{filled, blockOf, ownHoldings, entryHoldings, deviceHoldings};
-ghost use Rattle.plan.specs.Memory.{at, peerAt};
+ghost use Rattle.plan.specs.inner.File.{filled, blockOf, ownHoldings, entryHoldings, deviceHoldings};
+ghost use Rattle.plan.specs.inner.Memory.{at, peerAt};
 use crate::block;
 use plan::Core;
 

@@ -5,7 +5,7 @@ ghost use lib.ListN.{length};
 ghost use Rattle.plan.specs.Block.{restZero};
 ghost use Rattle.plan.specs.Header.{headerFields, headerIn, SameHeader, headerFits};
 ghost use Rattle.plan.specs.Refusals.{first, headerTests};
-ghost use Rattle.plan.specs.File.{blockOf, headerHoldings};
+ghost use Rattle.plan.specs.inner.File.{blockOf, headerHoldings};
 use crate::block;
 use plan::Header;
 

@@ -4,7 +4,7 @@ ghost use Prim.Native.Nat.{_+_, _*_, _≤_};
 ghost use lib.ListN.{length};
 ghost use Rattle.plan.specs.Refusals.{lengthFits, countIn};
 ghost use Rattle.plan.specs.Reading.{reads};
-ghost use Rattle.planfile.specs.Scan.{refusalIn, scanned, deviceScan};
+ghost use Rattle.planfile.specs.inner.Scan.{refusalIn, scanned, deviceScan};
 use crate::block;
 use crate::build;
 use crate::device;

@@ -5,7 +5,7 @@ use mathlib.Core.List.{List}
 use Prim.Native.Nat.{ℕ, zero, suc, _+_, _-_, _≤_, _<_}
 use native.Mathlib.Omega.{arith}
 use Rattle.bits.specs.Set.{bit, join}
-use Rattle.reach.specs.Depth.{left, Finds}
+use Rattle.reach.specs.inner.Depth.{left, Finds}
 use Rattle.reach.proofs.VisitLaws.{entered, fewer, passes, next, device, port, device-none, device-again, device-ends, device-passes, port-ends, port-goes, device-stays}
 
 -- it is enough to look above the first step

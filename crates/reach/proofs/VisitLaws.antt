@@ -12,7 +12,7 @@ use borrow.Author.Tests.{lt-ltb, le-ltb}
 use Rattle.bits.specs.Set.{bit, join, sizeBelow, size}
 use Rattle.bits.proofs.Sets.{bit-two, join-same, join-other, size-join, size-le}
 use Rattle.reach.specs.Visits.{deviceVisit, portVisit}
-use Rattle.reach.specs.Depth.{left}
+use Rattle.reach.specs.inner.Depth.{left}
 
 -- ---- how many devices are left
 

@@ -7,7 +7,7 @@ ghost use lib.ListN.{length, getD};
 ghost use Rattle.device.specs.Permissions.{maySend, mayReceive};
 ghost use Rattle.state.specs.State.{words, portAt, runningAt};
 ghost use Rattle.state.specs.Network.{peerIn};
-ghost use Rattle.reach.specs.Depth.{left, Finds};
+ghost use Rattle.reach.specs.inner.Depth.{left, Finds};
 ghost use Rattle.reach.specs.Visits.{ahead as Visits·ahead, deviceVisit, portVisit};
 
 // As wide as a port's number here is.

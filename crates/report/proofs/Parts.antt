@@ -12,7 +12,7 @@ use Rattle.areas.specs.Put.{Puts}
 use Rattle.areas.proofs.Puts.{put-whole, place-after, puts-none, joined, same-size, next-place}
 use Rattle.text.specs.Text.{ascii, decimal}
 use Rattle.report.specs.Report.{field, line, heading, bad}
-use Rattle.report.specs.Pieces.{front}
+use Rattle.report.specs.inner.Pieces.{front}
 
 -- a number, and a word behind it
 abbrev part : ℕ → List ℕ → List ℕ

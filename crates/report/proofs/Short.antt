@@ -19,7 +19,7 @@ use Rattle.bench.specs.Settling.{rounds, mostRounds}
 use Rattle.bench.specs.Trials.{requested, Answered, Tries, refused, settled, waiting}
 use Rattle.bench.proofs.Tried.{holders-few}
 use Rattle.report.specs.Report.{field, line, none, pass, more}
-use Rattle.report.specs.Pieces.{longestLine, longestLines, PutsPlace, PutsLines}
+use Rattle.report.specs.inner.Pieces.{longestLine, longestLines, PutsPlace, PutsLines}
 use Rattle.report.proofs.Parts.{puts-nothing, field-refused}
 
 -- no request is refused by a number above 9

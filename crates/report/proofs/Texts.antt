@@ -7,7 +7,7 @@ use native.Mathlib.Nat.{zero-add}
 use native.Mathlib.Omega.{arith}
 use lib.ListN.{length, getD, drop, length-append}
 use Rattle.areas.specs.Put.{Puts, over}
-use Rattle.areas.specs.Table.{table}
+use Rattle.lists.specs.Table.{table}
 use Rattle.areas.proofs.Puts.{over-put, joined, next-place}
 use Rattle.plan.specs.Refusals.{verdict}
 use Rattle.plan.specs.Reading.{planOf, Held, reads}
@@ -19,8 +19,8 @@ use Rattle.text.proofs.Decimal.{decimal-short}
 use Rattle.state.specs.State.{words}
 use Rattle.state.specs.Network.{devices}
 use Rattle.bench.specs.Trials.{Finds, Lent, Fits as Trials·Fits, TriesAll}
-use Rattle.report.specs.Report.{Lines, heading, bad, Prints, refused, network, Areas, longest, Fits, Reports}
-use Rattle.report.specs.Pieces.{PutsLines, PutsText, lent}
+use Rattle.report.specs.Report.{Lines, heading, bad, Prints, refused, network, Areas, longest, Fits, Reports, lent}
+use Rattle.report.specs.inner.Pieces.{PutsLines, PutsText}
 
 -- ---- how long the first line is, and the text of a refused file
 

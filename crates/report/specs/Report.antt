@@ -7,7 +7,7 @@ use lib.Dec.{eqb}
 use lib.ListN.{length}
 use Rattle.answers.specs.Ordered.{Condition, ask, Ordered}
 use Rattle.areas.specs.Put.{over}
-use Rattle.areas.specs.Table.{table}
+use Rattle.lists.specs.Table.{table}
 use Rattle.bits.specs.Set.{bit}
 use Rattle.text.specs.Text.{ascii, decimal}
 use Rattle.plan.specs.Refusals.{verdict}
@@ -51,6 +51,9 @@ pub record Areas : Type 0 where
   pub state : List ℕ
   pub second : List ℕ
   pub text : List ℕ
+
+abbrev pub lent : List ℕ → List ℕ → List ℕ → Areas
+lent state second text = record { state = state; second = second; text = text }
 
 -- as long as a text can be: the first line, and 1,024 lines like `31 31 4096 32`
 abbrev pub longest : ℕ

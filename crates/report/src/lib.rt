@@ -2,8 +2,8 @@
 // lent area.
 ghost use lib.ListN.{length};
 ghost use Rattle.answers.specs.Decides.{Decides};
-ghost use Rattle.report.specs.Report.{Fits, Reports};
-ghost use Rattle.report.specs.Pieces.{PutsText, lent};
+ghost use Rattle.report.specs.Report.{Fits, Reports, lent};
+ghost use Rattle.report.specs.inner.Pieces.{PutsText};
 
 mod lines;
 

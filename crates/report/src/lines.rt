@@ -9,7 +9,7 @@ ghost use Rattle.plan.specs.Reading.{Held};
 ghost use Rattle.state.specs.Network.{devices};
 ghost use Rattle.bench.specs.Trials.{foundWords, Finds};
 ghost use Rattle.report.specs.Report.{field, line, heading, bad};
-ghost use Rattle.report.specs.Pieces.{front, lineAt, longestLines, PutsLines};
+ghost use Rattle.report.specs.inner.Pieces.{front, lineAt, longestLines, PutsLines};
 use plan::Plan;
 
 // A number, and a word behind it.

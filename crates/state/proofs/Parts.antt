@@ -7,8 +7,8 @@ use native.Mathlib.Decide.{decLt, ℕ-discrete}
 use native.Mathlib.Omega.{arith}
 use lib.ListN.{length, getD, length-append, List·getD-append}
 use lib.Seq.{ext-getD, getD-append-add}
-use Rattle.areas.specs.Table.{table, joined}
-use Rattle.areas.proofs.Tables.{length-table, getD-table, length-joined, getD-joined}
+use Rattle.lists.specs.Table.{table, joined}
+use Rattle.lists.proofs.Tables.{length-table, getD-table, length-joined, getD-joined}
 use Rattle.state.specs.State.{State, words, word, deviceWords, portsAt, portsEnd, portWords, registerAt, timerAt, portAt, register, timer, Parts, stateOf}
 use Rattle.state.proofs.Words.{word-past}
 

@@ -7,13 +7,13 @@ use native.Mathlib.Decide.{decLt}
 use native.Mathlib.Omega.{arith}
 use lib.Dec.{eqb, leb}
 use borrow.Author.Tests.{ltb-true, ltb-false, lt-ltb, eqb-true, eqb-false, ne-eqb, not-true}
-use Rattle.areas.proofs.Facts.{facts}
-use Rattle.areas.proofs.Tests.{and-left, and-right}
+use Rattle.lists.proofs.Facts.{facts}
+use Rattle.lists.proofs.Tests.{and-left, and-right}
 use Rattle.plan.specs.Block.{byte}
 use Rattle.plan.specs.Fields.{nobody, loadsFit, portsFit, joins}
 use Rattle.plan.specs.Reading.{Held}
 use Rattle.plan.specs.declared.Plan.{Plan}
-use Rattle.plan.specs.Memory.{at, deviceRight, rowRight}
+use Rattle.plan.specs.inner.Memory.{at, deviceRight, rowRight}
 use Rattle.plan.proofs.Entries.{no-port}
 use Rattle.plan.proofs.Rows.{entryOf, right-ports, right-absent}
 use Rattle.plan.proofs.There.{Right, right-says}

@@ -10,7 +10,8 @@ use borrow.Author.Tests.{eq-eqb, eqb-true, lt-ltb, ltb-true}
 use Rattle.device.specs.Permissions.{maySend}
 use Rattle.state.specs.declared.port.Port.{Port}
 use Rattle.state.specs.State.{State, words, put, portAt, waiting, next, running}
-use Rattle.state.specs.Queue.{queuedPort, sendsAt, queueAt, queueBut, queueAllAt, queueIn}
+use Rattle.state.specs.Queue.{sendsAt, queueAt, queueBut, queueAllAt, queueIn}
+use Rattle.state.specs.inner.Port.{queuedPort}
 use Rattle.state.proofs.Words.{length-put, put-word, put-comm}
 
 -- the four words of port q

@@ -8,17 +8,17 @@ use native.Mathlib.Omega.{arith}
 use lib.Dec.{eqb, ltb}
 use lib.ListN.{getD}
 use borrow.Author.Tests.{eq-eqb, eqb-true, ne-eqb, lt-ltb, le-ltb, le-leb}
-use Rattle.areas.proofs.Tests.{and-right, or-left, or-right, every-at, every-all}
+use Rattle.lists.proofs.Tests.{and-right, or-left, or-right, every-at, every-all}
 use Rattle.bits.specs.Set.{bit}
 use Rattle.bits.proofs.Sets.{bit-two}
 use Rattle.device.specs.Permissions.{maySend}
 use Rattle.plan.specs.declared.Plan.{Plan}
-use Rattle.areas.proofs.Facts.{facts}
+use Rattle.lists.proofs.Facts.{facts}
 use Rattle.state.specs.State.{State, word, deviceWords, portsAt, portAt, register, timer, waiting, running}
 use Rattle.state.specs.Network.{devices, exists, peer, permissions}
 use Rattle.state.specs.Sound.{Timed, Kept, Sound}
 use Rattle.state.proofs.Keeping.{both-kinds}
-use Rattle.state.specs.Tests.{timerSound, deviceTimed, allTimed, zerosIn, restZero, flagSound, mayWait, waitingSound, portKept, portZero, portSound, portsSound, sounds}
+use Rattle.state.specs.inner.Tests.{timerSound, deviceTimed, allTimed, zerosIn, restZero, flagSound, mayWait, waitingSound, portKept, portZero, portSound, portsSound, sounds}
 
 is-true : (b : Bool) → (b ≡ false → ⊥) → b ≡ true
 is-true true h = refl

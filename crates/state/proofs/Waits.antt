@@ -10,8 +10,8 @@ use lib.Bits.{bitAnd, and-le-l, and-zero-l}
 use lib.Dec.{eqb}
 use lib.ListN.{getD}
 use borrow.Author.Tests.{eqb-true, ne-eqb}
-use Rattle.areas.proofs.Loops.{keeps, untouched}
-use Rattle.areas.proofs.Tests.{and-left, and-right}
+use Rattle.lists.proofs.Loops.{keeps, untouched}
+use Rattle.lists.proofs.Tests.{and-left, and-right}
 use Rattle.bits.specs.Set.{bit, join, leave}
 use Rattle.bits.proofs.Sets.{bit-zero, bit-and, same-members, join-other, join-lt, leave-is, leave-none, leave-same, leave-other, leave-lt}
 use Rattle.device.specs.Permissions.{maySend}

@@ -9,8 +9,8 @@ use native.Mathlib.Omega.{arith}
 use lib.Dec.{eqb}
 use lib.ListN.{length}
 use borrow.Author.Tests.{eq-eqb, ne-eqb}
-use Rattle.areas.specs.Table.{table}
-use Rattle.areas.proofs.Tables.{length-table, getD-table}
+use Rattle.lists.specs.Table.{table}
+use Rattle.lists.proofs.Tables.{length-table, getD-table}
 use Rattle.plan.specs.Fields.{nobody}
 use Rattle.state.specs.State.{State, words, word, put, portsEnd, runningAt, registerAt, timerAt, portAt, running}
 use Rattle.state.specs.Network.{peerIn}

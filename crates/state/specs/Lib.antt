@@ -4,4 +4,4 @@ pub mod Sound
 pub mod Queue
 pub mod Mark
 pub mod Start
-pub mod Tests
+pub mod inner

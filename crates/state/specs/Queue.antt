@@ -4,22 +4,12 @@ use mathlib.Core.List.{List}
 use Prim.Native.Nat.{ℕ, _+_, _-_, _*_}
 use lib.Dec.{eqb, ltb}
 use lib.ListN.{length, getD}
-use Rattle.areas.specs.Loop.{upTo}
+use Rattle.lists.specs.Loop.{upTo}
 use Rattle.bits.specs.Set.{join, leave}
 use Rattle.device.specs.Permissions.{maySend}
 use Rattle.plan.specs.declared.Plan.{Plan}
-use Rattle.state.specs.declared.port.Port.{Port}
 use Rattle.state.specs.State.{State, words, put, portAt, waiting, running}
 use Rattle.state.specs.Network.{permissions}
-
--- at a port's record of what waits, where the port may send
-unfoldable pub queuedPort : ℕ → ℕ → Port → Port
-queuedPort kind k port =
-    cond (eqb (port .running) 1)
-    (cond (eqb kind 0)
-    (record { interrupts = join (port .interrupts) k; acknowledges = leave (port .acknowledges) k; next = port .next; running = port .running })
-    (record { interrupts = leave (port .interrupts) k; acknowledges = join (port .acknowledges) k; next = port .next; running = port .running }))
-    port
 
 -- in the state, port q with its permissions: it runs and may send that kind
 abbrev pub sendsAt : ℕ → ℕ → ℕ → State → Bool

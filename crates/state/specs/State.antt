@@ -2,7 +2,7 @@
 use mathlib.Core.List.{List, _∷_, _++_}
 use Prim.Native.Nat.{ℕ, _+_, _-_, _*_}
 use lib.ListN.{getD, set}
-use Rattle.areas.specs.Table.{table, joined}
+use Rattle.lists.specs.Table.{table, joined}
 
 abbrev pub State : Type 0
 State = List ℕ

@@ -6,7 +6,7 @@ ghost use Rattle.answers.specs.Decides.{Decides};
 ghost use Rattle.answers.specs.Ordered.{Ordered};
 ghost use Rattle.state.specs.Sound.{Sound, stateAsks};
 ghost use Rattle.state.specs.State.{words, word as State·word};
-ghost use Rattle.state.specs.Tests.{timerSound, deviceTimed, allTimed, zerosIn, restZero, flagSound, mayWait, waitingSound, portKept, portZero, portSound, portsSound};
+ghost use Rattle.state.specs.inner.Tests.{timerSound, deviceTimed, allTimed, zerosIn, restZero, flagSound, mayWait, waitingSound, portKept, portZero, portSound, portsSound};
 use crate::ACKNOWLEDGES;
 use crate::DEVICE;
 use crate::INTERRUPTS;

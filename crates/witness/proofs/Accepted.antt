@@ -9,11 +9,11 @@ use native.Mathlib.Omega.{arith}
 use lib.Dec.{eqb, ltb}
 use lib.ListN.{length, getD, List·getD-eq-default}
 use borrow.Author.Tests.{eqb-true, ltb-true}
-use Rattle.areas.specs.Table.{every}
-use Rattle.areas.proofs.Tests.{and-left, and-right, every-at}
+use Rattle.lists.specs.Table.{every}
+use Rattle.lists.proofs.Tests.{and-left, and-right, every-at}
 use Rattle.plan.specs.Fields.{devicesFit, loadsFit, portsFit, masksFit, joins}
 use Rattle.plan.specs.Reading.{Held}
-use Rattle.plan.specs.Memory.{at, portRight, deviceRight, rowRight, right}
+use Rattle.plan.specs.inner.Memory.{at, portRight, deviceRight, rowRight, right}
 use Rattle.plan.proofs.Shape.{Numbers, Shaped}
 use Rattle.plan.proofs.BothWays.{right-held}
 use Rattle.witness.specs.Line.{line}

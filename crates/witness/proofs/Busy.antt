@@ -2,7 +2,7 @@
 use mathlib.Core.Path.{_≡_, refl, sym, ap, _∙_}
 use Prim.Native.Nat.{ℕ, _≤_, _<_}
 use native.Mathlib.Omega.{arith}
-use Rattle.areas.proofs.Loops.{keeps, hit}
+use Rattle.lists.proofs.Loops.{keeps, hit}
 use Rattle.bits.specs.Set.{bit}
 use Rattle.bits.proofs.Sets.{bit-zero}
 use Rattle.device.specs.Permissions.{maySend}

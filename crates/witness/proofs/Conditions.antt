@@ -10,8 +10,8 @@ use lib.Dec.{eqb, ltb}
 use borrow.Author.Tests.{ltb-true, eq-eqb, eqb-false, not-true}
 use Rattle.answers.specs.Ordered.{Ordered}
 use Rattle.answers.proofs.Outcomes.{passed}
-use Rattle.areas.specs.Table.{every}
-use Rattle.areas.proofs.Tests.{both, every-at}
+use Rattle.lists.specs.Table.{every}
+use Rattle.lists.proofs.Tests.{both, every-at}
 use Rattle.bits.specs.Set.{bit}
 use Rattle.device.specs.Permissions.{maySend, mayReceive}
 use Rattle.state.specs.State.{State, register, running}

@@ -2,8 +2,8 @@
 use mathlib.Core.Path.{_≡_, refl}
 use Prim.Native.Nat.{ℕ, _-_, _<_}
 use native.Mathlib.Omega.{arith}
-use Rattle.areas.specs.Loop.{upTo}
-use Rattle.areas.specs.Table.{table, joined}
+use Rattle.lists.specs.Loop.{upTo}
+use Rattle.lists.specs.Table.{table, joined}
 use Rattle.bits.specs.Set.{bit, join, leave}
 use Rattle.bits.specs.First.{searched, firstFrom, following}
 use Rattle.codes.specs.Codes.{reads}

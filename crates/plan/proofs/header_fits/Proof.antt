@@ -1,6 +1,6 @@
 -- `plan::header_fits` meets its contract: each rule by its test. Assumes nothing.
 use borrow.Author.Needs.{needs}
-use Rattle.areas.proofs.Turns.{failed, passed}
+use Rattle.lists.proofs.Turns.{failed, passed}
 use Rattle.plan.proofs.header_fits.Statement.{statement}
 use Rattle.plan.proofs.header_fits.Tie as tie
 

@@ -16,7 +16,7 @@ use Rattle.state.specs.Sound.{stateAsks}
 use Rattle.state.proofs.Plans.{few}
 use Rattle.reach.specs.Reach.{Reached, reachAsks, Reaches}
 use Rattle.reach.specs.Visits.{ahead, portVisit, visited}
-use Rattle.reach.specs.Depth.{left, Finds}
+use Rattle.reach.specs.inner.Depth.{left, Finds}
 use Rattle.reach.proofs.Found.{visits-reach}
 use Rattle.reach.proofs.reach.Statement.{statement}
 use Rattle.reach.proofs.reach.Tie as tie

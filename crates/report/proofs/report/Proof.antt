@@ -1,7 +1,7 @@
 use mathlib.Core.Path.{ap, _∙_}
 use native.Mathlib.Omega.{arith}
 use Rattle.answers.proofs.Outcomes.{granted, denied}
-use Rattle.areas.specs.Table.{table}
+use Rattle.lists.specs.Table.{table}
 use Rattle.areas.proofs.Puts.{next-place}
 use Rattle.report.proofs.Texts.{misfits, reports}
 use borrow.Author.Needs.{needs}

@@ -4,12 +4,12 @@ use mathlib.Core.Logic.{⊎-elim}
 use Prim.Native.Nat.{ℕ, _+_, _-_, _*_, _/_, _%_, _≤_, _<_}
 use native.Mathlib.Omega.{arith}
 use lib.ListN.{length, getD}
-use Rattle.areas.specs.Loop.{upTo}
+use Rattle.lists.specs.Loop.{upTo}
 use Rattle.plan.specs.declared.Plan.{Plan}
 use Rattle.state.specs.State.{words}
 use Rattle.state.specs.Network.{devices, router, loadOf}
 use Rattle.bench.specs.Round.{World, arrived, arrives, reached, nothing}
-use Rattle.bench.specs.Shown.{Seen, seen, Follows}
+use Rattle.bench.specs.inner.Shown.{Seen, seen, Follows}
 use Rattle.bench.proofs.Following.{leads, silent, lands, follows-none, follows-more, follows-still, follows-done}
 use Rattle.bench.proofs.Stepped.{arrives-nothing, arrives-byte}
 use Rattle.bench.proofs.Idles.{arrives-unused}

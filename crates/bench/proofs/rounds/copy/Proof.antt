@@ -4,7 +4,7 @@ use native.Mathlib.Omega.{arith}
 use lib.ListN.{length}
 use borrow.Author.Needs.{needs}
 use Rattle.state.specs.State.{word, put}
-use Rattle.bench.specs.Idle.{Copies}
+use Rattle.bench.specs.inner.Idle.{Copies}
 use Rattle.bench.proofs.Idles.{copies-none, copies-more}
 use Rattle.bench.proofs.rounds.copy.Statement.{statement}
 use Rattle.bench.proofs.rounds.copy.Tie as tie

@@ -3,7 +3,7 @@ use native.Mathlib.Omega.{arith}
 use lib.ListN.{length}
 use Rattle.state.specs.State.{State}
 use Rattle.bench.specs.Round.{ticked}
-use Rattle.bench.specs.Idle.{Rests}
+use Rattle.bench.specs.inner.Idle.{Rests}
 use Rattle.bench.proofs.ThreeSteps.{played-by}
 use Rattle.bench.proofs.ToldRoom.{length-sent}
 use borrow.Author.Needs.{needs}

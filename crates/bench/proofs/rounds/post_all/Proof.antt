@@ -8,14 +8,14 @@ use native.Mathlib.Omega.{arith}
 use lib.ListN.{length, getD, set, length-set}
 use lib.Seq.{getD-set-same, getD-set-other}
 use borrow.Author.Tests.{lt-ltb, le-ltb}
-use Rattle.areas.proofs.Loops.{After, none, turn, done, still}
-use Rattle.areas.proofs.Tables.{is-table}
+use Rattle.lists.proofs.Loops.{After, none, turn, done, still}
+use Rattle.lists.proofs.Tables.{is-table}
 use Rattle.bits.specs.declared.Found.the-variants.{Nowhere}
 use Rattle.plan.specs.declared.Plan.{Plan}
 use Rattle.state.specs.State.{State, words, waiting}
 use Rattle.state.specs.Network.{devices, portsOf}
 use Rattle.bench.specs.Round.{nothing, sentWords, chosen, sends, unqueued, sentBytes, posted}
-use Rattle.bench.specs.Idle.{Silent}
+use Rattle.bench.specs.inner.Idle.{Silent}
 use Rattle.bench.proofs.Stepped.{chosen-none, post-nothing, post-same}
 use borrow.Author.Needs.{needs}
 use Rattle.bench.proofs.rounds.post_all.Statement.{statement}

@@ -3,7 +3,7 @@ use mathlib.Core.Path.{refl, ap, _∙_}
 use Prim.Native.Nat.{ℕ}
 use native.Mathlib.Omega.{arith}
 use Rattle.answers.proofs.Outcomes.{Holds, holds}
-use Rattle.areas.specs.Table.{table}
+use Rattle.lists.specs.Table.{table}
 use Rattle.state.specs.Sound.{stateAsks}
 use Rattle.bench.specs.Round.{nothing}
 use Rattle.bench.proofs.Idles.{held-laid, sound-idles, zeros-blank, silent-all}

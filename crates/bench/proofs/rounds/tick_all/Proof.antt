@@ -5,10 +5,10 @@ use Prim.Native.Nat.{ℕ, _-_, _*_, _≤_}
 use native.Mathlib.Omega.{arith}
 use lib.Dec.{eqb}
 use lib.ListN.{length, getD}
-use Rattle.areas.specs.Loop.{upTo}
+use Rattle.lists.specs.Loop.{upTo}
 use Rattle.state.specs.State.{words}
 use Rattle.bench.specs.Round.{tick}
-use Rattle.bench.specs.Shown.{Seen, seen, Follows}
+use Rattle.bench.specs.inner.Shown.{Seen, seen, Follows}
 use Rattle.bench.proofs.Following.{follows-none, follows-block, follows-done}
 use Rattle.bench.proofs.Idles.{ticks, ticks-of, rests-yet}
 use borrow.Author.Needs.{needs}

@@ -6,13 +6,13 @@ use native.Mathlib.Decide.{decLt}
 use native.Mathlib.Omega.{arith}
 use lib.Count.{trailingZeros}
 use lib.ListN.{length}
-use Rattle.areas.specs.Loop.{upTo}
+use Rattle.lists.specs.Loop.{upTo}
 use Rattle.bits.specs.Set.{bit, leave}
 use Rattle.bits.proofs.Sets.{bit-zero, leave-same, leave-other, leave-lt, leave-less}
 use Rattle.bits.proofs.Trailing.{trailing-below, trailing-at, trailing-lt}
 use Rattle.state.specs.State.{words, word, timer}
 use Rattle.bench.specs.Round.{tick}
-use Rattle.bench.specs.Shown.{Seen, seen, Follows}
+use Rattle.bench.specs.inner.Shown.{Seen, seen, Follows}
 use Rattle.bench.proofs.Following.{follows-none, follows-more}
 use Rattle.bench.proofs.Idles.{rests-follows}
 use borrow.Author.Needs.{needs}

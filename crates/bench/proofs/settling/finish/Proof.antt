@@ -6,8 +6,8 @@ use Prim.Native.Nat.{ℕ}
 use native.Mathlib.Omega.{arith}
 use lib.ListN.{length}
 use borrow.Author.Tests.{not-true, not-false}
-use Rattle.areas.specs.Table.{table}
-use Rattle.bench.specs.Shown.{pair}
+use Rattle.lists.specs.Table.{table}
+use Rattle.bench.specs.Settling.{pair}
 use Rattle.state.specs.State.{words}
 use Rattle.bench.proofs.SettlingLoop.{of-either, copied-same}
 use borrow.Author.Needs.{needs}

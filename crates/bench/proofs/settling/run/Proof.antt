@@ -11,7 +11,7 @@ use Rattle.state.specs.State.{State}
 use Rattle.state.specs.Network.{devices}
 use Rattle.state.specs.Sound.{Sound}
 use Rattle.bench.specs.Round.{round}
-use Rattle.bench.specs.Idle.{Blank, Silent}
+use Rattle.bench.specs.inner.Idle.{Blank, Silent}
 use Rattle.bench.specs.Settling.{Quiet}
 use Rattle.bench.proofs.Idles.{held-laid, sound-idles, sound-blank, zeros-blank, silent-repeat}
 use Rattle.bench.proofs.RoundSound.{round-sound, rounds-sound}

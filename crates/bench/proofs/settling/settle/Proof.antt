@@ -2,7 +2,7 @@ use mathlib.Core.Path.{refl, ap, _∙_}
 use Prim.Native.Nat.{ℕ}
 use native.Mathlib.Omega.{arith}
 use Rattle.answers.proofs.Outcomes.{Holds, holds}
-use Rattle.areas.specs.Table.{table}
+use Rattle.lists.specs.Table.{table}
 use Rattle.state.specs.Sound.{stateAsks}
 use Rattle.bench.proofs.SettlingLoop.{not-ready, second-long, too-many, ends, held-parts, sound-parts, ends-plan}
 use borrow.Author.Needs.{needs}

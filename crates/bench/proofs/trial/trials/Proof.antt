@@ -1,6 +1,6 @@
 use mathlib.Core.Path.{ap, _∙_}
 use Rattle.answers.proofs.Outcomes.{granted, denied}
-use Rattle.areas.specs.Table.{table}
+use Rattle.lists.specs.Table.{table}
 use Rattle.plan.specs.Reading.{Held}
 use Rattle.bench.proofs.SettlingLoop.{held-parts}
 use Rattle.bench.proofs.Tried.{not-held, misfits, finds}

@@ -6,9 +6,9 @@ use native.Mathlib.Omega.{arith}
 use lib.ListN.{length, getD, set, length-set}
 use Rattle.answers.specs.Ordered.{Condition, Ordered}
 use Rattle.plan.specs.declared.Plan.{Plan}
-use Rattle.areas.specs.Table.{table}
+use Rattle.lists.specs.Table.{table}
 use Rattle.state.specs.State.{words}
-use Rattle.bench.specs.Trials.{placeAsks}
+use Rattle.bench.specs.inner.Ends.{placeAsks}
 use Rattle.bench.specs.Trials.{Tries}
 use Rattle.bench.specs.declared.trial.Tried.{Tried}
 use Rattle.bench.proofs.Tried.{is-foreign, Found, found-none, found-more, found-all}

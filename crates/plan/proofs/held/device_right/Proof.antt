@@ -1,7 +1,7 @@
 -- `plan::held::device_right` meets its contract: each test by its branch. Assumes nothing.
 use mathlib.Core.Path.{sym, _∙_}
 use borrow.Author.Tests.{eq-eqb, ne-eqb, lt-ltb, le-ltb, not-true, not-false}
-use Rattle.plan.specs.Memory.{deviceRight}
+use Rattle.plan.specs.inner.Memory.{deviceRight}
 use borrow.Author.Needs.{needs}
 use Rattle.plan.proofs.held.device_right.Statement.{statement}
 use Rattle.plan.proofs.held.device_right.Tie as tie

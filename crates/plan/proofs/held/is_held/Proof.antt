@@ -7,10 +7,10 @@ use native.Mathlib.Omega.{arith}
 use lib.Dec.{eqb}
 use borrow.Author.Needs.{needs}
 use borrow.Author.Tests.{not-true, not-false}
-use Rattle.areas.specs.Table.{every}
+use Rattle.lists.specs.Table.{every}
 use Rattle.plan.specs.Fields.{joins}
 use Rattle.plan.specs.Header.{headerOf, headerFits}
-use Rattle.plan.specs.Memory.{at, peerAt, rowRight, right}
+use Rattle.plan.specs.inner.Memory.{at, peerAt, rowRight, right}
 use Rattle.answers.specs.Decides.{Decides}
 use Rattle.plan.specs.Reading.{Held}
 use Rattle.plan.specs.declared.Plan.{Plan}

@@ -5,7 +5,7 @@ use mathlib.Core.Logic.{⊎-elim}
 use Prim.Native.Nat.{_*_}
 use lib.Dec.{ltb}
 use borrow.Author.Tests.{eq-eqb, ne-eqb, lt-ltb, le-ltb}
-use Rattle.plan.specs.Memory.{portRight}
+use Rattle.plan.specs.inner.Memory.{portRight}
 use borrow.Author.Needs.{needs}
 use Rattle.plan.proofs.held.port_right.Statement.{statement}
 use Rattle.plan.proofs.held.port_right.Tie as tie

@@ -7,8 +7,8 @@ use native.Mathlib.Omega.{arith}
 use lib.ListN.{getD}
 use borrow.Author.Count.{below-none, below-more}
 use borrow.Author.Tests.{not-true, not-false}
-use Rattle.areas.proofs.Tests.{every-all, every-not}
-use Rattle.plan.specs.Memory.{portRight}
+use Rattle.lists.proofs.Tests.{every-all, every-not}
+use Rattle.plan.specs.inner.Memory.{portRight}
 use borrow.Author.Needs.{needs}
 use Rattle.plan.proofs.held.ports_right.Statement.{statement}
 use Rattle.plan.proofs.held.ports_right.Tie as tie

@@ -5,8 +5,8 @@ use Prim.Native.Nat.{ℕ, _-_, _<_, _≤_}
 use native.Mathlib.Omega.{arith}
 use borrow.Author.Count.{below-none, below-more}
 use borrow.Author.Tests.{not-true, not-false}
-use Rattle.areas.proofs.Tests.{every-all, every-not}
-use Rattle.plan.specs.Memory.{rowRight}
+use Rattle.lists.proofs.Tests.{every-all, every-not}
+use Rattle.plan.specs.inner.Memory.{rowRight}
 use borrow.Author.Needs.{needs}
 use Rattle.plan.proofs.held.rows_right.Statement.{statement}
 use Rattle.plan.proofs.held.rows_right.Tie as tie

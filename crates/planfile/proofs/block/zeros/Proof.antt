@@ -7,9 +7,9 @@ use native.Mathlib.Omega.{arith}
 use lib.ListN.{getD}
 use lib.Dec.{eqb}
 use borrow.Author.Needs.{needs}
-use Rattle.areas.specs.Table.{every}
-use Rattle.areas.proofs.Tests.{sum-zero}
-use Rattle.planfile.specs.Zeros.{zerosIn}
+use Rattle.lists.specs.Table.{every}
+use Rattle.lists.proofs.Tests.{sum-zero}
+use Rattle.planfile.specs.inner.Zeros.{zerosIn}
 use Rattle.planfile.proofs.block.zeros.Statement.{statement}
 use Rattle.planfile.proofs.block.zeros.Tie as tie
 

@@ -6,7 +6,7 @@ use Rattle.plan.specs.Reading.{column}
 use Rattle.plan.specs.Refusals.{deviceBlock}
 use Rattle.plan.specs.Block.{byte}
 use Rattle.planfile.proofs.Places.{byte-in}
-use Rattle.areas.proofs.Filled.{Filled, filled-none, filled-more, filled-all}
+use Rattle.lists.proofs.Filled.{Filled, filled-none, filled-more, filled-all}
 use Rattle.planfile.proofs.build.column.Statement.{statement}
 use Rattle.planfile.proofs.build.column.Tie as tie
 

@@ -6,7 +6,7 @@ use Rattle.plan.specs.Reading.{column}
 use Rattle.plan.specs.Refusals.{deviceBlock}
 use Rattle.plan.specs.Block.{numberAt}
 use Rattle.planfile.proofs.Places.{number-in}
-use Rattle.areas.proofs.Filled.{Filled, filled-none, filled-more, filled-all}
+use Rattle.lists.proofs.Filled.{Filled, filled-none, filled-more, filled-all}
 use Rattle.planfile.proofs.build.masks.Statement.{statement}
 use Rattle.planfile.proofs.build.masks.Tie as tie
 

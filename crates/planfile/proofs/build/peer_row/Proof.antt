@@ -3,7 +3,7 @@ use native.Mathlib.Omega.{arith}
 use borrow.Author.Needs.{needs}
 use Rattle.plan.specs.Refusals.{deviceBlock}
 use Rattle.plan.specs.Fields.{peerIn}
-use Rattle.areas.proofs.Filled.{Filled, filled-none, filled-more, filled-whole}
+use Rattle.lists.proofs.Filled.{Filled, filled-none, filled-more, filled-whole}
 use Rattle.planfile.proofs.build.peer_row.Statement.{statement}
 use Rattle.planfile.proofs.build.peer_row.Tie as tie
 

@@ -3,11 +3,11 @@ use Prim.Native.Nat.{_-_}
 use native.Mathlib.Omega.{arith}
 use lib.ListN.{replicate}
 use borrow.Author.Needs.{needs}
-use Rattle.areas.specs.Table.{table}
+use Rattle.lists.specs.Table.{table}
 use Rattle.plan.specs.Refusals.{countIn, deviceBlock}
 use Rattle.plan.specs.Fields.{peerIn, nobody}
 use Rattle.planfile.proofs.Plans.{peers-of}
-use Rattle.areas.proofs.Filled.{Filled, filled-none, filled-more, filled-all}
+use Rattle.lists.proofs.Filled.{Filled, filled-none, filled-more, filled-all}
 use Rattle.planfile.proofs.Places.{count-in}
 use Rattle.planfile.proofs.build.peers_of.Statement.{statement}
 use Rattle.planfile.proofs.build.peers_of.Tie as tie

@@ -6,7 +6,7 @@ use Rattle.plan.specs.Refusals.{deviceBlock}
 use Rattle.plan.specs.Fields.{entry}
 use Rattle.planfile.proofs.Plans.{permissions-of}
 use Rattle.planfile.proofs.Places.{entry-in}
-use Rattle.areas.proofs.Filled.{Filled, filled-none, filled-more, filled-all}
+use Rattle.lists.proofs.Filled.{Filled, filled-none, filled-more, filled-all}
 use Rattle.planfile.proofs.build.permissions.Statement.{statement}
 use Rattle.planfile.proofs.build.permissions.Tie as tie
 

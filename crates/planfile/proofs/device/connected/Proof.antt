@@ -1,7 +1,7 @@
 use borrow.Author.Tests.{lt-ltb, le-ltb, le-leb, lt-leb}
 use borrow.Author.Needs.{needs}
 use Rattle.plan.specs.Fields.{connected}
-use Rattle.areas.proofs.Turns.{fourth}
+use Rattle.lists.proofs.Turns.{fourth}
 use Rattle.planfile.proofs.device.connected.Statement.{statement}
 use Rattle.planfile.proofs.device.connected.Tie as tie
 

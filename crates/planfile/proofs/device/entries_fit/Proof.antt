@@ -2,9 +2,9 @@ use mathlib.Core.Path.{sym}
 use Prim.Native.Nat.{_-_}
 use native.Mathlib.Omega.{arith}
 use borrow.Author.Needs.{needs}
-use Rattle.areas.proofs.Tests.{every-not}
+use Rattle.lists.proofs.Tests.{every-not}
 use Rattle.plan.specs.Fields.{entryFits}
-use Rattle.areas.proofs.Turns.{Passed, passed-none, passed-more, passed-all, failed, passed}
+use Rattle.lists.proofs.Turns.{Passed, passed-none, passed-more, passed-all, failed, passed}
 use Rattle.planfile.proofs.device.entries_fit.Statement.{statement}
 use Rattle.planfile.proofs.device.entries_fit.Tie as tie
 

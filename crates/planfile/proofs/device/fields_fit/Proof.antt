@@ -1,6 +1,6 @@
 use borrow.Author.Needs.{needs}
 use Rattle.plan.specs.Fields.{deviceFits}
-use Rattle.areas.proofs.Turns.{failed, passed}
+use Rattle.lists.proofs.Turns.{failed, passed}
 use Rattle.planfile.proofs.device.fields_fit.Statement.{statement}
 use Rattle.planfile.proofs.device.fields_fit.Tie as tie
 

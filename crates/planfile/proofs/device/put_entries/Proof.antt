@@ -6,9 +6,9 @@ use native.Mathlib.Numerals.{add-one}
 use native.Mathlib.Omega.{arith}
 use lib.ListN.{length}
 use borrow.Author.Needs.{needs}
-use Rattle.areas.specs.Table.{joined}
-use Rattle.plan.specs.File.{Holding, filled, entryHoldings}
-use Rattle.plan.specs.Memory.{at, peerAt}
+use Rattle.lists.specs.Table.{joined}
+use Rattle.plan.specs.inner.File.{Holding, filled, entryHoldings}
+use Rattle.plan.specs.inner.Memory.{at, peerAt}
 use Rattle.plan.proofs.Holdings.{length-filled, filled-append}
 use Rattle.planfile.proofs.device.put_entries.Statement.{statement}
 use Rattle.planfile.proofs.device.put_entries.Tie as tie

@@ -6,7 +6,7 @@ use borrow.Author.Needs.{needs}
 use Rattle.plan.specs.Block.{byte, checked}
 use Rattle.plan.specs.Fields.{deviceFits}
 use Rattle.plan.specs.Refusals.{first, deviceTests}
-use Rattle.areas.proofs.Turns.{failed, passed}
+use Rattle.lists.proofs.Turns.{failed, passed}
 use Rattle.planfile.proofs.device.refusal.Statement.{statement}
 use Rattle.planfile.proofs.device.refusal.Tie as tie
 

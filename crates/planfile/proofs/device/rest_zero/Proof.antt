@@ -1,7 +1,7 @@
 -- `planfile::device::rest_zero` meets its contract: what is tested are the gaps between the fields. Assumes nothing.
 use mathlib.Core.Path.{refl, _∙_}
 use borrow.Author.Needs.{needs}
-use Rattle.areas.specs.Table.{joined}
+use Rattle.lists.specs.Table.{joined}
 use Rattle.plan.specs.Fields.{deviceFields}
 use Rattle.planfile.proofs.Gaps.{gaps}
 use Rattle.planfile.proofs.device.rest_zero.Statement.{statement}

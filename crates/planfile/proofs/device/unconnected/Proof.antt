@@ -1,7 +1,7 @@
 use borrow.Author.Tests.{eq-eqb, ne-eqb}
 use borrow.Author.Needs.{needs}
 use Rattle.plan.specs.Fields.{unconnected}
-use Rattle.areas.proofs.Turns.{fourth}
+use Rattle.lists.proofs.Turns.{fourth}
 use Rattle.planfile.proofs.device.unconnected.Statement.{statement}
 use Rattle.planfile.proofs.device.unconnected.Tie as tie
 

@@ -6,7 +6,7 @@ use borrow.Author.Needs.{needs}
 use Rattle.plan.specs.Block.{byte, checked}
 use Rattle.plan.specs.Header.{headerIn, headerFits}
 use Rattle.plan.specs.Refusals.{first, headerTests}
-use Rattle.areas.proofs.Turns.{failed, passed}
+use Rattle.lists.proofs.Turns.{failed, passed}
 use Rattle.planfile.proofs.header.refusal.Statement.{statement}
 use Rattle.planfile.proofs.header.refusal.Tie as tie
 

@@ -2,7 +2,7 @@ use mathlib.Core.Path.{_≡_, ap₂, _∙_}
 use borrow.Author.Needs.{needs}
 use Rattle.plan.specs.Reading.{planOf}
 use Rattle.plan.proofs.Firsts.{AllPass}
-use Rattle.planfile.specs.Scan.{scanTests}
+use Rattle.planfile.specs.inner.Scan.{scanTests}
 use Rattle.planfile.proofs.ReaderAnswers.{badIn, scan-refuses, scan-passes, counts, count-few, search-refuses, search-accepts}
 use Rattle.planfile.proofs.Plans.{same-plan}
 use Rattle.planfile.proofs.reader.read.Statement.{statement}

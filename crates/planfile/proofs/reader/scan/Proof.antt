@@ -7,7 +7,7 @@ use Rattle.plan.specs.Block.{block}
 use Rattle.plan.proofs.Firsts.{AllPass}
 use Rattle.planfile.proofs.Scans.{stops-long, has-header, stops-header, passes-header, few, stops-counted, devices-decide}
 use Rattle.planfile.proofs.Places.{count-in}
-use Rattle.areas.proofs.Turns.{failed, passed}
+use Rattle.lists.proofs.Turns.{failed, passed}
 use Rattle.planfile.proofs.reader.scan.Statement.{statement}
 use Rattle.planfile.proofs.reader.scan.Tie as tie
 

@@ -11,7 +11,7 @@ use Rattle.bits.specs.Set.{bit, join}
 use Rattle.bits.proofs.Sets.{bit-two}
 use Rattle.bits.proofs.get.Reads as get-reads
 use Rattle.bits.proofs.join.Reads as join-reads
-use Rattle.reach.specs.Depth.{left}
+use Rattle.reach.specs.inner.Depth.{left}
 use Rattle.reach.proofs.Returns.{none, again, node, shorter, router, last, no-more, onward}
 use Rattle.reach.proofs.visits.ahead.Reads as ahead-reads
 use Rattle.reach.proofs.visits.device.Reads as device

@@ -9,7 +9,7 @@ use Rattle.plan.specs.Reading.{Held}
 use Rattle.plan.specs.declared.Plan.{Plan}
 use Rattle.plan.proofs.BothWays.{held-devices}
 use Rattle.bench.specs.Trials.{Finds}
-use Rattle.report.specs.Pieces.{PutsLines}
+use Rattle.report.specs.inner.Pieces.{PutsLines}
 use Rattle.report.proofs.Short.{line-short, place-passed, place-put, lines-none, lines-more, lines-room, lines-done}
 use borrow.Author.Needs.{needs}
 use Rattle.report.proofs.lines.put_lines.Statement.{statement}

@@ -6,7 +6,7 @@ use native.Mathlib.Omega.{arith}
 use lib.ListN.{length, getD}
 use borrow.Author.Needs.{needs}
 use borrow.Author.Tests.{eq-eqb, ne-eqb}
-use Rattle.areas.proofs.Loops.{After, none, turn, done}
+use Rattle.lists.proofs.Loops.{After, none, turn, done}
 use Rattle.state.specs.State.{words}
 use Rattle.state.specs.Queue.{queueAt, queueBut, queueAllAt}
 use Rattle.state.proofs.Queues.{length-but}

@@ -1,6 +1,6 @@
 use borrow.Author.Needs.{needs}
 use borrow.Author.Tests.{eq-eqb, ne-eqb}
-use Rattle.state.specs.Queue.{queuedPort}
+use Rattle.state.specs.inner.Port.{queuedPort}
 use Rattle.state.proofs.port.queued.Statement.{statement}
 use Rattle.state.proofs.port.queued.Tie as tie
 

@@ -5,10 +5,10 @@ use Prim.Native.Nat.{ℕ, _-_, _<_, _≤_}
 use native.Mathlib.Omega.{arith}
 use borrow.Author.Count.{below-none, below-more}
 use borrow.Author.Tests.{not-true, not-false}
-use Rattle.areas.proofs.Tests.{every-all, every-not}
+use Rattle.lists.proofs.Tests.{every-all, every-not}
 use Rattle.bits.specs.Set.{bit}
 use Rattle.state.specs.State.{State, register as State·register, timer}
-use Rattle.state.specs.Tests.{timerSound, deviceTimed}
+use Rattle.state.specs.inner.Tests.{timerSound, deviceTimed}
 use borrow.Author.Needs.{needs}
 use Rattle.state.proofs.sound.device_timed.Statement.{statement}
 use Rattle.state.proofs.sound.device_timed.Tie as tie

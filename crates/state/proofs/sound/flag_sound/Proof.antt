@@ -1,6 +1,6 @@
 -- `state::flag_sound` meets its contract: each test by its branch. Assumes nothing.
 use borrow.Author.Tests.{eq-eqb, ne-eqb, lt-ltb, le-ltb, le-leb, lt-leb}
-use Rattle.state.specs.Tests.{flagSound}
+use Rattle.state.specs.inner.Tests.{flagSound}
 use borrow.Author.Needs.{needs}
 use Rattle.state.proofs.sound.flag_sound.Statement.{statement}
 use Rattle.state.proofs.sound.flag_sound.Tie as tie

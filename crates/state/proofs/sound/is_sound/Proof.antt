@@ -13,7 +13,7 @@ use Rattle.answers.specs.Decides.{Decides}
 use Rattle.plan.specs.declared.Plan.{Plan}
 use Rattle.state.specs.State.{State, words, word}
 use Rattle.state.specs.Sound.{Sound}
-use Rattle.state.specs.Tests.{allTimed, restZero, portsSound, sounds}
+use Rattle.state.specs.inner.Tests.{allTimed, restZero, portsSound, sounds}
 use Rattle.state.proofs.Tested.{sounds-sound, sound-sounds}
 use Rattle.state.proofs.sound.is_sound.Statement.{statement}
 use Rattle.state.proofs.sound.is_sound.Tie as tie

@@ -1,6 +1,6 @@
 -- `state::may_wait` meets its contract: each test by its branch. Assumes nothing.
 use borrow.Author.Tests.{eq-eqb, ne-eqb}
-use Rattle.state.specs.Tests.{mayWait}
+use Rattle.state.specs.inner.Tests.{mayWait}
 use borrow.Author.Needs.{needs}
 use Rattle.state.proofs.sound.may_wait.Statement.{statement}
 use Rattle.state.proofs.sound.may_wait.Tie as tie

@@ -1,7 +1,7 @@
 -- `state::port_kept` meets its contract: each test by its branch. Assumes nothing.
 use mathlib.Core.Path.{sym, _∙_}
 use borrow.Author.Tests.{le-leb, lt-leb, not-true, not-false}
-use Rattle.state.specs.Tests.{portKept}
+use Rattle.state.specs.inner.Tests.{portKept}
 use borrow.Author.Needs.{needs}
 use Rattle.state.proofs.sound.port_kept.Statement.{statement}
 use Rattle.state.proofs.sound.port_kept.Tie as tie

@@ -1,6 +1,6 @@
 -- `state::port_sound` meets its contract: each test by its branch. Assumes nothing.
 use borrow.Author.Tests.{lt-ltb, le-ltb}
-use Rattle.state.specs.Tests.{portSound}
+use Rattle.state.specs.inner.Tests.{portSound}
 use borrow.Author.Needs.{needs}
 use Rattle.state.proofs.sound.port_sound.Statement.{statement}
 use Rattle.state.proofs.sound.port_sound.Tie as tie

@@ -6,9 +6,9 @@ use native.Mathlib.Omega.{arith}
 use borrow.Author.Count.{below-none, below-more}
 use borrow.Author.Tests.{eq-eqb, ne-eqb}
 use lib.Dec.{eqb}
-use Rattle.areas.proofs.Tests.{every-all, every-not}
+use Rattle.lists.proofs.Tests.{every-all, every-not}
 use Rattle.state.specs.State.{word, portAt}
-use Rattle.state.specs.Tests.{portZero}
+use Rattle.state.specs.inner.Tests.{portZero}
 use borrow.Author.Needs.{needs}
 use Rattle.state.proofs.sound.port_zero.Statement.{statement}
 use Rattle.state.proofs.sound.port_zero.Tie as tie

@@ -5,8 +5,8 @@ use Prim.Native.Nat.{ℕ, _-_, _<_, _≤_}
 use native.Mathlib.Omega.{arith}
 use borrow.Author.Count.{below-none, below-more}
 use borrow.Author.Tests.{not-true, not-false}
-use Rattle.areas.proofs.Tests.{every-all, every-not}
-use Rattle.state.specs.Tests.{placeSound, portsSound}
+use Rattle.lists.proofs.Tests.{every-all, every-not}
+use Rattle.state.specs.inner.Tests.{placeSound, portsSound}
 use borrow.Author.Needs.{needs}
 use Rattle.state.proofs.sound.ports_sound.Statement.{statement}
 use Rattle.state.proofs.sound.ports_sound.Tie as tie

@@ -2,9 +2,9 @@ use mathlib.Core.Path.{sym}
 use Prim.Native.Nat.{_*_}
 use native.Mathlib.Omega.{arith}
 use borrow.Author.Tests.{lt-ltb}
-use Rattle.areas.proofs.Tests.{or-left, every-all}
+use Rattle.lists.proofs.Tests.{or-left, every-all}
 use Rattle.state.specs.State.{deviceWords, portsAt}
-use Rattle.state.specs.Tests.{zerosIn}
+use Rattle.state.specs.inner.Tests.{zerosIn}
 use borrow.Author.Needs.{needs}
 use Rattle.state.proofs.sound.rest_zero.Statement.{statement}
 use Rattle.state.proofs.sound.rest_zero.Tie as tie

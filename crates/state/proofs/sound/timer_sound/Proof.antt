@@ -1,6 +1,6 @@
 -- `state::timer_sound` meets its contract: each test by its branch. Assumes nothing.
 use borrow.Author.Tests.{eq-eqb, ne-eqb, le-leb, lt-leb}
-use Rattle.state.specs.Tests.{timerSound}
+use Rattle.state.specs.inner.Tests.{timerSound}
 use Rattle.state.proofs.sound.timer_sound.Statement.{statement}
 use Rattle.state.proofs.sound.timer_sound.Tie as tie
 

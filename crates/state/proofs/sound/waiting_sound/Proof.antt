@@ -1,7 +1,7 @@
 -- `state::waiting_sound` meets its contract: each test by its branch. Assumes nothing.
 use mathlib.Core.Path.{sym, _∙_}
 use borrow.Author.Tests.{eq-eqb, ne-eqb, not-true, not-false}
-use Rattle.state.specs.Tests.{waitingSound}
+use Rattle.state.specs.inner.Tests.{waitingSound}
 use borrow.Author.Needs.{needs}
 use Rattle.state.proofs.sound.waiting_sound.Statement.{statement}
 use Rattle.state.proofs.sound.waiting_sound.Tie as tie

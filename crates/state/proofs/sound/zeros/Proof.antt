@@ -6,10 +6,10 @@ use native.Mathlib.Numerals.{add-one}
 use native.Mathlib.Omega.{arith}
 use borrow.Author.Tests.{lt-ltb, le-ltb}
 use lib.Dec.{eqb, ltb}
-use Rattle.areas.specs.Table.{every}
-use Rattle.areas.proofs.Tests.{or-left, every-all, sum-zero}
+use Rattle.lists.specs.Table.{every}
+use Rattle.lists.proofs.Tests.{or-left, every-all, sum-zero}
 use Rattle.state.specs.State.{State, words, word}
-use Rattle.state.specs.Tests.{zerosIn}
+use Rattle.state.specs.inner.Tests.{zerosIn}
 use borrow.Author.Needs.{needs}
 use Rattle.state.proofs.sound.zeros.Statement.{statement}
 use Rattle.state.proofs.sound.zeros.Tie as tie

@@ -1,4 +1,4 @@
--- RULES, "Areas": lists said by their places: what stands at each, what is true at each, and lists joined in order.
+-- RULES, "Lists and loops": lists said by their places: what stands at each, what is true at each, and lists joined in order.
 use mathlib.Core.Bool.{Bool, true, _&&_}
 use mathlib.Core.List.{List, [], _∷_, _++_}
 use Prim.Native.Nat.{ℕ, zero, suc}

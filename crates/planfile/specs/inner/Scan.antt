@@ -4,7 +4,7 @@ use mathlib.Core.List.{List, [], _∷_, _++_}
 use Prim.Native.Nat.{ℕ, zero, suc, _+_, _*_, _/_}
 use lib.Dec.{eqb, ltb}
 use lib.ListN.{length}
-use Rattle.areas.specs.Table.{joined}
+use Rattle.lists.specs.Table.{joined}
 use Rattle.plan.specs.Block.{block}
 use Rattle.plan.specs.Refusals.{test, Test, Verdict, first, lengthFits, headerTests, deviceTests, countIn, deviceBlock}
 use Rattle.planfile.specs.declared.reader.Place.{Place}

@@ -5,7 +5,7 @@ use mathlib.Core.List.{List, []}
 use Prim.Native.Nat.{ℕ, _+_, _*_}
 use lib.Dec.{eqb, ltb, leb}
 use lib.ListN.{getD}
-use Rattle.areas.specs.Table.{every}
+use Rattle.lists.specs.Table.{every}
 use Rattle.plan.specs.Fields.{portsFit, masksFit, nobody, joins}
 use Rattle.plan.specs.Header.{headerOf, headerFits}
 use Rattle.plan.specs.declared.Core.{Core}

@@ -9,8 +9,8 @@ use native.Mathlib.Omega.{arith}
 use lib.Dec.{ltb}
 use lib.ListN.{replicate, set, length-replicate, getD-replicate}
 use borrow.Author.Tests.{lt-ltb, le-ltb}
-use Rattle.areas.specs.Table.{table}
-use Rattle.areas.proofs.Tables.{is-table, same-table, set-table}
+use Rattle.lists.specs.Table.{table}
+use Rattle.lists.proofs.Tables.{is-table, same-table, set-table}
 
 -- what stands at place k
 abbrev pub filling : {A : Type 0} → A → (ℕ → A) → ℕ → ℕ → A

@@ -5,8 +5,8 @@ use mathlib.Core.Logic.{_↔_}
 use Prim.Native.Nat.{ℕ, _≤_, _<_}
 use lib.Dec.{eqb, leb, ltb}
 use borrow.Author.Tests.{ltb-true, leb-true, eqb-true, lt-ltb, le-leb, eq-eqb}
-use Rattle.areas.specs.Table.{every}
-use Rattle.areas.proofs.Tests.{and-left, and-right, both, every-at, every-all}
+use Rattle.lists.specs.Table.{every}
+use Rattle.lists.proofs.Tests.{and-left, and-right, both, every-at, every-all}
 
 pub and-iff : (a b : Bool) → ((a && b) ≡ true) ↔ ((a ≡ true) × (b ≡ true))
 and-iff a b = (λ e. (and-left a b e, and-right a b e), λ p. both a b (p .0) (p .1))

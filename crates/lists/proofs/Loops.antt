@@ -6,7 +6,7 @@ use native.Mathlib.Nat.{add-zero, add-suc}
 use native.Mathlib.Decide.{ℕ-discrete}
 use native.Mathlib.Numerals.{add-one}
 use native.Mathlib.Omega.{arith}
-use Rattle.areas.specs.Loop.{upTo}
+use Rattle.lists.specs.Loop.{upTo}
 
 pub upTo-step : {S : Type 0} (f : ℕ → S → S) (n : ℕ) (s : S) → upTo f (n + 1) s ≡ f n (upTo f n s)
 unfolding upTo

@@ -8,7 +8,7 @@ use native.Mathlib.Nat.{mul-suc, mul-zero, zero-add, suc-add, mul-le-mul-left}
 use native.Mathlib.Omega.{arith}
 use lib.ListN.{length, getD, set, length-append, length-set, List·getD-append}
 use lib.Seq.{ext-getD, getD-set-same, getD-set-other, getD-append-add}
-use Rattle.areas.specs.Table.{table, joined}
+use Rattle.lists.specs.Table.{table, joined}
 
 -- ---- tables
 

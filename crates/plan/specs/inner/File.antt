@@ -5,14 +5,14 @@ use mathlib.Core.List.{List, [], _∷_, _++_}
 use Prim.Native.Nat.{ℕ, zero, suc, _+_, _*_, _/_, _%_}
 use lib.Dec.{eqb}
 use lib.ListN.{set}
-use Rattle.areas.specs.Table.{table, joined}
+use Rattle.lists.specs.Table.{table, joined}
 use Rattle.plan.specs.Block.{Field, check, checkField}
 use Rattle.plan.specs.Fields.{entryFields, ownFields, nobody}
 use Rattle.plan.specs.Header.{headerFields, headerOf, headerNumbers}
 use Rattle.plan.specs.declared.Core.{Core}
 use Rattle.plan.specs.declared.Header.{Header}
 use Rattle.plan.specs.declared.Plan.{Plan}
-use Rattle.plan.specs.Memory.{at, peerAt}
+use Rattle.plan.specs.inner.Memory.{at, peerAt}
 
 -- ---- numbers in a block
 

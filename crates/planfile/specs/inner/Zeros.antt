@@ -3,7 +3,7 @@ use mathlib.Core.Bool.{Bool}
 use mathlib.Core.List.{List}
 use Prim.Native.Nat.{ℕ, _+_, _-_}
 use lib.Dec.{eqb}
-use Rattle.areas.specs.Table.{every}
+use Rattle.lists.specs.Table.{every}
 use Rattle.plan.specs.Block.{byte}
 
 -- the bytes from one on up to another, which does not count, are zero

@@ -5,10 +5,7 @@ use lib.ListN.{length, getD}
 use Rattle.areas.specs.Put.{Puts}
 use Rattle.text.specs.Text.{ascii, decimal}
 use Rattle.plan.specs.declared.Plan.{Plan}
-use Rattle.report.specs.Report.{field, line, Lines, Prints, Areas, longest}
-
-abbrev pub lent : List ℕ → List ℕ → List ℕ → Areas
-lent state second text = record { state = state; second = second; text = text }
+use Rattle.report.specs.Report.{field, line, Lines, Prints, longest}
 
 -- the first three fields of a line
 unfoldable pub front : ℕ → ℕ → ℕ → ℕ → List ℕ

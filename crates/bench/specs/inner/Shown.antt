@@ -5,8 +5,7 @@ use Prim.Native.Nat.{ℕ}
 use lib.ListN.{length, take, drop}
 use Rattle.plan.specs.declared.Plan.{Plan}
 use Rattle.state.specs.State.{State}
-use Rattle.bench.specs.Round.{Areas, World, round}
-use Rattle.bench.specs.Settling.{Pair}
+use Rattle.bench.specs.Round.{World, round}
 
 -- the words told, as far as there is room, over what stood there before
 unfoldable pub shown : List ℕ → List ℕ → List ℕ
@@ -35,14 +34,6 @@ pub record Shows (before : List ℕ) (w : World) (x : Seen) : Type 0 where
 -- the code led from x to y as the rule leads from world to world
 pub record Follows (rule : World → World) (x y : Seen) : Type 0 where
   pub follows : (before : List ℕ) (w : World) → Shows before w x → Shows before (rule w) y
-
--- the three areas that a round fills
-abbrev pub areas : State → List ℕ → List ℕ → Areas
-areas next sent told = record { next = next; sent = sent; told = told }
-
--- the two areas of settling
-abbrev pub pair : State → List ℕ → Pair
-pair state second = record { state = state; second = second }
 
 -- a round was played: the next state, the bytes sent, and the words told over what the area held before
 pub record Played (plan : Plan) (old : State) (before : List ℕ) (next : State) (sent told : List ℕ) (count : ℕ) : Type 0 where

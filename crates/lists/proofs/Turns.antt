@@ -5,8 +5,8 @@ use Prim.Native.Nat.{ℕ, _+_, _≤_}
 use native.Mathlib.Numerals.{add-one}
 use native.Mathlib.Omega.{arith}
 use borrow.Author.Tests.{not-true, not-false}
-use Rattle.areas.specs.Table.{every}
-use Rattle.areas.proofs.Tests.{both}
+use Rattle.lists.specs.Table.{every}
+use Rattle.lists.proofs.Tests.{both}
 
 -- the first i of n tests are passed
 pub record Passed (n : ℕ) (f : ℕ → Bool) (i : ℕ) : Type 0 where

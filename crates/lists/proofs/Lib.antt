@@ -1,0 +1,6 @@
+pub mod Facts
+pub mod Filled
+pub mod Loops
+pub mod Tables
+pub mod Tests
+pub mod Turns
