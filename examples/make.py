@@ -222,6 +222,17 @@ def fading():
     return plan
 
 
+def twice():
+    """Three routers, the third one reached both by the second and directly, over links that carry codes one way, with loads of 1: the
+    copy by the longer way comes when the bit is gone again, and the handler is told twice."""
+    plan = Plan(1, 1)
+    a, b = plan.node(source=[5]), plan.node(handler=[5])
+    first, second, third = plan.router(3), plan.router(2), plan.router(3)
+    for near, far in (((a, 0), (first, 0)), ((first, 1), (second, 0)), ((first, 2), (third, 0)), ((second, 1), (third, 1)), ((third, 2), (b, 0))):
+        plan.join(near, far, near=5, far=10)
+    return plan
+
+
 def idle():
     """One node, joined to nothing, and no source: the smallest file there is."""
     plan = Plan(1, 1)
@@ -231,5 +242,5 @@ def idle():
 
 if __name__ == "__main__":
     folder = pathlib.Path(sys.argv[1] if len(sys.argv) > 1 else pathlib.Path(__file__).parent)
-    for make in (three, ring, tree, torus, full, loop, brief, mute, incident, mesh, chain, never, fading, refused, idle):
+    for make in (three, ring, tree, torus, full, loop, brief, mute, incident, mesh, chain, never, fading, twice, refused, idle):
         (folder / f"{make.__name__}.plan").write_bytes(make().file())
