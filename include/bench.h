@@ -256,7 +256,8 @@ static inline bench_u32 bench_reset(const bench_u8 *plan, bench_size plan_length
 /* ---- rounds, settling, reach, and the text */
 
 /* One round from an old state. The word of the bytes sent at 8 x device + port is the byte that the port sent, or
- * BENCH_NOTHING; a word told is kind x 65,536 + device x 256 + identifier, kinds 1 interrupt, 2 acknowledge, 3 timeout. How many words
+ * BENCH_NOTHING; a word told has the identifier in its low byte, the device in the next, and above them 1 for an interrupt, 2 for an
+ * acknowledge or 3 for a timeout. How many words
  * were told goes to *count, and behind them are zeros. 1; 2; 3. */
 static inline bench_u32 bench_round(const bench_u8 *plan, bench_size plan_length, const bench_u32 *old, bench_size old_length,
                                     bench_u32 *next, bench_size next_length, bench_u32 *sent, bench_size sent_length,

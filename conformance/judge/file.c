@@ -84,7 +84,8 @@ static u32 device_block_read(struct device *device, const u8 *block, u32 devices
     return zero(block, BEHIND_FIELDS) ? 0 : 24;
 }
 
-/* The peer's entry exists, points back, and is not the port itself. A port that leads nowhere has nothing wrong. */
+/* The other end is a port that its device has, another one than this, and its entry names this one. A port that leads nowhere has
+ * nothing wrong. */
 static flag connect(struct network *net, const u8 *file, u32 device, u32 port) {
     const u8 *entry = entry_at(file, device, port);
     struct port *end = &net->device[device].port[port];

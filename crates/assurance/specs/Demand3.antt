@@ -44,7 +44,7 @@ SendsK plan k s q = (kind : ℕ) × (kind < 2) × SendsIt plan k s kind q
 
 module _ (plan : Plan) (k source D : ℕ) (s : State) where
   pub record Given (at : ℕ → State) : Type 0 where
-    -- from any sound state and for one accepted plan
+    -- the plan is that of an accepted file, the same in every call, and the state any sound one
     pub held : Held plan
     pub sound : Sound plan s
     -- k is unset, and not waiting anywhere
@@ -52,7 +52,7 @@ module _ (plan : Plan) (k source D : ℕ) (s : State) where
     pub idle : (kind q : ℕ) → kind < 2 → q < 256 → bit (waiting s kind q) k ≡ 0
     -- a source's request for it is taken
     pub taken : Ordered (callAsks plan 0 source k s) 0
-    -- D is the most crossings that the code needs to any device it can reach
+    -- D is the greatest, over the devices reached, of the least number of crossings to each
     pub farthest : Farthest plan s 0 k source D
     -- for `window D` rounds nobody requests k again or acknowledges it; other identifiers are used as they may be
     pub course : Course plan k (window D) (called plan 0 source k s) at
@@ -60,9 +60,9 @@ module _ (plan : Plan) (k source D : ℕ) (s : State) where
     pub loads : (d : ℕ) → d < devices plan → window D < loadOf plan d k
 
   pub record Follows (at : ℕ → State) : Type 0 where
-    -- a device n crossings away holds k by the end of round `crossing` x n and until the last round
+    -- each device n crossings away holds k after `crossing` x n rounds, and from then on to the end of the window
     pub holds : (n e t : ℕ) → Walk plan s 0 k source n e → crossing * n ≤ t → t ≤ window D → bit (register (at t) e) k ≡ 1
-    -- none out of reach holds it in that time
+    -- whoever holds k in the window is reached
     pub no-other : (e t : ℕ) → e < devices plan → t ≤ window D → bit (register (at t) e) k ≡ 1 → (n : ℕ) × Walk plan s 0 k source n e
     -- no port sends k twice
     pub once : (q t u : ℕ) → t < u → u < window D → SendsK plan k (at t) q → SendsK plan k (at u) q → ⊥

@@ -38,11 +38,11 @@ ofAcknowledge = 2
 abbrev pub ofTimeout : ℕ
 ofTimeout = 3
 
--- a word told: kind x 65,536 + device x 256 + identifier
+-- a word told: the identifier in its low byte, the device in the next, what it is about above them
 abbrev pub toldWord : ℕ → ℕ → ℕ → ℕ
 toldWord kind d k = 65536 * kind + 256 * d + k
 
--- ---- 1. timers: a running timer falls by 1; at 0 the bit clears and a node's host is told
+-- ---- 1. timers: one that runs goes down by 1; where it comes to 0 its bit goes too, and a node tells its host
 
 unfoldable pub tick : Bool → ℕ → ℕ → World → World
 tick isRouter d k w =

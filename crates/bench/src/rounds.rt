@@ -62,7 +62,7 @@ fn tell(told: &mut [u32], count: usize, kind: u32, d: usize, k: u32) -> usize
 
 // ---- 1. timers
 
-// Timer k of device d falls by 1; at 0 the bit clears, and the host of a node is told.
+// Timer k of device d goes down by 1; where it comes to 0 its bit goes too, and a node tells its host.
 fn tick_one(
     router: bool,
     d: usize,

@@ -49,7 +49,8 @@ halted q s = put (put (put s (portAt q 0) 0) (portAt q 1) 0) (portAt q runningAt
 abbrev pub ownAsks : ℕ → ℕ → List Condition
 ownAsks mask k = ask 5 (k < 32) ∷ ask 6 (bit mask k ≡ 1) ∷ []
 
--- by the state of the device: a port that runs, one of these that may send the kind, and the bit
+-- by the state of the device: a port that runs; a port that runs and may send the kind; and the bit, which is to be 0 before a request,
+-- of kind 0, and 1 before an acknowledge, of kind 1: as the kind's own number
 abbrev pub sendAsks : List ℕ → ℕ → ℕ → ℕ → State → List Condition
 sendAsks permissions kind d k s =
     ask 7 ((p : ℕ) × (p < 8) × (running s (8 * d + p) ≡ 1))

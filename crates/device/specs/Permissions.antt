@@ -1,5 +1,5 @@
 -- RULES, "One device": a port's four permissions. Kind 0 is the interrupt, kind 1 the acknowledge.
--- Send interrupts is 1, receive interrupts 2, send acknowledges 4, receive acknowledges 8: bits 0 to 3.
+-- Bits 0 and 1 are for interrupts, to send and to receive them; bits 2 and 3 are for acknowledges.
 use mathlib.Core.Bool.{Bool}
 use Prim.Native.Nat.{ℕ, _+_, _*_}
 use lib.Dec.{eqb}

@@ -28,7 +28,7 @@ use Rattle.plan.proofs.Back.{shaped, read-right, read-file}
 -- ---- an accepted file and its plan
 
 module _ (file : List ℕ) (plan : Plan) (a : Accepted file plan) where
-  -- an accepted file, read and written again, gives the same bytes
+  -- the file of the plan that was read is the file that it was read from
   pub read-and-written : fileOf plan ≡ file
   read-and-written = ap fileOf (a .plan-of) ∙ read-file file (a .bytes) (a .right)
 

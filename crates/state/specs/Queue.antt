@@ -1,4 +1,4 @@
--- RULES, "State": to queue code k of a kind at a port: if it runs and may send that kind, k joins that waiting set and leaves the other.
+-- RULES, "State": a code is queued at a port that runs and may send its kind: k joins the waiting set of the kind, and leaves that of the other.
 use mathlib.Core.Bool.{Bool, cond, _&&_}
 use mathlib.Core.List.{List}
 use Prim.Native.Nat.{ℕ, _+_, _-_, _*_}

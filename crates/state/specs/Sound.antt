@@ -14,7 +14,7 @@ use Rattle.plan.specs.declared.Plan.{Plan}
 use Rattle.state.specs.State.{State, words, word, deviceWords, portWords, register, timer, waiting, next, running, portAt}
 use Rattle.state.specs.Network.{devices, exists, peer, permissions}
 
--- a timer is 1 to 65,535 where its bit is 1, else 0
+-- a timer runs where its bit is 1, within 65,535, and is 0 where it is 0
 pub record Timed (s : State) (d k : ℕ) : Type 0 where
   pub on : bit (register s d) k ≡ 1 → (1 ≤ timer s d k) × (timer s d k ≤ 65535)
   pub off : bit (register s d) k ≡ 0 → timer s d k ≡ 0
@@ -34,7 +34,7 @@ pub record Sound (plan : Plan) (s : State) : Type 0 where
   pub fits : (i : ℕ) → word s i < 2 ^ 32
   pub timers : (d k : ℕ) → d < devices plan → d < 32 → k < 32 → Timed s d k
   pub ports : (q : ℕ) → q < 256 → exists plan q ≡ true → Kept plan s q
-  -- all words of absent devices and ports are 0
+  -- what belongs to no device and no port of the plan is 0
   pub no-device : (d i : ℕ) → devices plan ≤ d → d < 32 → i < deviceWords → word s (deviceWords * d + i) ≡ 0
   pub no-port : (q i : ℕ) → q < 256 → exists plan q ≡ false → i < portWords → word s (portAt q i) ≡ 0
 

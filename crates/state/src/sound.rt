@@ -101,7 +101,7 @@ fn device_timed(state: &[u32], d: usize) -> bool
     true
 }
 
-// Is the timer 1 to 65,535 where its bit is 1, else 0?
+// Does the timer run, within 65,535, where the bit is 1, and is it 0 where the bit is 0?
 fn timer_sound(on: u32, timer: u32) -> bool
     ensures { λ r. ⌜ r ≡ timerSound on timer ⌝ }
 {

@@ -7,7 +7,7 @@ use Rattle.state.specs.State.{State, register}
 use Rattle.reach.specs.Walk.{Walk}
 use Rattle.assurance.specs.Demand3.{Given, window}
 
--- where demand 3's conditions are met, a device n crossings away holds k by the end of round W x n and until the last round
+-- under demand 3's conditions, W rounds for each of n crossings are enough for a device to hold k from then on
 unfoldable pub Enough : ℕ → Type 0
 Enough W =
     (plan : Plan) (k source D : ℕ) (s : State) (at : ℕ → State) → Given plan k source D s at
