@@ -116,3 +116,17 @@ compile() {
     shift 2
     linked "$program" "$program.o" "$@"
 }
+
+# Compiles and links a program that plays the judge beside the bench: judged PROGRAM, and then its sources.
+judged() {
+    build staticlib door
+    parts=$1.parts
+    program=$1
+    shift
+    mkdir "$parts"
+    for source in "$here"/conformance/judge/*.c "$@"; do
+        folder=${source%/*}
+        object "$source" "$parts/${folder##*/}-${source##*/}.o"
+    done
+    linked "$program" "$parts"/*.o "$here/target/staticlib/libdoor.a"
+}

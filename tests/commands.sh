@@ -28,7 +28,7 @@ if [ "$(uname -m)" = x86_64 ] && command -v cc >/dev/null 2>&1; then
     mkdir "$work/user"
     for part in include examples target; do ln -s "$PWD/$part" "$work/user/$part"; done
     line=$(sed -n 's/^    \(cc .*\)$/\1/p' README.md)
-    (cd "$work/user" && sh -c "$line" && ./incident <examples/incident.plan) | cmp - tests/incident.txt
+    (cd "$work/user" && sh -c "$line" && ./incident <examples/incident.plan) | cmp - tests/expected/incident.txt
 fi
 
 # The command ends with a status, and has so many lines on standard output and on standard error.
@@ -51,7 +51,7 @@ for given in "$three" ''; do
     cmp "$work/out" examples/expected/three.txt
     ends 0 2048 0 bin/decode $given <$three
     ends 0 4 0 bin/example incident ${given:+examples/incident.plan} <examples/incident.plan
-    cmp "$work/out" tests/incident.txt
+    cmp "$work/out" tests/expected/incident.txt
 done
 
 # By a link, and by a link to that, from elsewhere.

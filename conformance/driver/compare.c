@@ -18,7 +18,6 @@ struct lent {
 
 static struct lent lents[LENT];
 static u32 lent_count;
-static size seed, this_case, in_case;
 static enum call this_call;
 static size asked[5];
 static size comparisons[CALLS], hits[CALLS][27];
@@ -37,18 +36,10 @@ static const u8 numbers[CALLS][12] = {
     [ROUND] = {0, 1, 2, 3, END}, [SETTLE] = {0, 1, 2, 11, 12, END}, [REACH] = {0, 1, 2, 4, 5, 6, END},
     [REPORT] = {0, 3, END}};
 
-void case_begin(size of_seed, size which) {
-    seed = of_seed;
-    this_case = which;
-    in_case = 0;
-    random_begin(seed, which);
-}
-
 _Noreturn void fail(const char *what, size one, size other) {
     printf("judge: %s: %lu, %lu\n", what, one, other);
-    printf("in %s(%lu, %lu, %lu, %lu, %lu), comparison %lu of the case\n", names[this_call], asked[0], asked[1], asked[2],
-           asked[3], asked[4], in_case);
-    printf("again: conformance/run --seed %lu --case %lu\n", seed, this_case);
+    printf("in %s(%lu, %lu, %lu, %lu, %lu)\n", names[this_call], asked[0], asked[1], asked[2], asked[3], asked[4]);
+    say_where();
     exit(1);
 }
 
@@ -132,10 +123,17 @@ static u32 finish(u32 judge, u32 bench) {
         if (lent->use == INPUT || (lent->use == AREA && refused))
             same(lent, "which may not change", lent->before, by_bench(lent));
     }
-    in_case++;
     comparisons[this_call]++;
     hits[this_call][answers_number ? bench : 0]++;
     return bench;
+}
+
+u32 value_given(void) {
+    u32 value = 0, i = 0;
+    while (i + 1 < lent_count && lents[i].use != VALUE)
+        i++;
+    memcpy(&value, by_bench(&lents[i]), sizeof value);
+    return value;
 }
 
 u32 try_code_read(u8 byte) {
@@ -265,13 +263,17 @@ flag all_hit(void) {
     return all;
 }
 
-void table(void) {
+size compared(void) {
     size sum = 0;
-    for (u32 c = 0; c < CALLS; c++) {
-        printf("%-12s %9lu\n", names[c], comparisons[c]);
+    for (u32 c = 0; c < CALLS; c++)
         sum += comparisons[c];
-    }
-    printf("%-12s %9lu\nnumber     answers\n", "comparisons", sum);
+    return sum;
+}
+
+void table(void) {
+    for (u32 c = 0; c < CALLS; c++)
+        printf("%-12s %9lu\n", names[c], comparisons[c]);
+    printf("%-12s %9lu\nnumber     answers\n", "comparisons", compared());
     for (u32 n = 0; n <= 26; n++) {
         size times = 0;
         for (u32 c = 0; c < CALLS; c++)

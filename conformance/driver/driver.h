@@ -52,9 +52,10 @@ enum call {
     CODE_READ, CODE_WRITE, REACT, PLAN_READ, START, REQUEST, ACKNOWLEDGES, LINK_STOP, LINK_START, RESET, ROUND, SETTLE,
     REACH, REPORT, CALLS
 };
-void case_begin(size seed, size which);
 _Noreturn void fail(const char *what, size one, size other);
 void must_be(const char *what, size wanted, size given);
+u32 value_given(void); /* by the call just tried: plan read its block, settle its rounds */
+size compared(void);
 flag all_hit(void);
 void table(void);
 u32 try_code_read(u8 byte);
@@ -67,6 +68,9 @@ u32 try_round(const struct plan *plan, const struct state *old, struct played *p
 u32 try_settle(const struct plan *plan, struct state *state, u32 allowance);
 u32 try_reach(const struct plan *plan, const struct state *state, size device, u32 k);
 u32 try_report(const struct plan *file, struct printed *printed);
+
+/* Of each program with a main: says what was being tried, when something fails. */
+void say_where(void);
 
 /* plans.c: accepted files of every shape. A mask is named by where it stands in a block. */
 enum { SOURCES = 4, HANDLERS = 8 };

@@ -2,11 +2,18 @@
 #include "driver.h"
 
 static struct plan plan;
-static size demands;
+static size seed, this_case, before_case, demands;
 static u32 longest;
 
-static void play(size seed, size which) {
-    case_begin(seed, which);
+void say_where(void) {
+    printf("comparison %lu of the case; again: conformance/run --seed %lu --case %lu\n", compared() - before_case, seed,
+           this_case);
+}
+
+static void play(size which) {
+    this_case = which;
+    before_case = compared();
+    random_begin(seed, which);
     if (which == 0) {
         known_values();
         try_tables();
@@ -38,10 +45,11 @@ static size number(const char *word) {
 int main(int count, char **words) {
     if (count != 5)
         return 2;
-    size seed = number(words[1]), first = number(words[2]), cases = number(words[3]);
+    size first = number(words[2]), cases = number(words[3]);
+    seed = number(words[1]);
     flag whole = number(words[4]);
     for (size i = 0; i < cases; i++) {
-        play(seed, first + i);
+        play(first + i);
         progress(1 + i, cases);
     }
     printf("seed %lu, cases %lu to %lu\n", seed, first, first + cases - 1);

@@ -1,0 +1,157 @@
+/* Reads a plan and damaged copies of it, through the door and beside it by the judge: each refusal in each block, faults
+ * together, and files of a wrong length. A line for each: what was done and where, then the number and the block that both
+ * answer. Where they differ it says so and fails.
+ *
+ *     damaged [FOLDER] < PLAN     FOLDER gets a file NUMBER-BLOCK for each refusal; PLAN has 32 devices */
+#include "files.h"
+
+int chdir(const char *folder);
+int creat(const char *name, unsigned may);
+int close(int file);
+long write(int file, const void *from, unsigned long bytes);
+int snprintf(char *into, unsigned long room, const char *format, ...);
+
+enum { PORT = 12, LAST_ZERO = BLOCK - 3 };
+
+static struct plan whole, copy;
+static flag keeps;
+
+/* What was done to the copy, and where. */
+static const char *done;
+static u32 place;
+
+void say_where(void) {
+    printf("in the copy: %s %u\n", done, place);
+}
+
+/* Of the files that are refused alike the last stays. */
+static void keep(u32 number, u32 block) {
+    char name[32];
+    snprintf(name, sizeof name, "%u-%u", number, block);
+    int file = creat(name, 0644);
+    if (file < 0 || write(file, copy.bytes, copy.length) != (long)copy.length || close(file)) {
+        printf("damaged: %s could not be written\n", name);
+        exit(1);
+    }
+}
+
+static void say(const char *what, u32 where, size length) {
+    done = what;
+    place = where;
+    copy.length = length;
+    u32 number = try_plan_read(&copy), block = value_given();
+    printf("%s %u: %u %u\n", done, place, number, block);
+    if (keeps && number)
+        keep(number, block);
+}
+
+/* A byte of a block, with nothing mended. A port that leads nowhere has a far end outside the file. */
+static void spoil(u32 block, u32 at, u8 byte) {
+    if (block <= DEVICES)
+        copy.bytes[BLOCK * block + at] = byte;
+}
+
+/* A byte of a block, and the block's check made right again. */
+static void put(u32 block, u32 at, u8 byte) {
+    spoil(block, at, byte);
+    if (block <= DEVICES)
+        seal(&copy, block);
+}
+
+/* The far end of the first port of a block's device knows nothing of it. */
+static void loosen(u32 block) {
+    const u8 *port = copy.bytes + BLOCK * block + PORT;
+    u32 far = 1 + port[0], at = PORT + 4 * port[1];
+    put(far, at, 255);
+    put(far, at + 1, 255);
+    put(far, at + 2, 0);
+}
+
+static void try_sizes(void) {
+    static const u32 sizes[] = {0, 1, 511, 512, 513, 16384, 16895, 16896, 16897, 17408};
+    copy = whole;
+    for (u32 i = 0; i < sizeof sizes / sizeof *sizes; i++)
+        say("length", sizes[i], sizes[i]);
+}
+
+static void try_loads(u32 router, u32 node) {
+    copy = whole;
+    set_loads(&copy, router, node);
+    say("loads", router, LONGEST_FILE);
+}
+
+/* Block 0 by itself. */
+static void try_alone(u32 devices) {
+    copy = whole;
+    put(0, 1, devices);
+    say("alone with devices", devices, BLOCK);
+}
+
+/* Each refusal in one block. Block 0 has other fields at some of these places. */
+static void try_block(u32 block) {
+    static const struct {
+        const char *done;
+        u32 at;
+        u8 byte;
+    } faults[] = {
+        {"kind", 0, 7}, {"number", 1, 99}, {"role", 2, 7}, {"ports", 3, 9}, {"source", SOURCES, 255},
+        {"handler", HANDLERS, 255}, {"peer device", PORT, 200}, {"peer port", PORT + 1, 8}, {"permissions", PORT + 2, 16},
+        {"fourth", PORT + 3, 1}, {"absent port", PORT + 31, 1}, {"first zero", PORT + 32, 1}, {"last zero", LAST_ZERO, 1},
+        {"other port", PORT + 1, 7}};
+    copy = whole;
+    spoil(block, LAST_ZERO, 1);
+    say("spoiled", block, LONGEST_FILE);
+    for (u32 i = 0; i < sizeof faults / sizeof *faults; i++) {
+        copy = whole;
+        put(block, faults[i].at, faults[i].byte);
+        say(faults[i].done, block, LONGEST_FILE);
+    }
+    copy = whole;
+    loosen(block);
+    say("loose", block, LONGEST_FILE);
+}
+
+/* Several faults at once: the first in the order of the tests is answered. */
+static void try_together(void) {
+    copy = whole;
+    put(1, LAST_ZERO, 1);
+    spoil(2, LAST_ZERO, 1);
+    say("zero, and spoiled in", 2, LONGEST_FILE);
+    copy = whole;
+    loosen(1);
+    put(32, LAST_ZERO, 1);
+    say("loose, and zero in", 32, LONGEST_FILE);
+    copy = whole;
+    put(0, 1, 33);
+    spoil(0, LAST_ZERO, 1);
+    say("devices, and spoiled in", 0, LONGEST_FILE);
+    say("all of it at length", LONGEST_FILE + BLOCK, LONGEST_FILE + BLOCK);
+    copy = whole;
+    put(0, 1, 31);
+    spoil(1, LAST_ZERO, 1);
+    say("count, and spoiled in", 1, LONGEST_FILE);
+    put(0, 6, 1);
+    say("and zero in", 0, LONGEST_FILE);
+}
+
+int main(int count, char **words) {
+    random_begin(0, 0);
+    whole.length = read_all(0, whole.bytes, sizeof whole.bytes);
+    keeps = count == 2;
+    if (count > 2 || whole.length != LONGEST_FILE || (keeps && chdir(words[1]))) {
+        printf("damaged [FOLDER] < PLAN, with a folder that is there and a plan of 32 devices\n");
+        return 1;
+    }
+    try_sizes();
+    try_loads(9, 8);
+    try_loads(8, 8);
+    try_loads(0, 8);
+    try_loads(0, 0);
+    try_alone(33);
+    try_alone(1);
+    try_alone(0);
+    for (u32 block = 0; block <= DEVICES; block++)
+        try_block(block);
+    try_together();
+    return 0;
+}

@@ -1,0 +1,25 @@
+#!/bin/sh
+# Damaged copies of a plan, read by the bench and beside it by the judge, tests/damaged.c: the two agree, and come to what is
+# stored. Then the program settle gets a file for each number and block by which one is refused.
+set -eu
+cd "$(dirname "$0")/.."
+here=$(pwd -P)
+. bin/toolchain.sh
+work=$(mktemp -d)
+trap 'rm -rf "$work"' EXIT
+driver=conformance/driver
+judged "$work/damaged" tests/damaged.c $driver/compare.c $driver/plans.c $driver/random.c
+
+mkdir "$work/refused"
+run "$work/damaged" "$work/refused" <examples/full.plan >"$work/given" || { tail -n 4 "$work/given"; exit 1; }
+cmp "$work/given" tests/expected/damaged.txt
+
+for file in "$work"/refused/*; do
+    name=${file##*/}
+    echo "bad ${name%-*} ${name#*-}" >"$work/wanted"
+    status=0
+    bin/settle "$file" >"$work/given" || status=$?
+    cmp "$work/given" "$work/wanted"
+    [ "$status" = 1 ]
+done
+echo "damaged: ok"

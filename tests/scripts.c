@@ -1,0 +1,203 @@
+/* Plays a script through the door, and beside it by the judge; prints every call's answer and, round by round, every byte
+ * sent and every word told.
+ *
+ *     scripts < SCRIPT     in the folder of the plans that SCRIPT names
+ *
+ * A line is a word and what the word needs; a call is printed as its line stands. All that a call touches is compared by
+ * conformance/driver/compare.c. Where the two differ, and where a line is not understood, the program says so and fails. */
+#include "files.h"
+
+int open(const char *name, int how);
+int close(int file);
+unsigned long strlen(const char *text);
+int strcmp(const char *one, const char *other);
+unsigned long strcspn(const char *text, const char *ends);
+char *strsep(char **text, const char *ends);
+
+static struct plan plan;
+static struct state state = {.length = STATE_WORDS};
+static struct played played;
+
+/* The line, and what of it is not read yet. */
+static const char *line, *rest;
+static u32 line_number;
+
+void say_where(void) {
+    printf("in line %u: %s\n", line_number, line);
+}
+
+static _Noreturn void wrong(const char *what) {
+    printf("scripts: %s\n", what);
+    say_where();
+    exit(1);
+}
+
+/* ---- what stands in a line */
+
+/* The rest of the line, behind a space. */
+static const char *name(void) {
+    if (*rest++ != ' ')
+        wrong("a name is missing");
+    const char *from = rest;
+    rest += strlen(rest);
+    return from;
+}
+
+/* The next number, behind a space; it has up to 9 digits. */
+static u32 number(void) {
+    u32 value = 0, digits = 0;
+    if (*rest++ != ' ')
+        wrong("a number is missing");
+    for (; *rest >= '0' && *rest <= '9'; rest++, digits++)
+        value = 10 * value + *rest - '0';
+    if (digits < 1 || digits > 9)
+        wrong("a number has 1 to 9 digits");
+    return value;
+}
+
+/* ---- what a line does */
+
+static void pass_over(void) {
+    rest += strlen(rest);
+}
+
+static void print_title(void) {
+    printf("%s\n", line);
+    pass_over();
+}
+
+/* The plan in a file; `none` is a file with nothing in it. */
+static void take_plan(void) {
+    const char *of = name();
+    plan.length = 0;
+    if (!strcmp(of, "none"))
+        return;
+    int file = open(of, 0);
+    if (file < 0)
+        wrong("there is no such plan");
+    plan.length = read_all(file, plan.bytes, sizeof plan.bytes);
+    close(file);
+}
+
+static void change(enum call call) {
+    u32 device = number(), other = number();
+    printf("%s: %u\n", line, try_change(call, &plan, &state, device, other));
+}
+
+/* Over an area that held something else. */
+static void start_afresh(void) {
+    memset(state.words, 7, sizeof state.words);
+    change(START);
+}
+
+static void ask(void) {
+    change(REQUEST);
+}
+
+static void acknowledge(void) {
+    change(ACKNOWLEDGES);
+}
+
+static void stop(void) {
+    change(LINK_STOP);
+}
+
+static void run(void) {
+    change(LINK_START);
+}
+
+static void reset(void) {
+    change(RESET);
+}
+
+/* The last word of a state is that of a port which no plan of the scripts has: the state is not sound where it is not 0. */
+static void put_last(void) {
+    state.words[STATE_WORDS - 1] = number();
+}
+
+static void print_round(void) {
+    for (u32 i = 0; i < SENT_WORDS; i++)
+        if (played.sent[i] != SENT_NONE)
+            printf("sent %u %u %u\n", i / PORTS, i % PORTS, played.sent[i]);
+    for (u32 i = 0; i < played.count; i++)
+        printf("told %u %u %u\n", played.told[i] / 65536, played.told[i] / 256 % 256, played.told[i] % 256);
+}
+
+/* A round in areas of these lengths. */
+static u32 round_in(const struct state *old, size next, size sent, size told) {
+    played.next.length = next;
+    played.sent_length = sent;
+    played.told_length = told;
+    return try_round(&plan, old, &played);
+}
+
+/* A round that is refused has no areas to print, and the state stays. */
+static void play_rounds(void) {
+    for (u32 rounds = number(); rounds; rounds--) {
+        u32 answer = round_in(&state, STATE_WORDS, SENT_WORDS, TOLD_WORDS);
+        printf("round %u %u: 0\n", answer, played.count);
+        if (answer)
+            continue;
+        print_round();
+        state = played.next;
+    }
+}
+
+static void settle_all(void) {
+    u32 allowance = number(), answer = try_settle(&plan, &state, allowance);
+    printf("settle %u %u: %u\n", answer, allowance, value_given());
+}
+
+/* Areas of the wrong length, several at once, beside a state that is sound. */
+static void try_lengths(void) {
+    static struct state fresh = {.length = STATE_WORDS}, less = {.length = STATE_WORDS - 1};
+    must_be("a start", 0, try_change(START, &plan, &fresh, 0, 0));
+    printf("short start 0 0: %u\n", try_change(START, &plan, &less, 0, 0));
+    printf("short state 0 5: %u\n", try_change(REQUEST, &plan, &less, 0, 5));
+    printf("short next 0 0: %u\n", round_in(&fresh, STATE_WORDS - 1, SENT_WORDS + 1, TOLD_WORDS + 1));
+    printf("long sent 0 0: %u\n", round_in(&fresh, STATE_WORDS, SENT_WORDS + 1, TOLD_WORDS + 1));
+    printf("long told 0 0: %u\n", round_in(&fresh, STATE_WORDS, SENT_WORDS, TOLD_WORDS + 1));
+}
+
+/* The text of the program settle. */
+static void print_report(void) {
+    static struct printed printed = {.text_length = TEXT_BYTES};
+    must_be("a report", 0, try_report(&plan, &printed));
+    printf("%.*s", (int)printed.used, (const char *)printed.text);
+}
+
+/* ---- lines */
+
+static const struct word {
+    const char *name;
+    void (*play)(void);
+} words[] = {
+    {"--", print_title}, {"#", pass_over}, {"plan", take_plan}, {"start", start_afresh}, {"request", ask},
+    {"acknowledge", acknowledge}, {"stop", stop}, {"run", run}, {"reset", reset}, {"last", put_last},
+    {"rounds", play_rounds}, {"settle", settle_all}, {"lengths", try_lengths}, {"report", print_report},
+};
+
+static const struct word *word_of_line(void) {
+    size length = strcspn(line, " ");
+    rest = line + length;
+    for (u32 i = 0; i < sizeof words / sizeof *words; i++)
+        if (length == strlen(words[i].name) && !memcmp(line, words[i].name, length))
+            return &words[i];
+    wrong("there is no such word");
+}
+
+int main(void) {
+    static char script[1 << 16];
+    char *left = script;
+    read_all(0, script, sizeof script);
+    random_begin(0, 0);
+    while ((line = strsep(&left, "\n"))) {
+        line_number++;
+        if (!*line)
+            continue;
+        word_of_line()->play();
+        if (*rest)
+            wrong("there is more than the word needs");
+    }
+    return 0;
+}
