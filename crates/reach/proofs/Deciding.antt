@@ -1,9 +1,10 @@
 -- Numbers of which something can be decided: whether there is one below a bound, which is the first, and how many there are.
-use mathlib.Core.Path.{subst}
+use mathlib.Core.Path.{_≡_, subst}
 use mathlib.Core.Logic.{_⊎_, inl, inr}
 use Prim.Native.Nat.{ℕ, zero, suc, _+_, _≤_, _<_}
 use native.Mathlib.Decide.{ℕ-discrete}
 use native.Mathlib.Omega.{arith}
+use Rattle.bits.specs.Set.{bit, sizeBelow}
 
 pub either? : {A B : Type 0} → Dec A → Dec B → Dec (A ⊎ B)
 either? (yes a) b = yes (inl a)
@@ -47,6 +48,12 @@ unfolding tally
 tally-le (yes _) = omega arith
 tally-le (no _) = omega arith
 
+-- what is so makes a bit 1
+tally-bit : {A : Type 0} (b : ℕ) → (A → b ≡ 1) → (a : Dec A) → tally a ≤ b
+unfolding tally
+tally-bit b is (yes a) = let e = is a in omega arith
+tally-bit b is (no _) = omega arith
+
 module _ {A B : Type 0} where
   tally-more : (A → B) → (a : Dec A) (b : Dec B) → tally a ≤ tally b
   unfolding tally
@@ -69,6 +76,13 @@ module _ (P : ℕ → Type 0) (dec : (i : ℕ) → Dec (P i)) where
   unfolding count
   count-le zero = omega arith
   count-le (suc n) = omega (arith, count-le n, tally-le (dec n))
+
+  -- a set that has them all has no fewer members
+  pub count-size : (set n : ℕ) → ((i : ℕ) → i < n → P i → bit set i ≡ 1) → count n ≤ sizeBelow n set
+  unfolding count sizeBelow
+  count-size set zero all = omega arith
+  count-size set (suc n) all =
+      omega (arith, count-size set n (λ i l. all i (omega arith)), tally-bit (bit set n) (all n (omega arith)) (dec n))
 
 -- where each of one kind is of another too, there are no fewer of the other
 module _ (P Q : ℕ → Type 0) (p? : (i : ℕ) → Dec (P i)) (q? : (i : ℕ) → Dec (Q i)) (more : (i : ℕ) → P i → Q i) where

@@ -5,7 +5,7 @@ use mathlib.Core.Logic.{_⊎_, inl, inr, Dec·and, Dec·not}
 use Prim.Native.Nat.{ℕ, zero, suc, _+_, _*_, _/_, _%_, _≤_, _<_}
 use native.Mathlib.Decide.{map-dec, decLt, decLe, ℕ-discrete, le-ind}
 use native.Mathlib.Omega.{arith}
-use Rattle.bits.specs.Set.{bit}
+use Rattle.bits.specs.Set.{bit, size}
 use Rattle.device.specs.Permissions.{maySend, mayReceive}
 use Rattle.plan.specs.Fields.{nobody}
 use Rattle.plan.specs.Reading.{Held}
@@ -17,7 +17,7 @@ use Rattle.reach.specs.Walk.{Leads, Walk, stay, cross}
 use Rattle.reach.specs.Reach.{Reached}
 use Rattle.reach.specs.Away.{Away, Farthest}
 use Rattle.reach.proofs.Found.{none-away}
-use Rattle.reach.proofs.Deciding.{either?, some-below, first-up-to, count, count-le, count-gains}
+use Rattle.reach.proofs.Deciding.{either?, some-below, first-up-to, count, count-le, count-gains, count-size}
 
 -- ---- one crossing
 
@@ -159,6 +159,12 @@ module _ (plan : Plan) (held : Held plan) (s : State) (kind k from : ℕ) (h : f
   pub farthest : (D : ℕ) × Farthest plan s kind k from D
   farthest = from-here 33 0 (omega arith) (from, record { there = stay; least = λ m l w. omega arith }) (omega arith)
 
+  -- some device is at each distance up to the farthest, so there are more devices within it than crossings to it
+  more-near : (n : ℕ) → Some n → n < near n
+  more-near zero x =
+      omega (arith, count-gains (λ i. ⊥) (Near 0) (λ i. no (λ b. b)) (near? 0) (λ i b. absurd b) 32 from (omega (arith, few plan held)) (0, omega arith, stay) (λ b. b))
+  more-near (suc n) x = omega (arith, more-near n (before n x), gains n x)
+
 pub farthest-once : (plan : Plan) (s : State) (kind k from D E : ℕ) → Farthest plan s kind k from D → Farthest plan s kind k from E → D ≡ E
 farthest-once plan s kind k from D E x y = omega (arith, x .most E (y .some .0) (y .some .1), y .most D (x .some .0) (x .some .1))
 
@@ -175,3 +181,9 @@ module _ (plan : Plan) (held : Held plan) (s : State) (k from D set : ℕ) (h : 
 
   pub counted-reached : (e : ℕ) → Counted e → (e < 32) × (bit set e ≡ 1)
   counted-reached e a = y .all (a .0) e (a .2 .there)
+
+  -- no shortest way enters a device twice: to the farthest there are fewer crossings than devices that are reached
+  pub farthest-below : D < size set
+  unfolding size
+  farthest-below =
+      omega (arith, more-near plan held s 0 k from h D (x .some), count-size (Near plan held s 0 k from h D) (near? plan held s 0 k from h D) set 32 (λ e l w. y .all (w .0) e (w .2) .1))
