@@ -20,8 +20,9 @@ use Rattle.plan.specs.declared.Plan.{Plan}
 use Rattle.state.specs.State.{State, words, word, put, registerAt, timerAt, portsAt, portsEnd, portWords, portAt, register, timer, waiting, nextAt, next, runningAt, running}
 use Rattle.state.specs.Network.{permissions, loadOf}
 use Rattle.state.specs.Queue.{sendsAt, queueAt, queueBut, queueAllAt, queueAll}
-use Rattle.state.specs.Mark.{mark}
+use Rattle.state.specs.Mark.{loaded, mark}
 use Rattle.state.proofs.Words.{length-put, word-same, word-other}
+use Rattle.state.proofs.Keeping.{both-kinds}
 use Rattle.state.proofs.Marks.{mark-other}
 use Rattle.state.proofs.Waits.{queue-all-left}
 use Rattle.calls.specs.Calls.{called}
@@ -170,7 +171,9 @@ module _ (plan : Plan) (kind k : ℕ) (g : kind < 2) (l : k < 32) where
 
     marks-timed : timer marks d k ≡ cond (eqb kind 0) (loadOf plan d k) 0
     unfolding mark
-    marks-timed = word-same _ (timerAt d k) _ (omega (arith, length-put s (registerAt d) (marked kind (register s d) k)))
+    marks-timed =
+        word-same _ (timerAt d k) _ (omega (arith, length-put s (registerAt d) (marked kind (register s d) k)))
+        ∙ both-kinds (λ c. loaded c (loadOf plan d k) (timer s d k) ≡ cond (eqb c 0) (loadOf plan d k) 0) refl refl kind g
 
     marks-size : length marks ≡ words
     unfolding mark

@@ -21,7 +21,7 @@ use Rattle.device.specs.declared.Action.the-variants.{Forwarded, Told}
 use Rattle.plan.specs.declared.Plan.{Plan}
 use Rattle.state.specs.State.{State, put, word, registerAt, timerAt, portAt, register, timer, waiting, nextAt, next}
 use Rattle.state.specs.Network.{router, peer, loadOf}
-use Rattle.bench.specs.Round.{World, nothing, ofTimeout, toldWord, tick, chosen, sends, unqueued, timed, forwarded, tells, sideAt, acted, arrived, arrives}
+use Rattle.bench.specs.Round.{World, nothing, ofTimeout, toldWord, tick, chosen, sentWord, sends, unqueued, timed, forwarded, tells, sideAt, acted, arrived, arrives}
 use Rattle.state.proofs.Words.{word-other}
 use Rattle.bench.proofs.Following.{world}
 
@@ -72,8 +72,8 @@ module _ (old : State) (q : ℕ) where
       rw (h 0 (omega arith), h 1 (omega arith)) (first-unique 0 (next old q) _ Nowhere (firstFrom-finds 0 (next old q)) (λ k l. bit-zero k))
 
   pub post-nothing : chosen old q ≡ Nowhere → sends old q ≡ nothing
-  unfolding sends
-  post-nothing e = rw (e, sends)
+  unfolding sends sentWord
+  post-nothing e = rw (e, sentWord)
 
   pub post-same : (s : State) → chosen old q ≡ Nowhere → unqueued old q s ≡ s
   unfolding unqueued
@@ -81,12 +81,12 @@ module _ (old : State) (q : ℕ) where
 
   module _ {k : ℕ} (e : chosen old q ≡ At k) where
     pub post-interrupt : bit (waiting old 0 q) k ≡ 1 → sends old q ≡ byteOf 0 k
-    unfolding sends
-    post-interrupt h = rw (e, eq-eqb _ _ h, sends)
+    unfolding sends sentWord
+    post-interrupt h = rw (e, eq-eqb _ _ h, sentWord)
 
     pub post-acknowledge : (bit (waiting old 0 q) k ≡ 1 → ⊥) → sends old q ≡ byteOf 1 k
-    unfolding sends
-    post-acknowledge h = rw (e, ne-eqb _ _ h, sends)
+    unfolding sends sentWord
+    post-acknowledge h = rw (e, ne-eqb _ _ h, sentWord)
 
     -- the code reads the second set after it has put the first
     pub post-leaves : (s : State) (a b : ℕ) → a ≡ leave (waiting s 0 q) k → b ≡ leave (word (put s (portAt q 0) a) (portAt q 1)) k

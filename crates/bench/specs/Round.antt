@@ -63,12 +63,17 @@ tick isRouter d k w =
 unfoldable pub chosen : State → ℕ → Found
 chosen old q = firstFrom (bitOr (waiting old 0 q) (waiting old 1 q)) (next old q)
 
--- its byte, as an interrupt or an acknowledge, or nothing
+-- the word where no byte is sent
 abbrev pub nothing : ℕ
 nothing = 256
 
+-- the word for what was chosen, by the interrupts that wait: the byte of an interrupt or of an acknowledge, or nothing
+unfoldable pub sentWord : ℕ → Found → ℕ
+sentWord interrupts (At k) = cond (eqb (bit interrupts k) 1) (byteOf 0 k) (byteOf 1 k)
+sentWord interrupts Nowhere = nothing
+
 unfoldable pub sends : State → ℕ → ℕ
-sends old q = elim (chosen old q) [ At k ↦ cond (eqb (bit (waiting old 0 q) k) 1) (byteOf 0 k) (byteOf 1 k) | Nowhere ↦ nothing ]
+sends old q = sentWord (waiting old 0 q) (chosen old q)
 
 -- it leaves its set, and next moves behind it
 unfoldable pub unqueued : State → ℕ → State → State

@@ -12,7 +12,7 @@ ghost use Rattle.plan.specs.Fields.{nobody};
 ghost use Rattle.state.specs.State.{words, running};
 ghost use Rattle.state.specs.Network.{peer};
 ghost use Rattle.state.specs.Queue.{sendsAt};
-ghost use Rattle.state.specs.Mark.{mark as Mark·mark};
+ghost use Rattle.state.specs.Mark.{loaded, mark as Mark·mark};
 ghost use Rattle.calls.specs.Calls.{deviceAsks, ownAsks, sendAsks, callAsks, linkAsks, calledIn, Takes, halted, cleared, emptied, unlinked, linked, Stops, Links, Resets};
 use plan::Core;
 use plan::NOBODY;
@@ -136,10 +136,15 @@ fn mark(core: Core, kind: u8, state: &mut [u32], d: usize, k: u32)
     requires { ⌜ (length (now state) ≡ words) × (d < 32) × (k < 32) ⌝ }
     ensures { λ _. ⌜ ((peers : List (List ℕ)) → now (state .exit) ≡ Mark·mark (record { core = core; peers = peers }) kind d k (now (state .entry))) ⌝ }
 {
-    let load = timer_load(kind, state::load_for(core.loads, core.role[d], k));
     let at = DEVICE * d;
+    let timer = at + 1 + k as usize;
+    let load = timer_load(
+        kind,
+        state::load_for(core.loads, core.role[d], k),
+        state[timer],
+    );
     state[at] = device::marked(kind, state[at], k as u8);
-    state[at + 1 + k as usize] = load;
+    state[timer] = load;
 }
 
 // What a request or an acknowledge is refused with, or 0.
@@ -200,14 +205,18 @@ fn owned(kind: u8, source: u32, handler: u32) -> u32
     handler
 }
 
-// What the timer is set to: a request loads it, an acknowledge stops it.
-fn timer_load(kind: u8, load: u32) -> u32
-    ensures { λ r. ⌜ r ≡ cond (eqb kind 0) load 0 ⌝ }
+// What the timer is set to: a request loads it, an acknowledge stops it, and there is no other kind
+// to change it.
+fn timer_load(kind: u8, load: u32, timer: u32) -> u32
+    ensures { λ r. ⌜ r ≡ loaded kind load timer ⌝ }
 {
     if kind == 0 {
         return load;
     }
-    0
+    if kind == 1 {
+        return 0;
+    }
+    timer
 }
 
 // Does some port of device d run? The words of a port that the device lacks are 0.

@@ -21,13 +21,19 @@ use Rattle.device.proofs.Rule.{Accepts, opposite, ruled-cases}
 
 -- ---- the bit that is marked, and the others
 
-pub marked-other : (kind register k j : ℕ) → j < 32 → j ≢ k → bit (marked kind register k) j ≡ bit register j
+-- whatever is so of the register with the bit set, with it cleared, and as it was, is so of the register marked
+pub marked-cases : (P : ℕ → Type 0) (kind register k : ℕ) → P (join register k) → P (leave register k) → P register → P (marked kind register k)
 unfolding marked
-marked-other kind register k j h ne = by-kind (eqb kind 0)
+marked-cases P kind register k joined left same = by-kind (eqb kind 0) (eqb kind 1)
   where
-    by-kind : (t : Bool) → bit (cond t (join register k) (leave register k)) j ≡ bit register j
-    by-kind true = join-other register k j ne
-    by-kind false = leave-other register k j h ne
+    by-kind : (i a : Bool) → P (cond i (join register k) (cond a (leave register k) register))
+    by-kind true a = joined
+    by-kind false true = left
+    by-kind false false = same
+
+pub marked-other : (kind register k j : ℕ) → j < 32 → j ≢ k → bit (marked kind register k) j ≡ bit register j
+marked-other kind register k j h ne =
+    marked-cases (λ r. bit r j ≡ bit register j) kind register k (join-other register k j ne) (leave-other register k j h ne) refl
 
 pub marked-same : (kind register k : ℕ) → kind < 2 → k < 32 → bit (marked kind register k) k ≡ 1 - kind
 unfolding marked

@@ -26,29 +26,39 @@ pub struct Reaction {
     pub action: Action,
 }
 
-// May a port with these permissions send codes of the kind?
+// May a port with these permissions send codes of the kind? There is no kind above 1, and no port
+// may send one.
 pub fn may_send(kind: u8, permissions: u32) -> bool
     ensures { λ r. ⌜ r ≡ maySend kind permissions ⌝ }
 {
+    if 1 < kind {
+        return false;
+    }
     bits::get(permissions, 2 * kind as u32) == 1
 }
 
-// May it receive them?
+// May it receive them? Again, none above 1.
 pub fn may_receive(kind: u8, permissions: u32) -> bool
     ensures { λ r. ⌜ r ≡ mayReceive kind permissions ⌝ }
 {
+    if 1 < kind {
+        return false;
+    }
     bits::get(permissions, 2 * kind as u32 + 1) == 1
 }
 
 // The register once a code of the kind was accepted: an interrupt sets the bit, an acknowledge
-// clears it.
+// clears it. There is no kind above 1, and one leaves the register as it was.
 pub fn marked(kind: u8, register: u32, k: u8) -> u32
     ensures { λ r. ⌜ r ≡ Reaction·marked kind register k ⌝ }
 {
     if kind == 0 {
         return bits::join(register, k as u32);
     }
-    bits::leave(register, k as u32)
+    if kind == 1 {
+        return bits::leave(register, k as u32);
+    }
+    register
 }
 
 // The reaction to a byte. Only an Interrupt-Code and an acknowledge get as far as the register.

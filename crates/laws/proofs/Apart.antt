@@ -32,7 +32,7 @@ use Rattle.state.specs.State.{State, words, word, put, registerAt, timerAt, por
 use Rattle.state.specs.Network.{devices, router, peer, permissions, loadOf}
 use Rattle.state.specs.Sound.{Sound}
 use Rattle.state.specs.Queue.{sendsAt, queueAt, queueBut, queueAllAt}
-use Rattle.state.specs.Mark.{mark}
+use Rattle.state.specs.Mark.{loaded, mark}
 use Rattle.calls.specs.Calls.{called}
 use Rattle.bench.specs.Round.{World, nothing, sentWords, tick, chosen, sends, unqueued, timed, forwarded, sideAt, acted, arrived, ticked, sentBytes, posted, arrives, reached, afterTimers, afterSending, round}
 use Rattle.laws.specs.Alike.{Alike, SendsIt, SendAlike}
@@ -217,7 +217,7 @@ module _ {k : ℕ} (l : k < 32) {s t : State} (p : Both k s t) where
       timer-both l
       (register-both l p d (marked kind (register s d) k) (marked kind (register t d) k) h
       (marked-same kind (register s d) k g l ∙ sym (marked-same kind (register t d) k g l)))
-      d k _ _ h l (λ o. refl)
+      d k _ _ h l (λ o. ap (loaded kind (loadOf plan d k)) (p .like .timers d h))
 
 -- at every port of a device but one
 module _ {k : ℕ} (l : k < 32) (permissions : List ℕ) (kind d but : ℕ) (g : kind < 2) (h : d < 32) {s t : State} (p : Both k s t) where

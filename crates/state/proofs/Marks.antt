@@ -1,15 +1,13 @@
 -- An identifier's bit and its timer change together, and a sound state stays sound.
 use mathlib.Core.Path.{_≡_, refl, _∙_}
-use mathlib.Core.Bool.{Bool, true, false, cond}
 use mathlib.Core.Logic.{_≢_}
 use Prim.Native.Nat.{ℕ, zero, suc, _-_, _^_, _≤_, _<_}
 use native.Mathlib.Decide.{ℕ-discrete}
 use native.Mathlib.Omega.{arith}
-use lib.Dec.{eqb}
-use Rattle.bits.specs.Set.{bit, join, leave}
+use Rattle.bits.specs.Set.{bit}
 use Rattle.bits.proofs.Sets.{join-lt, leave-lt}
 use Rattle.device.specs.Reaction.{marked}
-use Rattle.device.proofs.Reactions.{marked-same, marked-other}
+use Rattle.device.proofs.Reactions.{marked-cases, marked-same, marked-other}
 use Rattle.plan.specs.Reading.{Held}
 use Rattle.plan.specs.declared.Plan.{Plan}
 use Rattle.state.specs.State.{State, word, put, registerAt, timerAt, register, timer}
@@ -21,12 +19,7 @@ use Rattle.state.proofs.Plans.{few, load-fits}
 use Rattle.state.proofs.Keeping.{Fits, put-fits, sound-fits, device-step}
 
 pub marked-lt : (kind register k : ℕ) → register < 2 ^ 32 → marked kind register k < 2 ^ 32
-unfolding marked
-marked-lt kind register k h = by-kind (eqb kind 0)
-  where
-    by-kind : (t : Bool) → cond t (join register k) (leave register k) < 2 ^ 32
-    by-kind true = join-lt register k h
-    by-kind false = leave-lt register k h
+marked-lt kind register k h = marked-cases (λ r. r < 2 ^ 32) kind register k (join-lt register k h) (leave-lt register k h) h
 
 module _ (plan : Plan) (held : Held plan) {s : State} (x : Sound plan s) (d : ℕ) (h : d < devices plan) where
   -- bit k becomes what it is in r, and its timer v

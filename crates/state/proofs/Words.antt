@@ -3,7 +3,7 @@ use mathlib.Core.Path.{_≡_}
 use mathlib.Core.Logic.{_≢_}
 use Prim.Native.Nat.{ℕ, _≤_, _<_}
 use lib.ListN.{length, length-set, List·getD-eq-default}
-use lib.Seq.{getD-set-same, getD-set-other, set-set, set-comm, set-getD}
+use lib.Seq.{getD-set-same, getD-set-other, set-comm, set-getD}
 use Rattle.state.specs.State.{State, word, put}
 
 module _ (s : State) (i : ℕ) where
@@ -23,11 +23,6 @@ module _ (s : State) (i : ℕ) where
   pub word-other : (v j : ℕ) → j ≢ i → word (put s i v) j ≡ word s j
   unfolding put word
   word-other v j h = getD-set-other s i j v 0 h
-
-  -- the later of two counts
-  pub put-put : (v w : ℕ) → put (put s i v) i w ≡ put s i w
-  unfolding put
-  put-put v w = set-set s i v w
 
   pub put-comm : (j v w : ℕ) → i ≢ j → put (put s i v) j w ≡ put (put s j w) i v
   unfolding put

@@ -9,7 +9,6 @@ use Rattle.bits.specs.Set.{join, leave}
 use Rattle.device.specs.Permissions.{maySend}
 use Rattle.plan.specs.declared.Plan.{Plan}
 use Rattle.state.specs.State.{State, words, put, portAt, waiting, running}
-use Rattle.state.specs.Network.{permissions}
 
 -- in the state, port q with its permissions: it runs and may send that kind
 abbrev pub sendsAt : ℕ → ℕ → ℕ → State → Bool
@@ -36,12 +35,5 @@ queueIn permissions kind k d but s =
     cond (eqb (length s) words && ltb d 32 && ltb kind 2) (queueAllAt permissions kind k d but s) s
 
 -- by a plan
-module _ (plan : Plan) (kind k : ℕ) where
-  abbrev pub sends : State → ℕ → Bool
-  sends s q = sendsAt (permissions plan q) kind q s
-
-  abbrev pub queue : ℕ → State → State
-  queue q s = queueAt (permissions plan q) kind k q s
-
-  abbrev pub queueAll : ℕ → ℕ → State → State
-  queueAll = queueAllAt (plan .core .permissions) kind k
+abbrev pub queueAll : Plan → ℕ → ℕ → ℕ → ℕ → State → State
+queueAll plan kind k = queueAllAt (plan .core .permissions) kind k

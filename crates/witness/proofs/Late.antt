@@ -14,7 +14,7 @@ use Rattle.state.specs.Network.{loadFor}
 use Rattle.state.specs.Queue.{queueAt, queueAllAt}
 use Rattle.state.specs.Mark.{mark}
 use Rattle.calls.specs.Calls.{called}
-use Rattle.bench.specs.Round.{tick, chosen, sends, unqueued, timed, forwarded, tells, acted, arrived, ticked, sentBytes, posted, arrives, reached, round}
+use Rattle.bench.specs.Round.{tick, chosen, sentWord, sends, unqueued, timed, forwarded, tells, acted, arrived, ticked, sentBytes, posted, arrives, reached, round}
 use Rattle.assurance.specs.Demand3.{crossing, Demand3}
 use Rattle.assurance.proofs.Demand.{demand-3}
 use Rattle.witness.specs.Line.{line, busy, course}
@@ -27,7 +27,7 @@ enough plan k source D s at x = demand-3 plan k source D s at x .holds
 
 -- computed: the router is one crossing away, and a round before the end of that crossing it does not hold 31
 late : bit (register (course (crossing - 1)) 1) 31 ≡ 0
-unfolding course busy line upTo table joined bit join leave searched firstFrom following reads maySend mayReceive marked ruled reactsTo reacts word put stateOf loadFor queueAt queueAllAt called mark tick chosen sends unqueued timed forwarded tells acted arrived ticked sentBytes posted arrives reached round
+unfolding course busy line upTo table joined bit join leave searched firstFrom following reads maySend mayReceive marked ruled reactsTo reacts word put stateOf loadFor queueAt queueAllAt called mark tick chosen sentWord sends unqueued timed forwarded tells acted arrived ticked sentBytes posted arrives reached round
 late = refl
 
 pub no-fewer : (W : ℕ) → W < crossing → Enough W → ⊥

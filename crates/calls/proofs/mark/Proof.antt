@@ -12,7 +12,7 @@ slice-write-state-2 c = simp length-set (omega arith)
 
 returns : tie.Need-returns
 unfolding mark put word
-returns c peers = rw (c .marked .ensures, c .before .before .timer-load .ensures, c .before .before .before .load-for .ensures)
+returns c peers = rw (c .marked .ensures, c .before .before .timer-load .ensures, c .before .before .before .before .load-for .ensures)
 
 load-for-requires : tie.Need-load-for-requires
 load-for-requires c κs = search needs
@@ -28,15 +28,17 @@ mark-spec =
     tie.close
     (tie.spec
     (λ c. search needs)
+    (λ c. search needs)
+    (λ c. search needs)
+    (λ c. search needs)
     load-for-requires
+    (λ c. search needs)
+    (λ c. search needs)
     timer-load-requires
     (λ c. search needs)
     (λ c. search needs)
     (λ c. search needs)
-    (λ c. search needs)
     marked-requires
-    (λ c. search needs)
-    (λ c. search needs)
     (λ c. search needs)
     (λ c. search needs)
     (λ c. search needs)

@@ -10,7 +10,11 @@ returns c = simp (eq-eqb _ _ (c .before .if1 .taken)) (c .join .ensures)
 
 returns-2 : tie.Need-returns-2
 unfolding marked
-returns-2 c = simp (ne-eqb _ _ (c .before .if1 .left)) (c .leave .ensures)
+returns-2 c = simp (ne-eqb _ _ (c .before .before .if1 .left), eq-eqb _ _ (c .before .if2 .taken)) (c .leave .ensures)
+
+returns-3 : tie.Need-returns-3
+unfolding marked
+returns-3 c = simp (ne-eqb _ _ (c .before .if1 .left), ne-eqb _ _ (c .if2 .left))
 
 join-requires : tie.Need-join-requires
 join-requires c κs = search needs
@@ -23,4 +27,5 @@ marked-spec = tie.close (tie.spec
     join-requires
     returns
     leave-requires
-    returns-2)
+    returns-2
+    returns-3)
