@@ -1,2 +1,3 @@
+pub mod Accepting
 pub mod Apart
 pub mod Timers

@@ -1,4 +1,5 @@
--- A timer that nothing else meets falls by one in each round: a load of T ends in the T-th round after, and only then is the timeout told.
+-- A timer falls by one in each round in which no code of its identifier is accepted: a load of T, set in a round or just after it, ends in the T-th
+-- round after, and only then is the timeout told.
 use mathlib.Core.Path.{_≡_, refl, sym, ap, _∙_}
 use mathlib.Core.Bool.{Bool, true, false, cond}
 use mathlib.Core.List.{List, [], _∷_, _++_, List·Memᴰ, List·Memᴰ·head, Memᴰ·append-left, Memᴰ·append-right, List·Memᴰ·append-cases, List·Memᴰ·eq-of-singleton, List·Memᴰ·not-nil}
@@ -24,13 +25,16 @@ use Rattle.state.specs.Mark.{mark}
 use Rattle.calls.specs.Calls.{called}
 use Rattle.bench.specs.Round.{World, ofInterrupt, ofTimeout, toldWord, nothing, tick, ticked, sentBytes, arrives, reached, afterTimers, afterSending, afterArrivals, round}
 use Rattle.state.proofs.Words.{length-put, word-same}
-use Rattle.state.proofs.Plans.{few}
+use Rattle.state.proofs.Plans.{few, load-fits}
+use Rattle.state.proofs.Keeping.{both-kinds}
 use Rattle.state.proofs.Marks.{mark-other}
 use Rattle.state.proofs.Waits.{queue-all-left}
 use Rattle.bench.proofs.Ticks.{tick-cases, tick-other, tick-step, ticked-sound}
-use Rattle.bench.proofs.Unqueued.{posted-left}
-use Rattle.bench.proofs.RoundSound.{arrives-cases, round-sound, rounds-sound}
+use Rattle.bench.proofs.Unqueued.{posted-sound, posted-left}
+use Rattle.bench.proofs.RoundSound.{arrives-cases, arrives-sound, round-sound, rounds-sound}
 use Rattle.calls.proofs.Called.{call-sound}
+use Rattle.laws.specs.Timing.{accepts, action, before, incoming, AcceptedAt, NoneAccepted, Unaccepted, Unsent, Loaded, Undisturbed, Fell}
+use Rattle.laws.proofs.Accepting.{arrives-left, arrives-found, arrives-loads}
 
 -- ---- one tick
 
@@ -143,10 +147,6 @@ module _ (plan : Plan) (held : Held plan) (d k : ℕ) (h : d < devices plan) (l 
 
 -- ---- what arrives
 
--- no port of device d is sent an interrupt or an acknowledge of identifier k
-abbrev pub Unsent : Plan → State → ℕ → ℕ → Type 0
-Unsent plan s d k = (p kind : ℕ) → p < 8 → kind < 2 → getD (sentBytes plan s) (peer plan (8 * d + p)) nothing ≢ byteOf kind k
-
 module _ (plan : Plan) (sent : List ℕ) (q : ℕ) (w : World) where
   arrives-timer : q / 8 < 32 → (d k : ℕ) → d < 32 → k < 32 → ((kind : ℕ) → kind < 2 → q / 8 ≡ d → getD sent (peer plan q) nothing ≢ byteOf kind k)
       → timer (arrives plan sent q w .state) d k ≡ timer (w .state) d k
@@ -169,18 +169,101 @@ module _ (plan : Plan) (sent : List ℕ) (q : ℕ) (w : World) where
       arrives-cases plan sent q w (λ u. List·Memᴰ (toldWord ofTimeout d k) (u .told) → List·Memᴰ (toldWord ofTimeout d k) (w .told)) (λ m. m) (λ kind j g l b m. m)
       (λ kind j g l b m. elim (List·Memᴰ·append-cases (w .told) m) [ inl a ↦ a | inr c ↦ let e = List·Memᴰ·eq-of-singleton c in absurd (omega arith) ])
 
--- at all ports
-module _ (plan : Plan) (held : Held plan) (w : World) (d k : ℕ) where
-  reached-timer : (s : State) → d < devices plan → k < 32 → Unsent plan s d k → timer (reached plan (sentBytes plan s) w .state) d k ≡ timer (w .state) d k
-  unfolding reached
-  reached-timer s h l quiet =
-      let n = few plan held in
-      let sent = sentBytes plan s in
-      untouched (arrives plan sent) (λ v. timer (v .state) d k) (8 * devices plan)
-      (λ q v b. arrives-timer plan sent q v (omega arith) d k (omega arith) l
-      (λ kind g here. let is : 8 * d + q % 8 ≡ q = omega arith in rw is at (quiet (q % 8) kind (omega arith) g)))
-      w
+-- what is not sent is not accepted
+pub unsent : (plan : Plan) (s : State) (d k : ℕ) → Unsent plan s d k → Unaccepted plan s d k
+unsent plan s d k none = (λ p h a. none p 0 h (omega arith) (a .0), λ p h a. none p 1 h (omega arith) (a .0))
 
+-- port by port
+module _ (plan : Plan) (held : Held plan) (s : State) (x : Sound plan s) (d k : ℕ) (h : d < devices plan) (l : k < 32) where
+  before-sound : (q : ℕ) → q ≤ 8 * devices plan → Sound plan (before plan s q .state)
+  before-sound q b =
+      keeps (arrives plan (sentBytes plan s)) (λ v. Sound plan (v .state)) q (λ j v c y. arrives-sound plan held (sentBytes plan s) j (omega arith) v y) (afterSending plan s)
+      (posted-sound plan held s x (afterTimers plan s .state) (ticked-sound plan held (record { state = s; told = [] }) x))
+
+  -- the timer stands still where no code of k is accepted at its device
+  before-still : (q : ℕ) → q < 8 * devices plan → ((kind : ℕ) → kind < 2 → q / 8 ≡ d → AcceptedAt plan s q kind k → ⊥)
+      → timer (before plan s (suc q) .state) d k ≡ timer (before plan s q .state) d k
+  unfolding upTo
+  before-still q b none = by-action (accepts (action plan q (incoming plan s q) (before plan s q .state))) refl
+    where
+      by-action : (a : Bool) → accepts (action plan q (incoming plan s q) (before plan s q .state)) ≡ a
+          → timer (before plan s (suc q) .state) d k ≡ timer (before plan s q .state) d k
+      by-action false e = ap (λ v. timer (v .state) d k) (arrives-left plan (sentBytes plan s) q (before plan s q) e)
+      by-action true e =
+          let n = few plan held in
+          arrives-timer plan (sentBytes plan s) q (before plan s q) (omega arith) d k (omega arith) l (λ kind g here o. none kind g here (o, e))
+
+  -- from port a on it stands at t, where nothing of k is accepted while it does
+  stands-from : (a t : ℕ) → timer (before plan s a .state) d k ≡ t
+      → ((q : ℕ) → a ≤ q → q < 8 * devices plan → timer (before plan s q .state) d k ≡ t → (kind : ℕ) → kind < 2 → q / 8 ≡ d → AcceptedAt plan s q kind k → ⊥)
+      → (q : ℕ) → a ≤ q → q ≤ 8 * devices plan → timer (before plan s q .state) d k ≡ t
+  stands-from a t e none zero c b =
+      let here : a ≡ 0 = omega arith in
+      rw here at e
+  stands-from a t e none (suc q) c b =
+      elim (ℕ-discrete a (suc q)) [
+        | yes here ↦ rw here at e
+        | no ne ↦
+            let o = stands-from a t e none q (omega arith) (omega arith) in
+            before-still q (omega arith) (none q (omega arith) (omega arith) o) ∙ o
+      ]
+
+  -- an interrupt of k finds the bit of a running timer set
+  finds-set : (q : ℕ) → q < 8 * devices plan → 1 ≤ timer (before plan s q .state) d k → q / 8 ≡ d → AcceptedAt plan s q 0 k → ⊥
+  finds-set q b runs here a =
+      let n = few plan held in
+      let bits = timed-bit (before-sound q (omega arith) .timers d k h (omega arith) l) in
+      let clear : bit (register (before plan s q .state) d) k ≡ 0 = rw here at (arrives-found plan (sentBytes plan s) q (before plan s q) k l (a .0) (a .1)) in
+      omega (arith, bits .1 runs)
+
+  at-port : (kind : ℕ) → NoneAccepted plan s d kind k → (q : ℕ) → q / 8 ≡ d → AcceptedAt plan s q kind k → ⊥
+  at-port kind none q here =
+      let is : 8 * d + q % 8 ≡ q = omega arith in
+      rw is at (none (q % 8) (omega arith))
+
+  sending-still : timer (afterSending plan s .state) d k ≡ timer (afterTimers plan s .state) d k
+  sending-still = let n = few plan held in posted-left plan held s (timerAt d k) (afterTimers plan s .state) (omega arith)
+
+  -- no code of k is accepted: the arrivals leave the timer as the timers' step did
+  arrivals-still : Unaccepted plan s d k → timer (afterArrivals plan s .state) d k ≡ timer (afterTimers plan s .state) d k
+  unfolding reached upTo
+  arrivals-still none =
+      stands-from 0 (timer (afterTimers plan s .state) d k) sending-still
+      (λ q a b o. both-kinds (λ kind. q / 8 ≡ d → AcceptedAt plan s q kind k → ⊥) (at-port 0 (none .0) q) (at-port 1 (none .1) q))
+      (8 * devices plan) (omega arith) (omega arith)
+
+  -- while the timer runs on, no interrupt is accepted unless an acknowledge is
+  pub runs-on : 2 ≤ timer s d k → NoneAccepted plan s d 1 k → Unaccepted plan s d k
+  unfolding upTo
+  runs-on runs none =
+      let t = timer (afterTimers plan s .state) d k in
+      let falls : t ≡ timer s d k - 1 = ticked-timer plan held d k h l (record { state = s; told = [] }) x in
+      let at : (q : ℕ) → q ≤ 8 * devices plan → timer (before plan s q .state) d k ≡ t =
+      λ q. stands-from 0 t sending-still
+      (λ j a b o. both-kinds (λ kind. j / 8 ≡ d → AcceptedAt plan s j kind k → ⊥) (finds-set j b (omega arith)) (at-port 1 none j))
+      q (omega arith) in
+      (λ p m. finds-set (8 * d + p) (omega arith) (omega (arith, at (8 * d + p) (omega arith))) (omega arith), none)
+
+  -- an accepted interrupt loads the timer, and no later one of the round changes that
+  pub arrival-loads : Loaded plan s d k → timer (afterArrivals plan s .state) d k ≡ loadOf plan d k
+  unfolding reached upTo
+  arrival-loads y =
+      let n = few plan held in
+      let port = 8 * d + y .port in
+      let here : port / 8 ≡ d = omega (arith, y .small) in
+      let load = load-fits plan held d k h in
+      let small : port < 8 * devices plan = omega (arith, y .small) in
+      let loads : timer (before plan s (suc port) .state) d k ≡ loadOf plan d k =
+      rw here at (arrives-loads plan (sentBytes plan s) port (before plan s port) k l (y .came .0) (y .came .1) (before-sound port (omega arith) .size) (omega arith)) in
+      stands-from (suc port) (loadOf plan d k) loads
+      (λ q a b o. both-kinds (λ kind. q / 8 ≡ d → AcceptedAt plan s q kind k → ⊥) (finds-set q b (omega arith))
+      (λ is c.
+      let e : 8 * d + q % 8 ≡ q = omega arith in
+      rw e at (y .stays (q % 8) (omega arith) (omega arith)) c))
+      (8 * devices plan) (omega arith) (omega arith)
+
+-- what was told stays told, and no timeout is told
+module _ (plan : Plan) (held : Held plan) (w : World) (d k : ℕ) where
   reached-more : (sent : List ℕ) → List·Memᴰ (toldWord ofTimeout d k) (w .told) → List·Memᴰ (toldWord ofTimeout d k) (reached plan sent w .told)
   unfolding reached
   reached-more sent m =
@@ -194,14 +277,6 @@ module _ (plan : Plan) (held : Held plan) (w : World) (d k : ℕ) where
       (λ q v b p m. p (arrives-came plan sent q v (omega arith) d k m)) w (λ m. m)
 
 -- ---- a round
-
--- a timer is at t: while it runs its bit is set; where it is 0 the bit is cleared, and just then a node's timeout is told
-pub record Fell (plan : Plan) (w : World) (d k t : ℕ) : Type 0 where
-  pub now : timer (w .state) d k ≡ t
-  pub runs : 1 ≤ t → bit (register (w .state) d) k ≡ 1
-  pub ends : t ≡ 0 → bit (register (w .state) d) k ≡ 0
-  pub tells : t ≡ 0 → router plan d ≡ false → List·Memᴰ (toldWord ofTimeout d k) (w .told)
-  pub only : List·Memᴰ (toldWord ofTimeout d k) (w .told) → (t ≡ 0) × (router plan d ≡ false)
 
 module _ (plan : Plan) (held : Held plan) (s : State) (x : Sound plan s) (d k : ℕ) (h : d < devices plan) (l : k < 32) where
   -- step 1: the timers fall
@@ -218,15 +293,13 @@ module _ (plan : Plan) (held : Held plan) (s : State) (x : Sound plan s) (d k : 
         only = λ m. elim (ticked-came plan held d k h l w x m) [ inl a ↦ absurd (List·Memᴰ·not-nil a) | inr c ↦ (omega (arith, c .0), c .1) ];
       }
 
-  -- and nothing that a quiet round does after them changes that
-  pub round-falls : (t : ℕ) → timer s d k ≡ suc t → Unsent plan s d k → Fell plan (afterArrivals plan s) d k t
+  -- and nothing after them changes that, where no code of k is accepted
+  pub round-falls : (t : ℕ) → timer s d k ≡ suc t → Unaccepted plan s d k → Fell plan (afterArrivals plan s) d k t
   unfolding round
-  round-falls t e quiet =
-      let n = few plan held in
+  round-falls t e none =
       let f = timer-falls t e in
       let w : World = afterSending plan s in
-      let now : timer (afterArrivals plan s .state) d k ≡ t =
-      reached-timer plan held w d k s h l quiet ∙ posted-left plan held s (timerAt d k) (afterTimers plan s .state) (omega arith) ∙ f .now in
+      let now : timer (afterArrivals plan s .state) d k ≡ t = arrivals-still plan held s x d k h l none ∙ f .now in
       let bits = timed-bit (round-sound plan held s x .timers d k h (omega (arith, few plan held)) l) in
       record {
         now = now;
@@ -238,10 +311,21 @@ module _ (plan : Plan) (held : Held plan) (s : State) (x : Sound plan s) (d k : 
 
 -- ---- a load of T ends in the T-th round after: round i + 1 leaves T - (i + 1)
 
+-- rounds in which no code of k is accepted disturb no timer of it
+pub undisturbed : (plan : Plan) (s : State) (d k T : ℕ) → ((i : ℕ) → i < T → Unaccepted plan (rounds plan i s) d k) → Undisturbed plan s d k T
+undisturbed plan s d k T none = record { kept = λ i b. none i b .1; last = λ i e. none i (omega arith) .0 }
+
 module _ (plan : Plan) (held : Held plan) (s : State) (x : Sound plan s) where
-  module _ (d k : ℕ) (h : d < devices plan) (l : k < 32) (T : ℕ) (e : timer s d k ≡ T) (quiet : (i : ℕ) → i < T → Unsent plan (rounds plan i s) d k) where
+  module _ (d k : ℕ) (h : d < devices plan) (l : k < 32) (T : ℕ) (e : timer s d k ≡ T) (quiet : Undisturbed plan s d k T) where
+    none : (i : ℕ) → i < T → timer (rounds plan i s) d k ≡ T - i → Unaccepted plan (rounds plan i s) d k
+    none i b o =
+        elim (ℕ-discrete (suc i) T) [
+          | yes end ↦ (quiet .last i end, quiet .kept i b)
+          | no ne ↦ runs-on plan held (rounds plan i s) (rounds-sound plan held s x i) d k h l (omega arith) (quiet .kept i b)
+        ]
+
     falls : (i : ℕ) → i < T → timer (rounds plan i s) d k ≡ T - i → Fell plan (afterArrivals plan (rounds plan i s)) d k (T - suc i)
-    falls i b o = round-falls plan held (rounds plan i s) (rounds-sound plan held s x i) d k h l (T - suc i) (omega arith) (quiet i b)
+    falls i b o = round-falls plan held (rounds plan i s) (rounds-sound plan held s x i) d k h l (T - suc i) (omega arith) (none i b o)
 
     -- what is left after i rounds
     left : (i : ℕ) → i ≤ T → timer (rounds plan i s) d k ≡ T - i
@@ -252,16 +336,29 @@ module _ (plan : Plan) (held : Held plan) (s : State) (x : Sound plan s) where
     pub timer-ends : (i : ℕ) → i < T → Fell plan (afterArrivals plan (rounds plan i s)) d k (T - suc i)
     timer-ends i b = falls i b (left i (omega arith))
 
--- so the timeout of a request comes as many rounds after it as its timer was loaded with
 module _ (plan : Plan) (held : Held plan) (s : State) (x : Sound plan s) (d k : ℕ) (h : d < devices plan) (l : k < 32) where
-  request-loads : timer (called plan 0 d k s) d k ≡ loadOf plan d k
+  abbrev T : ℕ
+  T = loadOf plan d k
+
+  -- set in a round, by an arrival: it runs after that round, and ends T rounds later
+  pub arrival-ends : Loaded plan s d k → (bit (register (round plan s .next) d) k ≡ 1) × (timer (round plan s .next) d k ≡ T)
+      × (Undisturbed plan (round plan s .next) d k T → (i : ℕ) → i < T → Fell plan (afterArrivals plan (rounds plan i (round plan s .next))) d k (T - suc i))
+  unfolding round
+  arrival-ends y =
+      let n = few plan held in
+      let sound = round-sound plan held s x in
+      let loads = arrival-loads plan held s x d k h l y in
+      let bits = timed-bit (sound .timers d k h (omega arith) l) in
+      (bits .1 (omega (arith, load-fits plan held d k h)), loads, timer-ends plan held (round plan s .next) sound d k h l T loads)
+
+  -- set just after a round, by a request
+  request-loads : timer (called plan 0 d k s) d k ≡ T
   unfolding called mark
   request-loads =
       let n = few plan held in
       let marks = put s (registerAt d) (marked 0 (register s d) k) in
       queue-all-left 0 k (timerAt d k) (omega arith) (omega arith) (plan .core .permissions) d nobody (omega arith) (mark plan 0 d k s)
-      ∙ word-same marks (timerAt d k) (loadOf plan d k) (omega (arith, x .size, length-put s (registerAt d) (marked 0 (register s d) k)))
+      ∙ word-same marks (timerAt d k) T (omega (arith, x .size, length-put s (registerAt d) (marked 0 (register s d) k)))
 
-  pub request-ends : ((i : ℕ) → i < loadOf plan d k → Unsent plan (rounds plan i (called plan 0 d k s)) d k)
-      → (i : ℕ) → i < loadOf plan d k → Fell plan (afterArrivals plan (rounds plan i (called plan 0 d k s))) d k (loadOf plan d k - suc i)
-  request-ends quiet = timer-ends plan held (called plan 0 d k s) (call-sound plan held s x 0 d k (omega arith) h l) d k h l (loadOf plan d k) request-loads quiet
+  pub request-ends : Undisturbed plan (called plan 0 d k s) d k T → (i : ℕ) → i < T → Fell plan (afterArrivals plan (rounds plan i (called plan 0 d k s))) d k (T - suc i)
+  request-ends = timer-ends plan held (called plan 0 d k s) (call-sound plan held s x 0 d k (omega arith) h l) d k h l T request-loads

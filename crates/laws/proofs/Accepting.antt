@@ -1,0 +1,115 @@
+-- A code that is not accepted changes nothing. An interrupt that is accepted found its bit clear, and loads its timer.
+use mathlib.Core.Path.{_≡_, refl, sym, ap, _∙_}
+use mathlib.Core.Bool.{Bool, true, false, cond, false≢true}
+use mathlib.Core.List.{List}
+use Prim.Native.Nat.{ℕ, _/_, _<_}
+use native.Mathlib.Omega.{arith}
+use lib.Dec.{ltb}
+use lib.ListN.{length, getD}
+use borrow.Author.Tests.{lt-ltb}
+use Rattle.bits.specs.Set.{bit}
+use Rattle.codes.specs.Codes.{byteOf, reads}
+use Rattle.codes.specs.declared.Code.{Code}
+use Rattle.codes.specs.declared.Code.the-variants.{Time, Interrupt, Acknowledge, Reserved}
+use Rattle.codes.proofs.BothWays.{Stands, stands, interrupt, acknowledge}
+use Rattle.device.specs.Reaction.{marked, accepted, ruled, reactsTo, reacts}
+use Rattle.device.specs.declared.Action.{Action}
+use Rattle.device.specs.declared.Action.the-variants.{Named, LinkError, Ignored, Forwarded, Told}
+use Rattle.device.specs.declared.Reaction.{Reaction}
+use Rattle.device.specs.declared.Side.{Side}
+use Rattle.device.proofs.Rule.{ruled-cases}
+use Rattle.plan.specs.declared.Plan.{Plan}
+use Rattle.state.specs.State.{words, put, registerAt, timerAt, register, timer}
+use Rattle.state.specs.Network.{router, peer, loadOf}
+use Rattle.state.proofs.Words.{length-put, word-same, put-word}
+use Rattle.state.proofs.Waits.{queue-all-left}
+use Rattle.bench.specs.Round.{World, nothing, timed, forwarded, acted, arrived, sideAt, arrives}
+use Rattle.bench.proofs.RoundSound.{after}
+use Rattle.laws.specs.Timing.{accepts, action}
+
+-- ---- a reaction that does not accept, and one that does
+
+by-role : (isRouter : Bool) (code : Code) → accepts (cond isRouter (Forwarded code) (Told code)) ≡ true
+unfolding accepts
+by-role true code = refl
+by-role false code = refl
+
+module _ (side : Side) (bits : ℕ) where
+  ruled-left : (kind k : ℕ) (code : Code) → accepts (ruled side bits kind k code .action) ≡ false → ruled side bits kind k code .register ≡ bits
+  ruled-left kind k code =
+      ruled-cases (λ r. accepts (r .action) ≡ false → r .register ≡ bits) side bits kind k code (λ n e. refl) (λ n e. refl)
+      (λ o e. absurd (false≢true (sym e ∙ by-role (side .router) code)))
+
+  bits-left : (code : Code) → accepts (reactsTo side bits code .action) ≡ false → reactsTo side bits code .register ≡ bits
+  unfolding reactsTo
+  bits-left (Time v) e = refl
+  bits-left Reserved e = refl
+  bits-left (Interrupt k) e = ruled-left 0 k (Interrupt k) e
+  bits-left (Acknowledge k) e = ruled-left 1 k (Acknowledge k) e
+
+  -- an interrupt that is accepted found its bit clear
+  record Taken (k : ℕ) (r : Reaction) : Type 0 where
+    is : r ≡ accepted side bits 0 k (Interrupt k)
+    found : bit bits k ≡ 0
+
+  taken : (byte k : ℕ) → byte ≡ byteOf 0 k → k < 32 → (code : Code) → Stands byte code → accepts (reactsTo side bits code .action) ≡ true
+      → Taken k (reactsTo side bits code)
+  unfolding reactsTo accepts
+  taken byte k e l (Time v) s a = absurd (false≢true a)
+  taken byte k e l Reserved s a = absurd (false≢true a)
+  taken byte k e l (Acknowledge j) (acknowledge m o) a = absurd (omega arith)
+  taken byte k e l (Interrupt j) (interrupt m o) a =
+      let here : j ≡ k = omega arith in
+      ruled-cases (λ r. accepts (r .action) ≡ true → Taken k r) side bits 0 j (Interrupt j) (λ n x. absurd (false≢true x)) (λ n x. absurd (false≢true x))
+      (λ y x. record { is = ap (λ i. accepted side bits 0 i (Interrupt i)) here; found = rw (← here) (y .stood) }) a
+
+-- ---- a byte arrives at port q
+
+module _ (plan : Plan) (sent : List ℕ) (q : ℕ) (w : World) where
+  abbrev byte : ℕ
+  byte = getD sent (peer plan q) nothing
+
+  abbrev side : Side
+  side = sideAt (router plan (q / 8)) (plan .core .permissions) q (w .state)
+
+  abbrev bits : ℕ
+  bits = register (w .state) (q / 8)
+
+  -- not accepted, nothing changes
+  acts-not : (a : Action) (v : World) → accepts a ≡ false → acted (loadOf plan (q / 8)) (plan .core .permissions) q a v ≡ v
+  unfolding acted accepts
+  acts-not (Forwarded code) v e = absurd (false≢true (sym e))
+  acts-not (Told code) v e = absurd (false≢true (sym e))
+  acts-not (Named code) v e = refl
+  acts-not (LinkError code) v e = refl
+  acts-not (Ignored code) v e = refl
+
+  pub arrives-left : accepts (action plan q byte (w .state)) ≡ false → arrives plan sent q w ≡ w
+  unfolding arrives arrived reacts
+  arrives-left e = by-test (ltb byte nothing)
+    where
+      by-test : (t : Bool) → cond t (arrived (loadOf plan (q / 8)) (plan .core .permissions) q (router plan (q / 8)) byte w) w ≡ w
+      by-test false = refl
+      by-test true =
+          acts-not (reacts side bits byte .action) _ e
+          ∙ ap (λ r. record { state = put (w .state) (registerAt (q / 8)) r; told = w .told }) (bits-left side bits (reads byte) e)
+          ∙ ap (λ t. record { state = t; told = w .told }) (put-word (w .state) (registerAt (q / 8)))
+
+  -- an accepted interrupt
+  module _ (k : ℕ) (l : k < 32) (e : byte ≡ byteOf 0 k) (a : accepts (action plan q byte (w .state)) ≡ true) where
+    pub arrives-found : bit bits k ≡ 0
+    unfolding reacts
+    arrives-found = taken side bits byte k e l (reads byte) (stands byte) a .found
+
+    pub arrives-loads : length (w .state) ≡ words → q / 8 < 32 → timer (arrives plan sent q w .state) (q / 8) k ≡ loadOf plan (q / 8) k
+    unfolding arrives arrived reacts acted timed forwarded
+    arrives-loads size small =
+        rw (lt-ltb byte nothing (omega arith), taken side bits byte k e l (reads byte) (stands byte) a .is) (by-side (side .router))
+      where
+        loads : timer (put (put (w .state) (registerAt (q / 8)) (marked 0 bits k)) (timerAt (q / 8) k) (loadOf plan (q / 8) k)) (q / 8) k ≡ loadOf plan (q / 8) k
+        loads = word-same _ (timerAt (q / 8) k) (loadOf plan (q / 8) k) (omega (arith, size, length-put (w .state) (registerAt (q / 8)) (marked 0 bits k)))
+
+        by-side : (r : Bool)
+            → timer (after plan q w (record { register = marked 0 bits k; action = cond r (Forwarded (Interrupt k)) (Told (Interrupt k)) }) .state) (q / 8) k ≡ loadOf plan (q / 8) k
+        by-side true = queue-all-left 0 k (timerAt (q / 8) k) (omega arith) (omega arith) (plan .core .permissions) (q / 8) q small _ ∙ loads
+        by-side false = loads
