@@ -33,10 +33,10 @@ module _ (plan : Plan) (k source D : ℕ) (s : State) (at : ℕ → State) (give
   abbrev takers : ℕ → Type 0
   takers = takersOf 0 k s
 
-  there : source < devices plan
+  pub there : source < devices plan
   there = holds (callAsks plan 0 source k s) refl (given .taken) refl .1 .1 .0
 
-  place : k < 32
+  pub place : k < 32
   place = holds (callAsks plan 0 source k s) refl (given .taken) refl .1 .1 .1 .0
 
   ready : Ready plan 0 k source last s
@@ -53,7 +53,7 @@ module _ (plan : Plan) (k source D : ℕ) (s : State) (at : ℕ → State) (give
         long = λ e h b. absurd (omega (arith, given .unset e h));
       }
 
-  first : Sound plan (called plan 0 source k s)
+  pub first : Sound plan (called plan 0 source k s)
   first = call-sound plan (given .held) s (given .sound) 0 source k (omega arith) there place
 
   begins : Beside plan k (called plan 0 source k s) (at 0)

@@ -12,3 +12,5 @@ pub mod Meanwhile
 pub mod Runs
 pub mod Crossings
 pub mod Demand
+pub mod Between
+pub mod Users

@@ -16,6 +16,7 @@ use Rattle.bench.proofs.RoundSound.{round-sound}
 use Rattle.laws.specs.Alike.{Alike}
 use Rattle.laws.proofs.Apart.{alike-same, call-apart}
 use Rattle.assurance.specs.Demand3.{Calls, none, then, Course}
+use Rattle.assurance.specs.Between.{After}
 use Rattle.assurance.proofs.Taking.{called-took}
 
 pub alike-then : {k : ℕ} {s t u : State} → Alike k s t → Alike k t u → Alike k s u
@@ -25,6 +26,15 @@ alike-then a b =
       timers = λ d h. a .timers d h ∙ b .timers d h;
       waits = λ kind q g h. a .waits kind q g h ∙ b .waits kind q g h;
       runs = λ q h. a .runs q h ∙ b .runs q h;
+    }
+
+alike-back : {k : ℕ} {s t : State} → Alike k s t → Alike k t s
+alike-back a =
+    record {
+      marks = λ d h. sym (a .marks d h);
+      timers = λ d h. sym (a .timers d h);
+      waits = λ kind q g h. sym (a .waits kind q g h);
+      runs = λ q h. sym (a .runs q h);
     }
 
 -- what s becomes where nothing that is done concerns k
@@ -61,3 +71,9 @@ module _ (plan : Plan) (held : Held plan) (k : ℕ) (l : k < 32) where
 
     pub course-goes-on : (t : ℕ) → t < rounds → Beside plan k (round plan (at t) .next) (at (suc t))
     course-goes-on t h = calls-beside (round-sound plan held (at t) (course-sound t (omega arith))) (course .goes-on t h)
+
+    -- whatever calls follow the same rounds, k is left alike
+    pub course-alike : (t : ℕ) (u : State) → t ≤ rounds → After plan k s at t u → Alike k u (at t)
+    course-alike zero u h calls = alike-then (alike-back (calls-beside x calls .like)) (course-begins .like)
+    course-alike (suc t) u h calls =
+        alike-then (alike-back (calls-beside (round-sound plan held (at t) (course-sound t (omega arith))) calls .like)) (course-goes-on t h .like)

@@ -1,1 +1,2 @@
 pub mod Demand3
+pub mod Between

@@ -2,20 +2,23 @@
 use mathlib.Core.Path.{_≡_, refl, sym, ap, _∙_}
 use mathlib.Core.Bool.{Bool, true, false, cond, _&&_, false≢true}
 use mathlib.Core.List.{List, [], _∷_}
-use mathlib.Core.Logic.{dite}
-use Prim.Native.Nat.{ℕ, zero, suc, _*_, _≤_, _<_}
+use mathlib.Core.Logic.{inr, dite}
+use Prim.Native.Nat.{ℕ, zero, suc, _+_, _*_, _≤_, _<_}
 use native.Mathlib.Decide.{decLt, ℕ-discrete}
 use native.Mathlib.Omega.{arith}
 use lib.Dec.{eqb, leb, ltb}
 use lib.ListN.{length, getD, List·getD-eq-default}
 use borrow.Author.Tests.{ltb-true, eqb-true, eq-eqb, ne-eqb}
+use Rattle.answers.proofs.Unique.{ordered-once}
 use Rattle.lists.proofs.Facts.{facts}
 use Rattle.lists.proofs.Tests.{and-left, and-right}
 use Rattle.plan.specs.Fields.{portsFit, masksFit, nobody}
 use Rattle.plan.specs.Header.{headerOf}
 use Rattle.plan.specs.Refusals.{Test, test, Verdict, accepts, first, tests, verdict}
-use Rattle.plan.specs.Reading.{planOf, Accepted, Held, zeros}
+use Rattle.plan.specs.Reading.{planOf, Accepted, Held, zeros, reads}
+use Rattle.plan.specs.Writing.{writeAsks, Writes}
 use Rattle.plan.specs.declared.Plan.{Plan}
+use Rattle.plan.specs.declared.Read.{Read}
 use Rattle.plan.specs.inner.Memory.{portRight, deviceRight, rowRight, right}
 use Rattle.plan.specs.inner.File.{fileOf}
 use Rattle.plan.proofs.Firsts.{fails}
@@ -170,3 +173,33 @@ verdict-first file = first-refusal (tests file)
 pub read-held : (file : List ℕ) → ((i : ℕ) → getD file i 0 < 256) → verdict file .number ≡ 0 → Held (planOf file)
 unfolding Held
 read-held file small e = (file, record { bytes = small; right = zero-accepts file e; plan-of = refl })
+
+-- ---- what reading and writing promise, one after the other
+
+module _ (file : List ℕ) (small : (i : ℕ) → getD file i 0 < 256) (e : reads file .number ≡ 0) where
+  read-accepted : Accepted file (reads file .plan)
+  unfolding reads
+  read-accepted = record { bytes = small; right = zero-accepts file e; plan-of = simp (eq-eqb (verdict file .number) 0 e) }
+
+  read-length : length file ≡ 512 * (1 + reads file .plan .core .devices)
+  read-length = ap length (sym (read-and-written file (reads file .plan) read-accepted)) ∙ length-file (reads file .plan)
+
+  -- the plan that was read from a file is not refused by the writer, where the area is as long as the file; and the area is then the file
+  pub reads-then-writes : (before : List ℕ) (number : ℕ) (after : List ℕ)
+      → length before ≡ length file → Writes (reads file .plan) before number after → (number ≡ 0) × (after ≡ file)
+  unfolding Held
+  reads-then-writes before number after long w =
+      let done : number ≡ 0 =
+      ordered-once (writeAsks (reads file .plan) before) number 0 (w .answers) (inr ((file, read-accepted), inr (long ∙ read-length, refl))) in
+      (done, one-file after file (reads file .plan) (w .made done) read-accepted)
+
+  -- and wherever it is written at all, what is written is the file
+  pub reads-then-written : (before after : List ℕ) → Writes (reads file .plan) before 0 after → after ≡ file
+  reads-then-written before after w = one-file after file (reads file .plan) (w .made refl) read-accepted
+
+-- a plan that was written is read again, and nothing is refused
+pub writes-then-reads : (plan : Plan) (before after : List ℕ) → Writes plan before 0 after → reads after ≡ record { number = 0; block = 0; plan = plan }
+unfolding reads
+writes-then-reads plan before after w =
+    let answer : Verdict → Plan → Read = λ v p. record { number = v .number; block = v .at; plan = cond (eqb (v .number) 0) p zeros } in
+    ap (λ v. answer v (planOf after)) (w .made refl .right) ∙ ap (answer accepts) (sym (w .made refl .plan-of))

@@ -1,0 +1,53 @@
+-- A source of which no port runs reaches itself alone.
+use mathlib.Core.Path.{_≡_, refl, sym, ap, _∙_}
+use Prim.Native.Nat.{ℕ, _+_, _*_, _<_}
+use native.Mathlib.Decide.{ℕ-discrete}
+use native.Mathlib.Omega.{arith}
+use Rattle.bits.specs.Set.{bit, join, sizeBelow, size}
+use Rattle.bits.proofs.Sets.{bit-two, bit-zero, same-members, join-same, join-other, join-lt, size-join}
+use Rattle.plan.specs.declared.Plan.{Plan}
+use Rattle.state.specs.State.{State, running}
+use Rattle.reach.specs.Walk.{Walk, stay, cross}
+use Rattle.reach.specs.Reach.{Reached, Reaches}
+
+-- nothing is in the set 0, so one device is in the set of one
+size-none : sizeBelow 32 0 ≡ 0
+unfolding sizeBelow bit
+size-none = refl
+
+size-one : (d : ℕ) → d < 32 → size (join 0 d) ≡ 1
+unfolding size
+size-one d h = omega (arith, size-join 32 0 d (bit-zero d) h h, size-none)
+
+module _ (plan : Plan) (s : State) (d k : ℕ) (still : (p : ℕ) → p < 8 → running s (8 * d + p) ≡ 1 → ⊥) where
+  -- no walk leaves it
+  stays : {n e : ℕ} → Walk plan s 0 k d n e → e ≡ d
+  stays stay = refl
+  stays (cross {d = m} w on p l leads) =
+      let here : 8 * d + p ≡ 8 * m + p = omega (arith, stays w) in
+      absurd (still p l (ap (running s) here ∙ leads .runs))
+
+  module _ (set : ℕ) (r : Reached plan s d k set) where
+    pub itself-alone : (e : ℕ) → e < 32 → bit set e ≡ 1 → e ≡ d
+    itself-alone e h b = stays (r .only e h b .1)
+
+    small : d < 32
+    small = r .all 0 d stay .0
+
+    pub set-of-one : set ≡ join 0 d
+    set-of-one =
+        same-members 32 set (join 0 d) (r .small) (join-lt 0 d (omega arith))
+        (λ e h. elim (ℕ-discrete e d) [
+          | yes q ↦ rw q (r .all 0 d stay .1 ∙ sym (join-same 0 d small))
+          | no n ↦ elim (ℕ-discrete (bit set e) 1) [
+            | yes b ↦ absurd (n (itself-alone e h b))
+            | no b ↦ omega (arith, bit-two set e, join-other 0 d e n, bit-zero e)
+          ]
+        ])
+
+  -- so the call, where it is not refused, answers 1 and that set
+  pub reaches-itself : (number value set : ℕ) → Reaches plan s d k number value set → number ≡ 0 → (value ≡ 1) × (set ≡ join 0 d)
+  reaches-itself number value set x done =
+      let made = x .made done in
+      let one = set-of-one set (made .0) in
+      (made .1 ∙ ap size one ∙ size-one d (small set (made .0)), one)
