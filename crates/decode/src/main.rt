@@ -3,7 +3,8 @@ use libc::STDERR_FILENO;
 use libc::STDIN_FILENO;
 use libc::STDOUT_FILENO;
 ghost use mathlib.Core.Path.{_≡_};
-ghost use Prim.Native.Nat.{_*_, _≤_};
+ghost use mathlib.Core.List.{List};
+ghost use Prim.Native.Nat.{ℕ, _*_, _≤_};
 ghost use lib.ListN.{length};
 ghost use Rattle.areas.specs.Put.{over};
 ghost use Rattle.listing.specs.Listing.{lines, longest, Lists};
@@ -31,8 +32,9 @@ fn list_all() {
 // Reads once, writes the lines of what came, and answers how many bytes those were. Nothing came
 // where the input has ended; where the read or the write failed it is 0 too, and that is said, or it
 // would look like the end.
-fn list_some(page: &mut [u8; PAGE]) -> usize
-    ensures { λ r. ⌜ r ≤ 4096 ⌝ }
+fn list_some(page: &mut [u8]) -> usize
+    requires { ⌜ longest * 4096 ≤ length (now page) ⌝ }
+    ensures { λ r. ⌜ ((piece : List ℕ) × (length piece ≤ 4096) × (r ≤ length piece) × (now (page .exit) ≡ over (lines piece) (now (page .entry)))) ⌝ }
 {
     let mut piece = [0u8; PIECE];
     let got = libc::read(STDIN_FILENO, &mut piece);
@@ -41,7 +43,8 @@ fn list_some(page: &mut [u8; PAGE]) -> usize
         return 0;
     }
     let n = io::count(got, &piece);
-    if show(&piece[..n], page) {
+    let length = list_piece(&piece[..n], page);
+    if io::write_all(STDOUT_FILENO, &page[..length]) {
         return n;
     }
     io::write_all(
@@ -49,15 +52,6 @@ fn list_some(page: &mut [u8; PAGE]) -> usize
         b"decode: standard output could not be written\n",
     );
     0
-}
-
-// Writes the lines of a whole piece, and answers whether it could.
-fn show(piece: &[u8], page: &mut [u8]) -> bool
-    requires { ⌜ longest * length (now piece) ≤ length (now page) ⌝ }
-    ensures { λ _. ⌜ now (page .exit) ≡ over (lines (now (piece .entry))) (now (page .entry)) ⌝ }
-{
-    let length = list_piece(piece, page);
-    io::write_all(STDOUT_FILENO, &page[..length])
 }
 
 // The lines of a whole piece, of which none is left for another call; answers how long they are.

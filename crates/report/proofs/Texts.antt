@@ -105,16 +105,19 @@ module _ (file state second text : List ℕ) where
         kept = λ z. absurd (z refl);
       }
 
+-- a text that stands in front of an area is no longer than it
+over-room : (text before : List ℕ) {after : List ℕ} → after ≡ over text before → length text ≤ length after
+unfolding over
+over-room text before e = omega (arith, ap length e, length-append text (drop (length text) before))
+
 -- what a caller wants to know, who lends areas that fit
 module _ {file : List ℕ} {before after : Areas} {number value : ℕ} (r : Reports file before number value after) where
   zero-number : Fits (length (before .state)) (length (before .second)) (length (before .text)) → number ≡ 0
   zero-number fits = elim (r .answers) [ inl p ↦ absurd (p .0 fits) | inr p ↦ p .1 ]
 
-  pub report-made : Fits (length (before .state)) (length (before .second)) (length (before .text))
-      → (text : List ℕ) × Prints file text × (value ≡ length text) × (after .text ≡ over text (before .text))
-  report-made fits = let x = r .made (zero-number fits) in (x .0, x .1, x .2, ap (λ (a : Areas). a .text) (x .3))
+  pub not-refused : Fits (length (before .state)) (length (before .second)) (length (before .text)) → Reports file before 0 value after
+  not-refused fits = subst (λ (n : ℕ). Reports file before n value after) (zero-number fits) r
 
--- a text that stands in front of an area is no longer than it
-pub over-room : (text before : List ℕ) {after : List ℕ} → after ≡ over text before → length text ≤ length after
-unfolding over
-over-room text before e = omega (arith, ap length e, length-append text (drop (length text) before))
+-- the text that was made is no longer than its area
+pub made-room : {file : List ℕ} {before after : Areas} {value : ℕ} → Reports file before 0 value after → value ≤ length (after .text)
+made-room {before = before} r = let x = r .made refl in omega (arith, x .2, over-room (x .0) (before .text) (ap (λ (a : Areas). a .text) (x .3)))

@@ -3,12 +3,10 @@ use libc::STDERR_FILENO;
 use libc::STDIN_FILENO;
 use libc::STDOUT_FILENO;
 ghost use mathlib.Core.Path.{_≡_};
-ghost use mathlib.Core.List.{List};
 ghost use Prim.Native.Nat.{ℕ};
 ghost use lib.ListN.{length};
-ghost use Rattle.areas.specs.Put.{over};
 ghost use Rattle.io.specs.Counts.{Counts};
-ghost use Rattle.report.specs.Report.{Prints, Fits};
+ghost use Rattle.report.specs.Report.{Fits, Reports, lent};
 
 // The longest file has 16,896 bytes. One byte more shows that a file is longer.
 const FILE: usize = 16897;
@@ -53,7 +51,8 @@ fn settle(file: &[u8]) {
     let mut state = [0u32; bench::WORDS];
     let mut second = [0u32; bench::WORDS];
     let mut text = [0u8; report::LONGEST];
-    if !show(file, &mut state, &mut second, &mut text) {
+    let length = make(file, &mut state, &mut second, &mut text);
+    if !io::write_all(STDOUT_FILENO, &text[..length]) {
         io::write_all(
             STDERR_FILENO,
             b"settle: standard output could not be written\n",
@@ -61,19 +60,10 @@ fn settle(file: &[u8]) {
     }
 }
 
-// Writes the text of a file, and answers whether it could.
-fn show(file: &[u8], state: &mut [u32], second: &mut [u32], text: &mut [u8]) -> bool
-    requires { ⌜ Fits (length (now state)) (length (now second)) (length (now text)) ⌝ }
-    ensures { λ _. ⌜ ((t : List ℕ) × Prints (now (file .entry)) t × (now (text .exit) ≡ over t (now (text .entry)))) ⌝ }
-{
-    let length = make(file, state, second, text);
-    io::write_all(STDOUT_FILENO, &text[..length])
-}
-
-// Makes the text of a file, and answers its length.
+// Makes the text of a file, and answers its length. Areas that fit are not refused.
 fn make(file: &[u8], state: &mut [u32], second: &mut [u32], text: &mut [u8]) -> usize
     requires { ⌜ Fits (length (now state)) (length (now second)) (length (now text)) ⌝ }
-    ensures { λ r. ⌜ ((t : List ℕ) × Prints (now (file .entry)) t × (r ≡ length t) × (now (text .exit) ≡ over t (now (text .entry)))) ⌝ }
+    ensures { λ r. ⌜ Reports (now (file .entry)) (lent (now (state .entry)) (now (second .entry)) (now (text .entry))) 0 r (lent (now (state .exit)) (now (second .exit)) (now (text .exit))) ⌝ }
 {
     report::report(file, state, second, text).value as usize
 }

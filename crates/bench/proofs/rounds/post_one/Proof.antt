@@ -35,11 +35,11 @@ byte-sent old q {k} e f =
       | no n ↦ omega (arith, f, n, two) ∙ sym (post-acknowledge old q e n)
     ]
 
-found : (c : tie.After-found) → chosen (c .before .before .before .before .before .args .old .now) (c .before .before .before .before .before .args .q) ≡ At (c .found .given .0 .0)
-found c = sym (c .before .before .choice .ensures) ∙ c .found .given .1
-
 returns : tie.Need-returns
 returns c = (search none-sent, search none-left)
+
+found : (c : tie.After-found) → chosen (c .before .before .before .before .before .args .old .now) (c .before .before .before .before .before .args .q) ≡ At (c .found .given .0 .0)
+found c = sym (c .before .before .choice .ensures) ∙ c .found .given .1
 
 slice-read-leave-2 : tie.Need-slice-read-leave-2
 slice-read-leave-2 c = simp length-set (omega arith)
