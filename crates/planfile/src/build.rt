@@ -72,11 +72,11 @@ fn peer(file: &[u8], d: usize, p: usize) -> u16
     ensures { λ r. ⌜ r ≡ peerIn (deviceBlock (now (file .entry)) d) p ⌝ }
 {
     let at = block::BLOCK * (1 + d) + device::ENTRIES + 4 * p;
-    let device = block::wide(file[at + device::PEER_DEVICE]);
+    let device = areas::wide(file[at + device::PEER_DEVICE]);
     if device == 255 {
         return 256;
     }
-    (8 * device + block::wide(file[at + device::PEER_PORT])) as u16
+    (8 * device + areas::wide(file[at + device::PEER_PORT])) as u16
 }
 
 // The peers of a device's ports.
@@ -96,7 +96,7 @@ pub(crate) fn peers_of(file: &[u8]) -> [[u16; 8]; 32]
     requires { ⌜ (countIn (now file) ≤ 32) × (length (now file) ≡ 512 * (1 + countIn (now file))) ⌝ }
     ensures { λ r. ⌜ r ≡ planOf (now (file .entry)) .peers ⌝ }
 {
-    let n = block::wide(file[header::DEVICES]);
+    let n = areas::wide(file[header::DEVICES]);
     let mut out = [[256u16; 8]; 32];
     for d in 0..n {
         out[d] = peer_row(file, d);

@@ -39,7 +39,7 @@ fn refusal_in(file: &[u8], b: usize) -> u32
     if b == 0 {
         return header::refusal(&file[start..end]);
     }
-    device::refusal(block::wide(file[header::DEVICES]), b - 1, &file[start..end])
+    device::refusal(areas::wide(file[header::DEVICES]), b - 1, &file[start..end])
 }
 
 fn at<'a>(file: &'a [u8], block: usize) -> Reader<'a>
@@ -111,7 +111,7 @@ fn scan(file: &[u8]) -> Place
             block: 0,
         };
     }
-    let n = block::wide(file[header::DEVICES]);
+    let n = areas::wide(file[header::DEVICES]);
     if file.len() != block::BLOCK * (1 + n) {
         return Place {
             number: 25,
