@@ -13,7 +13,8 @@ use Rattle.lists.proofs.Facts.{facts}
 use Rattle.lists.proofs.Tests.{and-left, and-right}
 use Rattle.plan.specs.Fields.{portsFit, masksFit, nobody}
 use Rattle.plan.specs.Header.{headerOf}
-use Rattle.plan.specs.Refusals.{Test, test, Verdict, accepts, first, tests, verdict}
+use Rattle.plan.specs.Refusals.{Test, test, accepts, first, tests, verdict}
+use Rattle.plan.specs.declared.Verdict.{Verdict}
 use Rattle.plan.specs.Reading.{planOf, Accepted, Held, zeros}
 use Rattle.plan.specs.declared.Plan.{Plan}
 use Rattle.plan.specs.inner.Memory.{portRight, deviceRight, rowRight, right}
