@@ -6,7 +6,7 @@ use lib.Dec.{eqb, leb}
 use lib.ListN.{length}
 use Rattle.lists.specs.Table.{table, joined}
 use Rattle.plan.specs.Block.{block, numberIn, restZero, checked, kindField}
-use Rattle.plan.specs.Fields.{numberField, deviceFields, portsIn, deviceFits, peerIn, joins}
+use Rattle.plan.specs.Fields.{numberField, deviceFields, portsIn, deviceFits, peerNumber, joins}
 use Rattle.plan.specs.Header.{devicesField, headerFields, headerIn, headerFits}
 use Rattle.plan.specs.declared.Verdict.{Verdict}
 
@@ -66,7 +66,7 @@ module _ (file : List ℕ) where
   portsOf d = portsIn (deviceBlock d)
 
   abbrev pub peerOf : ℕ → ℕ → ℕ
-  peerOf d p = peerIn (deviceBlock d) p
+  peerOf d p = peerNumber (deviceBlock d) p
 
   unfoldable pub tests : List Test
   tests =
