@@ -19,13 +19,17 @@ module _ {A : Type 0} {r : Bool} (d : Decides A r) where
   pub denied : not r ≡ true → A → ⊥
   denied e h = false≢true (sym (not-true r e) ∙ d .all h)
 
+-- what does not hold is answered with false
+pub fails : {A : Type 0} → (A → ⊥) → Decides A false
+fails n = record { only = λ e. absurd (false≢true e); all = λ h. absurd (n h) }
+
 -- some place below n is such
 module _ (P : ℕ → Type 0) (n : ℕ) where
   pub found : (i : ℕ) → i < n → P i → Decides ((i : ℕ) × (i < n) × P i) true
   found i l p = record { only = λ _. (i, l, p); all = λ _. refl }
 
   pub nowhere : ((i : ℕ) → i < n → P i → ⊥) → Decides ((i : ℕ) × (i < n) × P i) false
-  nowhere h = record { only = λ e. absurd (false≢true e); all = λ w. absurd (h (w .0) (w .1) (w .2)) }
+  nowhere h = fails (λ w. h (w .0) (w .1) (w .2))
 
 -- ---- conditions in order
 

@@ -2,7 +2,7 @@
 use mathlib.Core.Path.{_≡_, sym, _∙_}
 use mathlib.Core.Bool.{Bool}
 use mathlib.Core.List.{List}
-use Prim.Native.Nat.{ℕ, _+_}
+use Prim.Native.Nat.{ℕ, _+_, _<_}
 use lib.Dec.{leb}
 use lib.ListN.{length}
 use Rattle.areas.specs.Put.{Puts, copied}
@@ -19,3 +19,7 @@ copy-unique src dst a b p q = p ∙ sym q
 
 pub fill-unique : (area : List ℕ) (value : ℕ) (a b : List ℕ) → a ≡ table (length area) (λ _. value) → b ≡ table (length area) (λ _. value) → a ≡ b
 fill-unique area value a b p q = p ∙ sym q
+
+-- the three that widen a number promise this, each with its bound
+pub wide-unique : (bound x r s : ℕ) → (r ≡ x) × (r < bound) → (s ≡ x) × (s < bound) → r ≡ s
+wide-unique bound x r s p q = p .0 ∙ sym (q .0)

@@ -1,7 +1,7 @@
 // Areas that a caller lends: a word put into one whole, or not at all, and whole areas copied or
-// filled.
+// filled; and numbers of lent areas, widened.
 ghost use mathlib.Core.Path.{_≡_};
-ghost use Prim.Native.Nat.{_+_};
+ghost use Prim.Native.Nat.{_+_, _<_};
 ghost use lib.Dec.{leb};
 ghost use lib.ListN.{length};
 ghost use Rattle.areas.specs.Put.{Puts, copied};
@@ -57,4 +57,27 @@ pub fn fill(area: &mut [u32], value: u32)
         area[i] = value;
         i += 1;
     }
+}
+
+// ---- a number of a lent area as a wider one
+//
+// That a cast loses nothing is known of a parameter, and not of what stands in a lent area: so these
+// are functions, and are given what stands there.
+
+pub fn wide(x: u8) -> usize
+    ensures { λ r. ⌜ (r ≡ x) × (r < 256) ⌝ }
+{
+    x as usize
+}
+
+pub fn wide16(x: u16) -> usize
+    ensures { λ r. ⌜ (r ≡ x) × (r < 65536) ⌝ }
+{
+    x as usize
+}
+
+pub fn word(x: u8) -> u32
+    ensures { λ r. ⌜ (r ≡ x) × (r < 256) ⌝ }
+{
+    x as u32
 }

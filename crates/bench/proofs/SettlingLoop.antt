@@ -1,6 +1,6 @@
 -- Settling: whether a port waits, what the loop over the rounds knows, and the promise at each return.
 use mathlib.Core.Path.{_≡_, refl, sym, ap, subst, _∙_}
-use mathlib.Core.Bool.{Bool, true, false, cond, not, false≢true}
+use mathlib.Core.Bool.{Bool, true, false, cond, not}
 use mathlib.Core.List.{List}
 use mathlib.Core.Logic.{inl, inr, dite}
 use Prim.Native.Nat.{ℕ, _+_, _*_, _≤_, _<_}
@@ -11,7 +11,7 @@ use borrow.Author.Tests.{eq-eqb}
 use borrow.Author.Count.{below-none, below-more}
 use Rattle.answers.specs.Decides.{Decides}
 use Rattle.answers.specs.Ordered.{Condition, Ordered}
-use Rattle.answers.proofs.Outcomes.{Holds, passed, stopped}
+use Rattle.answers.proofs.Outcomes.{fails, Holds, passed, stopped}
 use Rattle.lists.specs.Loop.{upTo}
 use Rattle.areas.specs.Put.{copied}
 use Rattle.lists.specs.Table.{table}
@@ -45,7 +45,7 @@ module _ {n : ℕ} {s : State} where
 
   pub one-waits : n ≤ 32 → Blank n s → (q : ℕ) → q < 8 * n → (Still s q → ⊥) → Decides (Quiet s) false
   unfolding Quiet
-  one-waits few b q l x = record { only = λ e. absurd (false≢true e); all = λ h. absurd (x (h q 0 (omega arith) (omega arith), h q 1 (omega arith) (omega arith))) }
+  one-waits few b q l x = fails (λ h. x (h q 0 (omega arith) (omega arith), h q 1 (omega arith) (omega arith)))
 
 -- ---- the two areas
 

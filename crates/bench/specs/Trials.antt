@@ -8,7 +8,7 @@ use Rattle.lists.specs.Table.{table}
 use Rattle.bits.specs.Set.{bit}
 use Rattle.plan.specs.Reading.{Held}
 use Rattle.plan.specs.declared.Plan.{Plan}
-use Rattle.state.specs.State.{State, words, register}
+use Rattle.state.specs.State.{State, words, BothFit, register}
 use Rattle.state.specs.Network.{devices}
 use Rattle.state.specs.Start.{started}
 use Rattle.calls.specs.Calls.{called, callAsks}
@@ -63,7 +63,7 @@ lent state second found = record { state = state; second = second; found = found
 
 -- their lengths are right
 abbrev pub Fits : ℕ → ℕ → ℕ → Type 0
-Fits state second found = (state ≡ words) × (second ≡ words) × (found ≡ foundWords)
+Fits state second found = BothFit state second × (found ≡ foundWords)
 
 abbrev pub trialsAsks : Plan → Lent → List Condition
 trialsAsks plan areas =

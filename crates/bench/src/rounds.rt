@@ -157,14 +157,6 @@ fn post_one(q: usize, old: &[u32], next: &mut [u32]) -> u32
     FIRST + APART * kind + k
 }
 
-// The number of a device's ports, widened. That it fits is known of a parameter, and not of an element
-// of a lent array.
-fn wide(ports: u8) -> usize
-    ensures { λ r. ⌜ r ≡ ports ⌝ }
-{
-    ports as usize
-}
-
 // All ports, by device. A port that its device lacks has nothing to send, and is passed over.
 fn post_all(core: Core, peers: &[[u16; 8]; 32], old: &[u32], next: &mut [u32], sent: &mut [u32])
     requires { ⌜ Laid (record { core = core; peers = now peers }) × Idles (record { core = core; peers = now peers }) (now old) × (length (now next) ≡ words) × Silent (core .devices) (core .ports) (now sent) ⌝ }
@@ -172,7 +164,7 @@ fn post_all(core: Core, peers: &[[u16; 8]; 32], old: &[u32], next: &mut [u32], s
 {
     for d in 0..core.devices {
         let first = 8 * d;
-        let end = first + wide(core.ports[d]);
+        let end = first + core.ports[d] as usize;
         for q in first..end {
             sent[q] = post_one(q, old, next);
         }
@@ -252,14 +244,6 @@ fn act(
     }
 }
 
-// The permissions of one port as `device` takes them. That they fit is known of a parameter, and not
-// of an element of a lent array.
-fn widened(permissions: u8) -> u32
-    ensures { λ r. ⌜ r ≡ permissions ⌝ }
-{
-    permissions as u32
-}
-
 // A byte arrives at port q, and its device reacts.
 fn arrive_one(
     loads: [u16; 2],
@@ -279,7 +263,7 @@ fn arrive_one(
     let side = Side {
         router: role == 1,
         running: running,
-        permissions: widened(permissions[q]),
+        permissions: areas::word(permissions[q]),
     };
     let reaction = device::react(side, state[home], byte);
     state[home] = reaction.register;
@@ -315,7 +299,7 @@ fn arrive_all(
     for d in 0..core.devices {
         let role = core.role[d];
         let first = 8 * d;
-        let past = first + wide(core.ports[d]);
+        let past = first + core.ports[d] as usize;
         for q in first..past {
             let byte = heard(peers[d][q % 8], sent);
             if byte < NOTHING {

@@ -16,7 +16,6 @@ use crate::settling;
 use plan::Core;
 use plan::Plan;
 use state::DEVICE;
-use state::WORDS;
 
 // What is found of one place.
 struct Tried {
@@ -115,10 +114,7 @@ fn try_all(
 fn fits(state: usize, second: usize, found: usize) -> bool
     ensures { λ r. ⌜ Decides (Trials·Fits state second found) r ⌝ }
 {
-    if state != WORDS {
-        return false;
-    }
-    if second != WORDS {
+    if !state::both_fit(state, second) {
         return false;
     }
     found == FOUND

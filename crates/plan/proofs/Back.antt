@@ -11,7 +11,7 @@ use lib.ListN.{List·getD-eq-default}
 use Rattle.lists.specs.Table.{table}
 use Rattle.lists.proofs.Tables.{length-table, getD-table}
 use Rattle.plan.specs.Block.{block}
-use Rattle.plan.specs.Fields.{entry, nobody, peerIn}
+use Rattle.plan.specs.Fields.{entry, nobody, peerNumber}
 use Rattle.plan.specs.Refusals.{deviceBlock, countIn, peerOf, verdict, accepts}
 use Rattle.plan.specs.Reading.{column, planOf}
 use Rattle.plan.specs.inner.Memory.{at, right}
@@ -49,8 +49,8 @@ numbers-column : (n : ℕ) (f : ℕ → ℕ) (k : ℕ) → 0 < k → ((i : ℕ) 
 unfolding column
 numbers-column n f k h l = numbers-table 32 _ k h (λ d. small-either (ltb d n) (f d) 0 (l d) h)
 
-small-peer : (s : List ℕ) → Bytes s → (p : ℕ) → peerIn s p < 65536
-unfolding peerIn
+small-peer : (s : List ℕ) → Bytes s → (p : ℕ) → peerNumber s p < 65536
+unfolding peerNumber
 small-peer s h p =
     small-either (eqb (entry s p 0) 255) nobody (8 * entry s p 0 + entry s p 1) (omega arith) (omega (arith, h (12 + 4 * p + 0), h (12 + 4 * p + 1)))
 

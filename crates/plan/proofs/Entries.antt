@@ -9,7 +9,7 @@ use lib.Dec.{eqb, ltb, leb}
 use borrow.Author.Tests.{ltb-true, lt-ltb, le-ltb, ne-eqb}
 use Rattle.lists.proofs.Tests.{or-cases, or-left, or-right}
 use Rattle.plan.specs.Block.{byte}
-use Rattle.plan.specs.Fields.{portsIn, entry, unconnected, connected, entryFits, nobody, peerIn}
+use Rattle.plan.specs.Fields.{portsIn, entry, unconnected, connected, entryFits, nobody, peerNumber}
 use Rattle.plan.specs.inner.Memory.{portRight}
 use Rattle.plan.specs.inner.File.{entryNumbers}
 use Rattle.lists.proofs.Facts.{facts}
@@ -45,24 +45,24 @@ peer-numbers peer permissions h = rw (ne-eqb peer nobody (omega arith))
 -- ---- in the file: the tests say that it is such a port
 
 module _ (n : ℕ) (few : n ≤ 32) (s : List ℕ) (p : ℕ) where
-  joined-port : connected n s p ≡ true → p < portsIn s → Port n (portsIn s) p (entry s p) (peerIn s p) (entry s p 2)
-  unfolding connected peerIn
+  joined-port : connected n s p ≡ true → p < portsIn s → Port n (portsIn s) p (entry s p) (peerNumber s p) (entry s p 2)
+  unfolding connected peerNumber
   joined-port c h =
       let f = simp facts at c in
       leads h (f .0 .0 .0) (f .0 .0 .1) (f .0 .1) (f .1) (rw (ne-eqb (entry s p 0) 255 (omega arith))) refl
 
-  loose-port : unconnected s p ≡ true → Port n (portsIn s) p (entry s p) (peerIn s p) (entry s p 2)
-  unfolding unconnected peerIn
+  loose-port : unconnected s p ≡ true → Port n (portsIn s) p (entry s p) (peerNumber s p) (entry s p 2)
+  unfolding unconnected peerNumber
   loose-port c =
       let f = simp facts at c in
       nowhere (f .0 .0 .0) (f .0 .0 .1) (f .0 .1) (f .1) (rw (f .0 .0 .0)) (f .0 .1)
 
-  pub entry-port : entryFits n s p ≡ true → Port n (portsIn s) p (entry s p) (peerIn s p) (entry s p 2)
+  pub entry-port : entryFits n s p ≡ true → Port n (portsIn s) p (entry s p) (peerNumber s p) (entry s p 2)
   unfolding entryFits
   entry-port = by-test (ltb p (portsIn s)) refl
     where
       by-test : (t : Bool) → ltb p (portsIn s) ≡ t → cond t (connected n s p || unconnected s p) (unconnected s p) ≡ true
-          → Port n (portsIn s) p (entry s p) (peerIn s p) (entry s p 2)
+          → Port n (portsIn s) p (entry s p) (peerNumber s p) (entry s p 2)
       by-test true e c = elim (or-cases (connected n s p) (unconnected s p) c) [ inl a ↦ joined-port a (ltb-true p (portsIn s) e) | inr b ↦ loose-port b ]
       by-test false e c = loose-port c
 
@@ -79,8 +79,8 @@ module _ (n : ℕ) (few : n ≤ 32) (s : List ℕ) (p : ℕ) where
         by-test true = or-right (connected n s p) (unconnected s p) loose
         by-test false = loose
 
-    pub port-peer : {ports : ℕ} → Port n ports p (entry s p) peer permissions → peerIn s p ≡ peer
-    unfolding peerIn
+    pub port-peer : {ports : ℕ} → Port n ports p (entry s p) peer permissions → peerNumber s p ≡ peer
+    unfolding peerNumber
     port-peer (leads h a b c z e r) = rw (ne-eqb (entry s p 0) 255 (omega arith)) (sym e)
     port-peer (nowhere a b c z e r) = rw a (sym e)
 

@@ -7,7 +7,8 @@ use Prim.Native.Nat.{ℕ, zero, suc, _<_}
 use native.Mathlib.Decide.{ℕ-discrete}
 use native.Mathlib.Omega.{arith}
 use Rattle.lists.specs.Table.{table, joined}
-use Rattle.plan.specs.Refusals.{Test, Verdict, accepts, first}
+use Rattle.plan.specs.Refusals.{Test, accepts, first}
+use Rattle.plan.specs.declared.Verdict.{Verdict}
 
 -- every test is passed
 abbrev pub AllPass : List Test → Type 0

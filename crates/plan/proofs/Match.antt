@@ -12,7 +12,7 @@ use borrow.Author.Tests.{lt-ltb, le-ltb}
 use Rattle.lists.specs.Table.{table, joined}
 use Rattle.lists.proofs.Tables.{getD-table, is-table, same-joined}
 use Rattle.plan.specs.Block.{block}
-use Rattle.plan.specs.Fields.{roleIn, portsIn, sourceIn, handlerIn, entry, nobody, peerIn, joins}
+use Rattle.plan.specs.Fields.{roleIn, portsIn, sourceIn, handlerIn, entry, nobody, peerNumber, joins}
 use Rattle.plan.specs.Refusals.{deviceBlock, countIn, portsOf, peerOf}
 use Rattle.plan.specs.Header.{headerIn, headerOf, headerFits, coreWith}
 use Rattle.plan.specs.Reading.{column, planOf}
@@ -37,7 +37,7 @@ pub record Match (plan : Plan) (file : List ℕ) : Type 0 where
   pub says : (d : ℕ) → d < 32 →
       let s = deviceBlock file d in
       let of = ofDevice (countIn file) d in
-      Says (plan .core) (plan .peers) d (of (roleIn s) 0) (of (portsIn s) 0) (of (sourceIn s) 0) (of (handlerIn s) 0) (λ p. of (peerIn s p) nobody) (λ p. of (entry s p 2) 0)
+      Says (plan .core) (plan .peers) d (of (roleIn s) 0) (of (portsIn s) 0) (of (sourceIn s) 0) (of (handlerIn s) 0) (λ p. of (peerNumber s p) nobody) (λ p. of (entry s p 2) 0)
 
 -- ---- the plan that is read from a file matches it
 

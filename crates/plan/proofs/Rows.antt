@@ -9,7 +9,7 @@ use borrow.Author.Tests.{lt-ltb, le-ltb}
 use Rattle.lists.specs.Table.{table, joined}
 use Rattle.lists.proofs.Tables.{is-table}
 use Rattle.plan.specs.Block.{byte}
-use Rattle.plan.specs.Fields.{devicesFit, deviceFields, roleIn, portsIn, sourceIn, handlerIn, entryFields, entry, nobody, peerIn}
+use Rattle.plan.specs.Fields.{devicesFit, deviceFields, roleIn, portsIn, sourceIn, handlerIn, entryFields, entry, nobody, peerNumber}
 use Rattle.plan.specs.Header.{headerFields, headerIn, headerOf, headerFits}
 use Rattle.plan.specs.declared.Core.{Core}
 use Rattle.plan.specs.declared.Header.{Header}
@@ -86,7 +86,7 @@ module _ (core : Core) (peers : List (List ℕ)) (d : ℕ) where
 
   -- what a block says, and what there is to say of an absent device
   abbrev pub Row : List ℕ → Type 0
-  Row s = Says (roleIn s) (portsIn s) (sourceIn s) (handlerIn s) (peerIn s) (λ p. entry s p 2)
+  Row s = Says (roleIn s) (portsIn s) (sourceIn s) (handlerIn s) (peerNumber s) (λ p. entry s p 2)
 
   abbrev pub Absent : Type 0
   Absent = Says 0 0 0 0 (λ p. nobody) (λ p. 0)

@@ -93,8 +93,8 @@ abbrev pub nobody : ℕ
 nobody = 256
 
 -- the peer of port p: 8 x its device + its port, or nobody
-unfoldable pub peerIn : List ℕ → ℕ → ℕ
-peerIn s p = cond (eqb (entry s p 0) 255) nobody (8 * entry s p 0 + entry s p 1)
+unfoldable pub peerNumber : List ℕ → ℕ → ℕ
+peerNumber s p = cond (eqb (entry s p 0) 255) nobody (8 * entry s p 0 + entry s p 1)
 
 -- of what each device's number of ports and each port's peer are: the connection of port p of device d, if it has one, leads to a
 -- port that exists, that points back, and that is not the port itself

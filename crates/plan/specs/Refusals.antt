@@ -6,8 +6,9 @@ use lib.Dec.{eqb, leb}
 use lib.ListN.{length}
 use Rattle.lists.specs.Table.{table, joined}
 use Rattle.plan.specs.Block.{block, numberIn, restZero, checked, kindField}
-use Rattle.plan.specs.Fields.{numberField, deviceFields, portsIn, deviceFits, peerIn, joins}
+use Rattle.plan.specs.Fields.{numberField, deviceFields, portsIn, deviceFits, peerNumber, joins}
 use Rattle.plan.specs.Header.{devicesField, headerFields, headerIn, headerFits}
+use Rattle.plan.specs.declared.Verdict.{Verdict}
 
 -- a test: the number and the block that it is refused with, and whether the file passes
 pub record Test : Type 0 where
@@ -18,11 +19,7 @@ pub record Test : Type 0 where
 abbrev pub test : ℕ → ℕ → Bool → Test
 test number at passes = record { number = number; at = at; passes = passes }
 
--- what the reader says of a file: a number and a block; 0 and 0 where nothing is wrong
-pub record Verdict : Type 0 where
-  pub number : ℕ
-  pub at : ℕ
-
+-- nothing is wrong
 abbrev pub accepts : Verdict
 accepts = record { number = 0; at = 0 }
 
@@ -69,7 +66,7 @@ module _ (file : List ℕ) where
   portsOf d = portsIn (deviceBlock d)
 
   abbrev pub peerOf : ℕ → ℕ → ℕ
-  peerOf d p = peerIn (deviceBlock d) p
+  peerOf d p = peerNumber (deviceBlock d) p
 
   unfoldable pub tests : List Test
   tests =

@@ -7,25 +7,13 @@ ghost use Rattle.lists.specs.Table.{joined};
 ghost use Rattle.plan.specs.Fields.{joins as Fields·joins};
 ghost use Rattle.plan.specs.Refusals.{first, joinTests};
 
-fn wide(x: u16) -> usize
-    ensures { λ r. ⌜ r ≡ x ⌝ }
-{
-    x as usize
-}
-
-fn wide8(x: u8) -> usize
-    ensures { λ r. ⌜ r ≡ x ⌝ }
-{
-    x as usize
-}
-
 // Does port p of device d lead to a port that exists, that points back, and that is another one? A
 // port without a peer leads nowhere, which is well.
 fn joins(ports: &[u8; 32], peers: &[[u16; 8]; 32], d: usize, p: usize) -> bool
     requires { ⌜ (length (now ports) ≡ 32) × (d < 32) × (p < 8) ⌝ }
     ensures { λ r. ⌜ r ≡ Fields·joins (λ e. getD (now (ports .entry)) e 0) (λ e q. getD (getD (now (peers .entry)) e []) q 0) d p ⌝ }
 {
-    let q = wide(peers[d][p]);
+    let q = areas::wide16(peers[d][p]);
     if q == 256 {
         return true;
     }
@@ -34,10 +22,10 @@ fn joins(ports: &[u8; 32], peers: &[[u16; 8]; 32], d: usize, p: usize) -> bool
     }
     let e = q / 8;
     let far = q % 8;
-    if wide8(ports[e]) <= far {
+    if areas::wide(ports[e]) <= far {
         return false;
     }
-    if wide(peers[e][far]) != 8 * d + p {
+    if areas::wide16(peers[e][far]) != 8 * d + p {
         return false;
     }
     q != 8 * d + p

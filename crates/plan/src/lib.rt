@@ -41,6 +41,13 @@ pub struct Plan {
     pub peers: [[u16; 8]; 32],
 }
 
+// What the reader says of a file: a number, and the block that it is at; 0 and 0 where nothing is
+// wrong.
+pub struct Verdict {
+    pub number: u32,
+    pub at: u32,
+}
+
 // What reading a file gives: 0 and its plan, or a refusal with the block, beside a plan of zeros.
 pub struct Read {
     pub number: u32,

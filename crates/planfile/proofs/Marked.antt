@@ -3,7 +3,8 @@ use mathlib.Core.Path.{_≡_, refl}
 use mathlib.Core.List.{List, [], _∷_, _++_}
 use Prim.Native.Nat.{ℕ, zero, suc}
 use Rattle.lists.specs.Table.{table, joined}
-use Rattle.plan.specs.Refusals.{Test, Verdict, first}
+use Rattle.plan.specs.Refusals.{Test, first}
+use Rattle.plan.specs.declared.Verdict.{Verdict}
 use Rattle.plan.proofs.Firsts.{AllPass, Stops, here, later}
 
 -- each test's number and block are so

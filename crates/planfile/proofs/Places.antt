@@ -8,7 +8,7 @@ use lib.Dec.{eqb}
 use lib.ListN.{drop}
 use lib.Seq.{getD-take, getD-drop}
 use Rattle.plan.specs.Block.{block, byte, numberAt}
-use Rattle.plan.specs.Fields.{entry, nobody, peerIn}
+use Rattle.plan.specs.Fields.{entry, nobody, peerNumber}
 use Rattle.plan.specs.Refusals.{deviceBlock, countIn}
 use Rattle.plan.proofs.Bytes.{number-same}
 
@@ -25,8 +25,8 @@ module _ (file : List ℕ) (b : ℕ) where
 
 -- the peer of port p of device d, of the two bytes that say it
 pub peer-in : (file : List ℕ) (d p x y : ℕ) → p < 8 → x ≡ byte file (512 * (1 + d) + 12 + 4 * p + 0) → y ≡ byte file (512 * (1 + d) + 12 + 4 * p + 1)
-    → peerIn (deviceBlock file d) p ≡ cond (eqb x 255) nobody (8 * x + y)
-unfolding peerIn
+    → peerNumber (deviceBlock file d) p ≡ cond (eqb x 255) nobody (8 * x + y)
+unfolding peerNumber
 peer-in file d p x y h e g =
     ap₂ (λ (x y : ℕ). cond (eqb x 255) nobody (8 * x + y))
     (entry-in file (1 + d) p 0 h (omega arith) ∙ sym e)

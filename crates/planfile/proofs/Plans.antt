@@ -12,7 +12,7 @@ use borrow.Author.Tests.{lt-ltb, le-ltb}
 use Rattle.lists.specs.Table.{table}
 use Rattle.lists.proofs.Tables.{is-table, same-table}
 use Rattle.plan.specs.Block.{block}
-use Rattle.plan.specs.Fields.{roleIn, sourceIn, handlerIn, entry, nobody, peerIn}
+use Rattle.plan.specs.Fields.{roleIn, sourceIn, handlerIn, entry, nobody, peerNumber}
 use Rattle.plan.specs.Header.{headerIn, coreWith}
 use Rattle.plan.specs.Refusals.{countIn, deviceBlock, portsOf}
 use Rattle.plan.specs.Reading.{column, planOf}
@@ -52,6 +52,6 @@ module _ (file : List ℕ) where
   row true f = refl
   row false f = is-table 8 (λ p. nobody) (replicate 8 nobody) 0 (length-replicate 8 nobody) (λ i h. getD-replicate 8 i nobody 0 h)
 
-  pub peers-of : {n : ℕ} → n ≡ countIn file → table 32 (filling (replicate 8 nobody) (λ d. table 8 (peerIn (deviceBlock file d))) n) ≡ planOf file .peers
+  pub peers-of : {n : ℕ} → n ≡ countIn file → table 32 (filling (replicate 8 nobody) (λ d. table 8 (peerNumber (deviceBlock file d))) n) ≡ planOf file .peers
   unfolding planOf
-  peers-of {n} e = same-table 32 _ _ (λ d h. row (ltb d n) (peerIn (deviceBlock file d)) ∙ rw e)
+  peers-of {n} e = same-table 32 _ _ (λ d h. row (ltb d n) (peerNumber (deviceBlock file d)) ∙ rw e)

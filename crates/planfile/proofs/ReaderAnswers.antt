@@ -11,13 +11,13 @@ use Rattle.lists.specs.Table.{joined, every}
 use Rattle.lists.proofs.Tests.{and-right, every-at}
 use Rattle.plan.specs.Block.{block}
 use Rattle.plan.specs.Fields.{portsFit, masksFit, roleIn, portsIn, sourceIn, handlerIn, entryFits, deviceFits}
-use Rattle.plan.specs.Refusals.{Test, Verdict, accepts, first, deviceTests, joinTests, deviceBlock, countIn, portsOf, peerOf, tests, verdict}
+use Rattle.plan.specs.Refusals.{Test, accepts, first, deviceTests, joinTests, deviceBlock, countIn, portsOf, peerOf, tests, verdict}
+use Rattle.plan.specs.declared.Verdict.{Verdict}
 use Rattle.plan.specs.Reading.{planOf, zeros, reads}
 use Rattle.plan.specs.declared.Core.{Core}
 use Rattle.plan.specs.declared.Plan.{Plan}
 use Rattle.plan.specs.declared.Read.{Read}
 use Rattle.plan.proofs.Firsts.{AllPass, Numbered, Stops, passes-or-stops, first-accepts, first-stops, accepts-all, all-front, all-back, all-at, stops-front, numbered-append, numbered-joined}
-use Rattle.planfile.specs.declared.reader.Place.{Place}
 use Rattle.planfile.specs.inner.Scan.{ofDevice, scanTests, scanned}
 use Rattle.planfile.proofs.SameConnections.{Leads, entry-leads, same-tests, devices-held, ports-held, peer-held}
 use Rattle.planfile.proofs.Marked.{Each, stops-each, each-joined, each-table, first-behind}
@@ -50,7 +50,7 @@ module _ (file : List ℕ) where
   unfolding verdict tests scanTests
   scan-decides s = first-stops (stops-front connections s)
 
-  by-scan : (scanned file .number ≡ 0 → ⊥) → answer (scanned file .number) (scanned file .block) zeros ≡ reads file
+  by-scan : (scanned file .number ≡ 0 → ⊥) → answer (scanned file .number) (scanned file .at) zeros ≡ reads file
   unfolding scanned
   by-scan z =
       elim (passes-or-stops (scanTests file)) [
@@ -58,7 +58,7 @@ module _ (file : List ℕ) where
         | inr s ↦ refused (scan-decides s) z
       ]
 
-  pub scan-refuses : {place : Place} {plan : Plan} → place ≡ scanned file → (place .number ≡ 0 → ⊥) → plan ≡ zeros → answer (place .number) (place .block) plan ≡ reads file
+  pub scan-refuses : {place : Verdict} {plan : Plan} → place ≡ scanned file → (place .number ≡ 0 → ⊥) → plan ≡ zeros → answer (place .number) (place .at) plan ≡ reads file
   scan-refuses {place} e z o = rw (o, e) (by-scan (rw e at z))
 
   -- ---- the scan does not
@@ -71,9 +71,9 @@ module _ (file : List ℕ) where
       (numbered-joined (ofDevice file) (countIn file) (λ d. device-numbered (countIn file) d (deviceBlock file d)))
 
   -- all tests but those of the connections are passed
-  pub scan-passes : {place : Place} → place ≡ scanned file → place .number ≡ 0 → AllPass (scanTests file)
+  pub scan-passes : {place : Verdict} → place ≡ scanned file → place .number ≡ 0 → AllPass (scanTests file)
   unfolding scanned
-  scan-passes e z = accepts-all (scanTests file) scan-numbered (ap (λ (place : Place). place .number) (sym e) ∙ z)
+  scan-passes e z = accepts-all (scanTests file) scan-numbered (ap (λ (place : Verdict). place .number) (sym e) ∙ z)
 
   module _ (p : AllPass (scanTests file)) where
     front : AllPass (long file ++ header file ++ counted file)

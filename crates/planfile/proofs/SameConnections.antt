@@ -12,7 +12,7 @@ use borrow.Author.Tests.{lt-ltb, ltb-true, eq-eqb, ne-eqb}
 use Rattle.lists.specs.Table.{joined}
 use Rattle.lists.proofs.Tables.{getD-table, same-table, same-joined}
 use Rattle.lists.proofs.Tests.{and-left, and-right, or-cases}
-use Rattle.plan.specs.Fields.{entry, portsIn, peerIn, nobody, unconnected, connected, entryFits, joins}
+use Rattle.plan.specs.Fields.{entry, portsIn, peerNumber, nobody, unconnected, connected, entryFits, joins}
 use Rattle.plan.specs.Refusals.{test, joinTests, countIn, portsOf, peerOf}
 use Rattle.plan.specs.Reading.{column, planOf}
 
@@ -48,19 +48,19 @@ module _ (n : ℕ) (s : List ℕ) (p : ℕ) where
   abbrev y : ℕ
   y = entry s p 1
 
-  none : eqb x 255 ≡ true → peerIn s p ≡ nobody
-  unfolding peerIn
+  none : eqb x 255 ≡ true → peerNumber s p ≡ nobody
+  unfolding peerNumber
   none e = simp e
 
-  some : x < n → y < 8 → (x ≡ 255 → ⊥) → peerIn s p / 8 < n
-  unfolding peerIn
+  some : x < n → y < 8 → (x ≡ 255 → ⊥) → peerNumber s p / 8 < n
+  unfolding peerNumber
   some h l z = simp (ne-eqb x 255 z) (omega arith)
 
-  of-unconnected : unconnected s p ≡ true → Leads n (peerIn s p)
+  of-unconnected : unconnected s p ≡ true → Leads n (peerNumber s p)
   unfolding unconnected
   of-unconnected e = inl (none (and-left (eqb x 255) (eqb y 255) (and-left _ (eqb (entry s p 2) 0) (and-left _ (eqb (entry s p 3) 0) e))))
 
-  of-connected : connected n s p ≡ true → Leads n (peerIn s p)
+  of-connected : connected n s p ≡ true → Leads n (peerNumber s p)
   unfolding connected
   of-connected e =
       let two : (ltb x n && ltb y 8) ≡ true = and-left _ (leb (entry s p 2) 15) (and-left _ (eqb (entry s p 3) 0) e) in
@@ -69,11 +69,11 @@ module _ (n : ℕ) (s : List ℕ) (p : ℕ) where
         | no z ↦ inr (some (ltb-true x n (and-left (ltb x n) (ltb y 8) two)) (ltb-true y 8 (and-right (ltb x n) (ltb y 8) two)) z)
       ]
 
-  pub entry-leads : entryFits n s p ≡ true → Leads n (peerIn s p)
+  pub entry-leads : entryFits n s p ≡ true → Leads n (peerNumber s p)
   unfolding entryFits
   entry-leads e = by-port (ltb p (portsIn s)) e
     where
-      by-port : (t : Bool) → cond t (connected n s p || unconnected s p) (unconnected s p) ≡ true → Leads n (peerIn s p)
+      by-port : (t : Bool) → cond t (connected n s p || unconnected s p) (unconnected s p) ≡ true → Leads n (peerNumber s p)
       by-port false e = of-unconnected e
       by-port true e = elim (or-cases (connected n s p) (unconnected s p) e) [ inl c ↦ of-connected c | inr u ↦ of-unconnected u ]
 

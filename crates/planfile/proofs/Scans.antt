@@ -14,15 +14,15 @@ use Rattle.lists.specs.Table.{joined}
 use Rattle.lists.proofs.Tests.{and-left}
 use Rattle.plan.specs.Block.{block}
 use Rattle.plan.specs.Header.{headerIn}
-use Rattle.plan.specs.Refusals.{Test, test, Verdict, first, lengthFits, headerTests, deviceTests, deviceBlock, countIn}
+use Rattle.plan.specs.Refusals.{Test, test, first, lengthFits, headerTests, deviceTests, deviceBlock, countIn}
+use Rattle.plan.specs.declared.Verdict.{Verdict}
 use Rattle.plan.proofs.Firsts.{AllPass, Stops, here, Numbered, passes-or-stops, first-stops, first-accepts, accepts-all, stops-front, stops-back, all-append, all-joined, stops-joined}
 use Rattle.plan.proofs.Good.{devices-fit, header-says}
-use Rattle.planfile.specs.inner.Scan.{ofDevice, blockTests, refusalIn, placeOf, deviceScan, scanTests, scanned}
-use Rattle.planfile.specs.declared.reader.Place.{Place}
+use Rattle.planfile.specs.inner.Scan.{ofDevice, blockTests, refusalIn, deviceScan, scanTests, scanned}
 use Rattle.planfile.proofs.Marked.{Each, stops-each, first-behind}
 
-abbrev pub place : ℕ → ℕ → Place
-place number block = record { number = number; block = block }
+abbrev pub place : ℕ → ℕ → Verdict
+place number at = record { number = number; at = at }
 
 -- ---- one block
 
@@ -46,7 +46,7 @@ device-refusal file d h = of-tests file (d + 1) h ∙ ap (λ (b : ℕ). first (b
 -- ---- tests of one block
 
 -- a list of tests of block b that is refused with number k, which is not 0
-stops-there : {ts : List Test} {b : ℕ} (k : ℕ) → Each (λ n a. a ≡ b) ts → k ≡ first ts .number → (k ≡ 0 → ⊥) → Stops ts (record { number = k; at = b })
+stops-there : {ts : List Test} {b : ℕ} (k : ℕ) → Each (λ n a. a ≡ b) ts → k ≡ first ts .number → (k ≡ 0 → ⊥) → Stops ts (place k b)
 stops-there {ts} {b} k m e h =
     elim (passes-or-stops ts) [
       | inl p ↦ absurd (h (e ∙ ap (λ (v : Verdict). v .number) (first-accepts ts p)))
@@ -87,7 +87,7 @@ module _ {file : List ℕ} {n d number : ℕ} (v : Scanned file n d) (h : d < n)
   pub stops-device : (number ≡ 0 → ⊥) → place number (d + 1) ≡ deviceScan file
   unfolding deviceScan
   stops-device z =
-      ap placeOf (sym (first-stops (stops-joined (ofDevice file) (countIn file) d (v .pass) (stops-there number (device-at (countIn file) d (deviceBlock file d)) said z) (omega (arith, v .counted)))))
+      (sym (first-stops (stops-joined (ofDevice file) (countIn file) d (v .pass) (stops-there number (device-at (countIn file) d (deviceBlock file d)) said z) (omega (arith, v .counted)))))
 
   pub scanned-more : number ≡ 0 → Scanned file n (d + 1)
   scanned-more z =
@@ -101,7 +101,7 @@ module _ {file : List ℕ} {n d number : ℕ} (v : Scanned file n d) (h : d < n)
 pub scanned-all : {file : List ℕ} {n d : ℕ} → Scanned file n d → n ≤ d → place 0 0 ≡ deviceScan file
 unfolding deviceScan
 scanned-all {file} {n} {d} v h =
-    ap placeOf (sym (first-accepts _ (all-joined (ofDevice file) (countIn file) (λ e l. v .pass e (omega (arith, v .counted))))))
+    (sym (first-accepts _ (all-joined (ofDevice file) (countIn file) (λ e l. v .pass e (omega (arith, v .counted))))))
 
 -- ---- the scan
 
@@ -120,7 +120,7 @@ module _ (file : List ℕ) where
 
   pub stops-long : lengthFits file ≡ false → place 20 0 ≡ scanned file
   unfolding scanned scanTests
-  stops-long e = ap placeOf (sym (first-stops (stops-front devices (stops-front counted (stops-front {xs = long} header (here e))))))
+  stops-long e = (sym (first-stops (stops-front devices (stops-front counted (stops-front {xs = long} header (here e))))))
 
   module _ (l : lengthFits file ≡ true) where
     pub has-header : 512 ≤ length file
@@ -133,7 +133,7 @@ module _ (file : List ℕ) where
     pub stops-header : {number : ℕ} → number ≡ refusalIn file 0 → (number ≡ 0 → ⊥) → place number 0 ≡ scanned file
     unfolding scanned scanTests
     stops-header {number} e z =
-        ap placeOf (sym (first-stops (stops-front devices (stops-front counted (stops-back long (l, tt) (stops-there number (header-at (block file 0)) (own number e) z))))))
+        (sym (first-stops (stops-front devices (stops-front counted (stops-back long (l, tt) (stops-there number (header-at (block file 0)) (own number e) z))))))
 
     pub passes-header : {number : ℕ} → number ≡ refusalIn file 0 → number ≡ 0 → AllPass header
     passes-header {number} e z = accepts-all header (header-numbered (block file 0)) (sym (own number e) ∙ z)
@@ -145,8 +145,8 @@ module _ (file : List ℕ) where
 
       pub stops-counted : (length file ≡ 512 * (1 + countIn file) → ⊥) → place 25 0 ≡ scanned file
       unfolding scanned scanTests
-      stops-counted z = ap placeOf (sym (first-stops (stops-front devices (stops-back (long ++ header) (l, p) (here (ne-eqb _ _ z))))))
+      stops-counted z = (sym (first-stops (stops-front devices (stops-back (long ++ header) (l, p) (here (ne-eqb _ _ z))))))
 
       pub devices-decide : length file ≡ 512 * (1 + countIn file) → deviceScan file ≡ scanned file
       unfolding deviceScan scanned scanTests
-      devices-decide e = ap placeOf (sym (first-behind (long ++ header ++ counted) devices (all-append (long ++ header) counted (l, p) (eq-eqb _ _ e, tt))))
+      devices-decide e = (sym (first-behind (long ++ header ++ counted) devices (all-append (long ++ header) counted (l, p) (eq-eqb _ _ e, tt))))

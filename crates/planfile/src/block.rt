@@ -13,20 +13,6 @@ pub(crate) const KIND: usize = 0;
 
 pub(crate) const CHECK: usize = 510;
 
-// A byte as a number that can be counted with.
-pub(crate) fn wide(x: u8) -> usize
-    ensures { λ r. ⌜ (r ≡ x) × (r < 256) ⌝ }
-{
-    x as usize
-}
-
-// The same for the sum, which fits 32 bits: several at a time are then added.
-pub(crate) fn narrow(x: u8) -> u32
-    ensures { λ r. ⌜ (r ≡ x) × (r < 256) ⌝ }
-{
-    x as u32
-}
-
 // ---- numbers: the low byte stands first
 
 // The number of two bytes from i on.
@@ -34,7 +20,7 @@ pub(crate) fn two(block: &[u8], i: usize) -> usize
     requires { ⌜ i + 1 < length (now block) ⌝ }
     ensures { λ r. ⌜ (r ≡ numberAt (now (block .entry)) i 2) × (r < 65536) ⌝ }
 {
-    wide(block[i]) + 256 * wide(block[i + 1])
+    areas::wide(block[i]) + 256 * areas::wide(block[i + 1])
 }
 
 // The number of four bytes from i on.
@@ -61,14 +47,15 @@ pub(crate) fn put(block: &mut [u8], i: usize, width: usize, number: u32)
 
 // ---- the check
 
-// The weighted sum of the bytes before it, which the check has to be.
+// The weighted sum of the bytes before it, which the check has to be. It fits 32 bits: several bytes
+// at a time are then added.
 pub(crate) fn check(block: &[u8]) -> usize
     requires { ⌜ 510 ≤ length (now block) ⌝ }
     ensures { λ r. ⌜ (r ≡ Block·check (now (block .entry))) × (r < 65521) ⌝ }
 {
     let mut sum: u32 = 0;
     for i in 0..CHECK {
-        sum += (i as u32 + 1) * narrow(block[i]);
+        sum += (i as u32 + 1) * areas::word(block[i]);
     }
     (sum % 65521) as usize
 }
@@ -100,7 +87,7 @@ pub(crate) fn zeros(from: usize, to: usize, block: &[u8]) -> bool
 {
     let mut sum: u32 = 0;
     for i in from..to {
-        sum += narrow(block[i]);
+        sum += areas::word(block[i]);
     }
     sum == 0
 }

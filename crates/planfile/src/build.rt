@@ -4,7 +4,7 @@ ghost use Prim.Native.Nat.{_+_, _*_, _<_, _≤_};
 ghost use lib.ListN.{length};
 ghost use Rattle.lists.specs.Table.{table};
 ghost use Rattle.plan.specs.Block.{numberAt};
-ghost use Rattle.plan.specs.Fields.{peerIn};
+ghost use Rattle.plan.specs.Fields.{peerNumber};
 ghost use Rattle.plan.specs.Refusals.{deviceBlock, countIn};
 ghost use Rattle.plan.specs.Reading.{column as Reading·column, planOf};
 use crate::block;
@@ -69,20 +69,20 @@ pub(crate) fn core_of(file: &[u8]) -> Core
 // The peer of port p of device d: 8 x its device + its port, or 256.
 fn peer(file: &[u8], d: usize, p: usize) -> u16
     requires { ⌜ (p < 8) × (512 * (2 + d) ≤ length (now file)) ⌝ }
-    ensures { λ r. ⌜ r ≡ peerIn (deviceBlock (now (file .entry)) d) p ⌝ }
+    ensures { λ r. ⌜ r ≡ peerNumber (deviceBlock (now (file .entry)) d) p ⌝ }
 {
     let at = block::BLOCK * (1 + d) + device::ENTRIES + 4 * p;
-    let device = block::wide(file[at + device::PEER_DEVICE]);
+    let device = areas::wide(file[at + device::PEER_DEVICE]);
     if device == 255 {
         return 256;
     }
-    (8 * device + block::wide(file[at + device::PEER_PORT])) as u16
+    (8 * device + areas::wide(file[at + device::PEER_PORT])) as u16
 }
 
 // The peers of a device's ports.
 fn peer_row(file: &[u8], d: usize) -> [u16; 8]
     requires { ⌜ 512 * (2 + d) ≤ length (now file) ⌝ }
-    ensures { λ r. ⌜ r ≡ table 8 (peerIn (deviceBlock (now (file .entry)) d)) ⌝ }
+    ensures { λ r. ⌜ r ≡ table 8 (peerNumber (deviceBlock (now (file .entry)) d)) ⌝ }
 {
     let mut out = [0u16; 8];
     for p in 0..8 {
@@ -96,7 +96,7 @@ pub(crate) fn peers_of(file: &[u8]) -> [[u16; 8]; 32]
     requires { ⌜ (countIn (now file) ≤ 32) × (length (now file) ≡ 512 * (1 + countIn (now file))) ⌝ }
     ensures { λ r. ⌜ r ≡ planOf (now (file .entry)) .peers ⌝ }
 {
-    let n = block::wide(file[header::DEVICES]);
+    let n = areas::wide(file[header::DEVICES]);
     let mut out = [[256u16; 8]; 32];
     for d in 0..n {
         out[d] = peer_row(file, d);

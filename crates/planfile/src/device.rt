@@ -61,7 +61,7 @@ fn connected(n: usize, block: &[u8], p: usize) -> bool
     ensures { λ r. ⌜ r ≡ Fields·connected n (now (block .entry)) p ⌝ }
 {
     let at = ENTRIES + 4 * p;
-    if n <= block::wide(block[at + PEER_DEVICE]) {
+    if n <= areas::wide(block[at + PEER_DEVICE]) {
         return false;
     }
     if 8 <= block[at + PEER_PORT] {
@@ -77,7 +77,7 @@ fn entry_fits(n: usize, block: &[u8], p: usize) -> bool
     requires { ⌜ (p < 8) × (length (now block) ≡ 512) ⌝ }
     ensures { λ r. ⌜ r ≡ entryFits n (now (block .entry)) p ⌝ }
 {
-    if block::wide(block[PORTS]) <= p {
+    if areas::wide(block[PORTS]) <= p {
         return unconnected(block, p);
     }
     if connected(n, block, p) {
@@ -134,7 +134,7 @@ pub(crate) fn refusal(n: usize, d: usize, block: &[u8]) -> u32
     if block[block::KIND] != 2 {
         return 22;
     }
-    if block::wide(block[NUMBER]) != d {
+    if areas::wide(block[NUMBER]) != d {
         return 22;
     }
     if !fields_fit(n, block) {
@@ -155,8 +155,8 @@ fn put_own(d: usize, role: u8, ports: u8, source: u32, handler: u32, block: &mut
 {
     block::put(block, block::KIND, 1, 2);
     block::put(block, NUMBER, 1, d as u32);
-    block::put(block, ROLE, 1, block::narrow(role));
-    block::put(block, PORTS, 1, block::narrow(ports));
+    block::put(block, ROLE, 1, role as u32);
+    block::put(block, PORTS, 1, ports as u32);
     block::put(block, SOURCE, 4, source);
     block::put(block, HANDLER, 4, handler);
 }
@@ -188,7 +188,7 @@ fn put_entry(p: usize, peer: u16, permissions: u8, block: &mut [u8])
     let at = ENTRIES + 4 * p;
     block::put(block, at + PEER_DEVICE, 1, peer_device(peer));
     block::put(block, at + PEER_PORT, 1, peer_port(peer));
-    block::put(block, at + PERMISSIONS, 1, block::narrow(permissions));
+    block::put(block, at + PERMISSIONS, 1, permissions as u32);
     block::put(block, at + SPARE, 1, 0);
 }
 

@@ -22,7 +22,7 @@ pub(crate) fn read(block: &[u8]) -> Header
     requires { ⌜ length (now block) ≡ 512 ⌝ }
     ensures { λ r. ⌜ SameHeader r (headerIn (now (block .entry))) ⌝ }
 {
-    let devices = block::wide(block[DEVICES]);
+    let devices = areas::wide(block[DEVICES]);
     let router = block::two(block, ROUTER_LOAD);
     let node = block::two(block, NODE_LOAD);
     Header {
@@ -66,22 +66,17 @@ pub(crate) fn refusal(block: &[u8]) -> u32
     0
 }
 
-// A load as a number that can be put.
-fn load(x: u16) -> u32
-    ensures { λ r. ⌜ r ≡ x ⌝ }
-{
-    x as u32
-}
-
 pub(crate) fn put(header: Header, block: &mut [u8])
     requires { ⌜ (header .devices ≤ 32) × (length (now block) ≡ 512) ⌝ }
     ensures { λ _. ⌜ now (block .exit) ≡ blockOf (headerHoldings header) ⌝ }
 {
     let loads = header.loads;
+    let router = loads[1] as u32;
+    let node = loads[0] as u32;
     block::clear(block);
     block::put(block, block::KIND, 1, 1);
     block::put(block, DEVICES, 1, header.devices as u32);
-    block::put(block, ROUTER_LOAD, 2, load(loads[1]));
-    block::put(block, NODE_LOAD, 2, load(loads[0]));
+    block::put(block, ROUTER_LOAD, 2, router);
+    block::put(block, NODE_LOAD, 2, node);
     block::seal(block);
 }

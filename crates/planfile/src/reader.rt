@@ -10,6 +10,7 @@ use crate::build;
 use crate::device;
 use crate::header;
 use plan::Read;
+use plan::Verdict;
 
 // The length of the longest file: block 0, and 32 devices.
 const MOST: usize = 16896;
@@ -18,12 +19,6 @@ const MOST: usize = 16896;
 pub struct Reader<'a> {
     pub file: &'a [u8],
     pub block: usize,
-}
-
-// A number and the block that goes with it.
-pub struct Place {
-    pub number: u32,
-    pub block: u32,
 }
 
 // The refusal that a block of a file gets by itself, or 0; a block that the file does not have in
@@ -39,7 +34,7 @@ fn refusal_in(file: &[u8], b: usize) -> u32
     if b == 0 {
         return header::refusal(&file[start..end]);
     }
-    device::refusal(block::wide(file[header::DEVICES]), b - 1, &file[start..end])
+    device::refusal(areas::wide(file[header::DEVICES]), b - 1, &file[start..end])
 }
 
 fn at<'a>(file: &'a [u8], block: usize) -> Reader<'a>
@@ -75,48 +70,39 @@ fn length_fits(file: &[u8]) -> bool
 }
 
 // The first refusal among the blocks of n devices.
-fn scan_devices(file: &[u8], n: usize) -> Place
+fn scan_devices(file: &[u8], n: usize) -> Verdict
     requires { ⌜ (n ≤ 32) × (length (now file) ≡ 512 * (1 + n)) × (n ≡ countIn (now file)) ⌝ }
     ensures { λ r. ⌜ r ≡ deviceScan (now (file .entry)) ⌝ }
 {
     for d in 0..n {
         let number = refusal_at(file, d + 1);
         if number != 0 {
-            return Place {
+            return Verdict {
                 number: number,
-                block: (d + 1) as u32,
+                at: (d + 1) as u32,
             };
         }
     }
-    Place {
-        number: 0,
-        block: 0,
-    }
+    Verdict { number: 0, at: 0 }
 }
 
 // The first refusal of all but the connections, which are searched in the plan.
-fn scan(file: &[u8]) -> Place
+fn scan(file: &[u8]) -> Verdict
     ensures { λ r. ⌜ r ≡ scanned (now (file .entry)) ⌝ }
 {
     if !length_fits(file) {
-        return Place {
-            number: 20,
-            block: 0,
-        };
+        return Verdict { number: 20, at: 0 };
     }
     let number = refusal_at(file, 0);
     if number != 0 {
-        return Place {
+        return Verdict {
             number: number,
-            block: 0,
+            at: 0,
         };
     }
-    let n = block::wide(file[header::DEVICES]);
+    let n = areas::wide(file[header::DEVICES]);
     if file.len() != block::BLOCK * (1 + n) {
-        return Place {
-            number: 25,
-            block: 0,
-        };
+        return Verdict { number: 25, at: 0 };
     }
     scan_devices(file, n)
 }
@@ -125,12 +111,12 @@ fn scan(file: &[u8]) -> Place
 pub fn read(file: &[u8]) -> Read
     ensures { λ r. ⌜ r ≡ reads (now (file .entry)) ⌝ }
 {
-    let place = scan(file);
-    if place.number != 0 {
+    let verdict = scan(file);
+    if verdict.number != 0 {
         let plan = plan::blank();
         return Read {
-            number: place.number,
-            block: place.block,
+            number: verdict.number,
+            block: verdict.at,
             plan: plan,
         };
     }

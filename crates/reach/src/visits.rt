@@ -6,21 +6,21 @@ ghost use lib.Dec.{eqb};
 ghost use lib.ListN.{length, getD};
 ghost use Rattle.device.specs.Permissions.{maySend, mayReceive};
 ghost use Rattle.state.specs.State.{words, portAt, runningAt};
-ghost use Rattle.state.specs.Network.{peerIn};
 ghost use Rattle.reach.specs.inner.Depth.{left, Finds};
 ghost use Rattle.reach.specs.Visits.{ahead as Visits·ahead, deviceVisit, portVisit};
 
 // As wide as a port's number here is.
 const NOBODY: usize = plan::NOBODY as usize;
 
-// An element of a lent array is known to fit its type only once it is an argument, so these three
-// take one: a peer's number, and what a port with some permissions may do.
-fn wide(x: u16) -> usize
-    ensures { λ r. ⌜ r ≡ x ⌝ }
+// Does port q run?
+fn runs(state: &[u32], q: usize) -> bool
+    requires { ⌜ (length (now state) ≡ words) × (q < 256) ⌝ }
+    ensures { λ r. ⌜ r ≡ eqb (getD (now (state .entry)) (portAt q runningAt) 0) 1 ⌝ }
 {
-    x as usize
+    state[state::PORTS + state::PORT * q + state::RUNNING] == 1
 }
 
+// What a port with some permissions may do.
 fn may_send(permissions: u8) -> bool
     ensures { λ r. ⌜ r ≡ maySend 0 permissions ⌝ }
 {
@@ -33,35 +33,6 @@ fn may_receive(permissions: u8) -> bool
     device::may_receive(0, permissions as u32)
 }
 
-// What stands of port q in each area.
-fn runs(state: &[u32], q: usize) -> bool
-    requires { ⌜ (length (now state) ≡ words) × (q < 256) ⌝ }
-    ensures { λ r. ⌜ r ≡ eqb (getD (now (state .entry)) (portAt q runningAt) 0) 1 ⌝ }
-{
-    state[state::PORTS + state::PORT * q + state::RUNNING] == 1
-}
-
-fn sends(permissions: &[u8; 256], q: usize) -> bool
-    requires { ⌜ q < 256 ⌝ }
-    ensures { λ r. ⌜ r ≡ maySend 0 (getD (now (permissions .entry)) q 0) ⌝ }
-{
-    may_send(permissions[q])
-}
-
-fn receives(permissions: &[u8; 256], q: usize) -> bool
-    requires { ⌜ q < 256 ⌝ }
-    ensures { λ r. ⌜ r ≡ mayReceive 0 (getD (now (permissions .entry)) q 0) ⌝ }
-{
-    may_receive(permissions[q])
-}
-
-fn far_end(peers: &[[u16; 8]; 32], q: usize) -> usize
-    requires { ⌜ q < 256 ⌝ }
-    ensures { λ r. ⌜ r ≡ peerIn (now (peers .entry)) q ⌝ }
-{
-    wide(peers[q / 8][q % 8])
-}
-
 // The device that port q leads to for k, or 32. No test asks for k: no rule tells identifiers apart.
 fn ahead(permissions: &[u8; 256], peers: &[[u16; 8]; 32], state: &[u32], k: u32, q: usize) -> usize
     requires { ⌜ (length (now state) ≡ words) × (q < 256) ⌝ }
@@ -70,14 +41,14 @@ fn ahead(permissions: &[u8; 256], peers: &[[u16; 8]; 32], state: &[u32], k: u32,
     if !runs(state, q) {
         return 32;
     }
-    if !sends(permissions, q) {
+    if !may_send(permissions[q]) {
         return 32;
     }
-    let far = far_end(peers, q);
+    let far = areas::wide16(peers[q / 8][q % 8]);
     if NOBODY <= far {
         return 32;
     }
-    if !receives(permissions, far) {
+    if !may_receive(permissions[far]) {
         return 32;
     }
     far / 8

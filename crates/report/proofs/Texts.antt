@@ -96,7 +96,7 @@ module _ (file state second text : List ℕ) where
   pub reports : {s u t : List ℕ} {value : ℕ} → Fits (length state) (length second) (length text) → PutsText file text 0 t value
       → s ≡ table words (λ i. 0) → u ≡ table words (λ i. 0) → Reports file (lent state second text) 0 value (lent s u t)
   reports {value = value} fits v e f =
-      let room : length (v .text) ≤ length text = omega (arith, v .short, fits .2) in
+      let room : length (v .text) ≤ length text = omega (arith, v .short, fits .1) in
       let size : value ≡ length (v .text) = next-place (v .put) (omega (arith, room)) ∙ zero-add _ in
       let g = v .put .exit ∙ sym (over-put (v .text) text room) in
       record {

@@ -13,7 +13,7 @@ use Rattle.text.specs.Text.{ascii, decimal}
 use Rattle.plan.specs.Refusals.{verdict}
 use Rattle.plan.specs.Reading.{planOf}
 use Rattle.plan.specs.declared.Plan.{Plan}
-use Rattle.state.specs.State.{words}
+use Rattle.state.specs.State.{words, BothFit}
 use Rattle.state.specs.Network.{devices, source}
 use Rattle.bench.specs.Trials.{Tries}
 
@@ -61,7 +61,7 @@ longest = 14347
 
 -- their lengths are right
 abbrev pub Fits : ℕ → ℕ → ℕ → Type 0
-Fits state second text = (state ≡ words) × (second ≡ words) × (longest ≤ text)
+Fits state second text = BothFit state second × (longest ≤ text)
 
 abbrev pub reportAsks : Areas → List Condition
 reportAsks areas = ask 3 (Fits (length (areas .state)) (length (areas .second)) (length (areas .text))) ∷ []

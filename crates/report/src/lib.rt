@@ -36,10 +36,7 @@ pub fn report(file: &[u8], state: &mut [u32], second: &mut [u32], text: &mut [u8
 fn fits(state: usize, second: usize, text: usize) -> bool
     ensures { λ r. ⌜ Decides (Fits state second text) r ⌝ }
 {
-    if state != bench::WORDS {
-        return false;
-    }
-    if second != bench::WORDS {
+    if !state::both_fit(state, second) {
         return false;
     }
     LONGEST <= text

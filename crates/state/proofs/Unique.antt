@@ -11,7 +11,7 @@ use Rattle.state.specs.Network.{loadFor}
 use Rattle.state.specs.Queue.{queueIn}
 use Rattle.state.specs.Sound.{Sound, stateAsks}
 use Rattle.state.specs.Start.{started, startAsks, begun, Starts}
-use Rattle.state.specs.State.{State, word}
+use Rattle.state.specs.State.{State, word, BothFit}
 
 module _ (plan : Plan) (state : State) where
   pub is-sound-unique : (r s : Bool) → Decides (Sound plan state) r → Decides (Sound plan state) s → r ≡ s
@@ -30,6 +30,9 @@ begin-unique peers area a b p q = p ∙ sym q
 pub queue-all-unique : (permissions : List ℕ) (kind k d but : ℕ) (state a b : State) → a ≡ queueIn permissions kind k d but state
     → b ≡ queueIn permissions kind k d but state → a ≡ b
 queue-all-unique permissions kind k d but state a b p q = p ∙ sym q
+
+pub both-fit-unique : (state second : ℕ) (r s : Bool) → Decides (BothFit state second) r → Decides (BothFit state second) s → r ≡ s
+both-fit-unique state second r s p q = decides-once r s p q
 
 pub load-for-unique : (loads : List ℕ) (role k r s : ℕ) → r ≡ loadFor loads role k → s ≡ loadFor loads role k → r ≡ s
 load-for-unique loads role k r s p q = p ∙ sym q

@@ -1,4 +1,5 @@
 -- RULES, "State": how many words of 32 bits it has, and where each stands.
+use mathlib.Core.Path.{_≡_}
 use mathlib.Core.List.{List, _∷_, _++_}
 use Prim.Native.Nat.{ℕ, _+_, _-_, _*_}
 use lib.ListN.{getD, set}
@@ -9,6 +10,10 @@ State = List ℕ
 
 abbrev pub words : ℕ
 words = 2080
+
+-- two areas are each as long as a state
+abbrev pub BothFit : ℕ → ℕ → Type 0
+BothFit state second = (state ≡ words) × (second ≡ words)
 
 unfoldable pub word : State → ℕ → ℕ
 word s i = getD s i 0

@@ -1,7 +1,9 @@
 // The state of a network: where its words stand, whether it is sound, the one that every run starts
 // from, and how a code is queued at a port.
 ghost use mathlib.Core.Path.{_≡_};
+ghost use Rattle.answers.specs.Decides.{Decides};
 ghost use Rattle.state.specs.Network.{loadFor};
+ghost use Rattle.state.specs.State.{BothFit};
 
 mod first;
 mod port;
@@ -32,6 +34,16 @@ pub const ACKNOWLEDGES: usize = 1;
 pub const NEXT: usize = 2;
 
 pub const RUNNING: usize = 3;
+
+// Is each of two areas, of which the lengths are given, as long as a state?
+pub fn both_fit(state: usize, second: usize) -> bool
+    ensures { λ r. ⌜ Decides (BothFit state second) r ⌝ }
+{
+    if state != WORDS {
+        return false;
+    }
+    second == WORDS
+}
 
 // What the timer of identifier k is loaded with at a device of the role; there is no other role than
 // these two, and for another it would be 0.

@@ -6,8 +6,8 @@ use lib.Dec.{eqb, ltb}
 use lib.ListN.{length}
 use Rattle.lists.specs.Table.{joined}
 use Rattle.plan.specs.Block.{block}
-use Rattle.plan.specs.Refusals.{test, Test, Verdict, first, lengthFits, headerTests, deviceTests, countIn, deviceBlock}
-use Rattle.planfile.specs.declared.reader.Place.{Place}
+use Rattle.plan.specs.Refusals.{test, Test, first, lengthFits, headerTests, deviceTests, countIn, deviceBlock}
+use Rattle.plan.specs.declared.Verdict.{Verdict}
 
 -- the tests of a device's block by itself, and of block b
 abbrev pub ofDevice : List ℕ → ℕ → List Test
@@ -21,12 +21,9 @@ blockTests file (suc d) = ofDevice file d
 unfoldable pub refusalIn : List ℕ → ℕ → ℕ
 refusalIn file b = cond (ltb b (length file / 512)) (first (blockTests file b) .number) 20
 
-abbrev pub placeOf : Verdict → Place
-placeOf v = record { number = v .number; block = v .at }
-
 -- the blocks of the devices
-unfoldable pub deviceScan : List ℕ → Place
-deviceScan file = placeOf (first (joined (countIn file) (ofDevice file)))
+unfoldable pub deviceScan : List ℕ → Verdict
+deviceScan file = first (joined (countIn file) (ofDevice file))
 
 -- all tests but those of the connections
 unfoldable pub scanTests : List ℕ → List Test
@@ -36,5 +33,5 @@ scanTests file =
     ++ (test 25 0 (eqb (length file) (512 * (1 + countIn file))) ∷ [])
     ++ joined (countIn file) (ofDevice file)
 
-unfoldable pub scanned : List ℕ → Place
-scanned file = placeOf (first (scanTests file))
+unfoldable pub scanned : List ℕ → Verdict
+scanned file = first (scanTests file)

@@ -14,7 +14,7 @@ held-then c = plan-held _ (c .before .before .read .ensures) (c .if1 .left) (λ 
 put-bad-requires : tie.Need-put-bad-requires
 put-bad-requires c κs =
     let r = c .before .before .before .read in
-    omega (arith, bad-short (r .result .number) (r .result .block) (omega arith) (omega arith), c .before .before .before .before .before .before .before .before .pre .2)
+    omega (arith, bad-short (r .result .number) (r .result .block) (omega arith) (omega arith), c .before .before .before .before .before .before .before .before .pre .1)
 
 returns : tie.Need-returns
 returns c =
@@ -25,7 +25,7 @@ cast-put-heading : tie.Need-cast-put-heading
 cast-put-heading c = omega (arith, held-devices _ (held-then (c .before .before .before .before .before .before .before .before .before .before .before .before .before)) .1)
 
 put-heading-requires : tie.Need-put-heading-requires
-put-heading-requires c κs = omega (arith, heading-short _ (held-devices _ (held-then (c .before .before .before .before .before .before .before .before .before .before .before .before .before)) .1), c .before .before .before .before .before .before .before .before .before .before .before .before .before .before .before .before .before .before .before .before .pre .2)
+put-heading-requires c κs = omega (arith, heading-short _ (held-devices _ (held-then (c .before .before .before .before .before .before .before .before .before .before .before .before .before)) .1), c .before .before .before .before .before .before .before .before .before .before .before .before .before .before .before .before .before .before .before .before .pre .1)
 
 put-lines-requires : tie.Need-put-lines-requires
 put-lines-requires c κs =
@@ -33,12 +33,12 @@ put-lines-requires c κs =
     let held = held-then (c .before .before .before .before .before .before .before .before .before .before .before .before .before .before .before .before .before .before) in
     let h = c .before .before .before .before .put-heading .ensures in
     let short = heading-short _ (held-devices _ held .1) in
-    (held, was-found (c .before .before .before .before .before .before .before .before .before .before .before .before .trials .ensures) held (a .pre .0, a .pre .1, search needs), omega (arith, short, same-size h, next-place h (omega (arith, short, a .pre .2)), a .pre .2))
+    (held, was-found (c .before .before .before .before .before .before .before .before .before .before .before .before .trials .ensures) held (a .pre .0, search needs), omega (arith, short, same-size h, next-place h (omega (arith, short, a .pre .1)), a .pre .1))
 
 returns-2 : tie.Need-returns-2
 returns-2 c =
     let b = c .before .before .before .before .before .before .before .before .before .before .before .before .before .before .before .before .before .before .before .before .before in
-    network-text _ (b .before .before .read .ensures) (b .if1 .left) (held-then b) (c .before .before .before .before .before .before .before .before .before .before .before .before .before .before .before .before .before .before .before .before .before .before .before .before .before .before .before .before .pre .2) (c .before .before .before .before .before .before .before .put-heading .ensures) (c .before .before .put-lines .ensures)
+    network-text _ (b .before .before .read .ensures) (b .if1 .left) (held-then b) (c .before .before .before .before .before .before .before .before .before .before .before .before .before .before .before .before .before .before .before .before .before .before .before .before .before .before .before .before .pre .1) (c .before .before .before .before .before .before .before .put-heading .ensures) (c .before .before .put-lines .ensures)
 
 read-requires : tie.Need-read-requires
 read-requires c κs = search needs

@@ -18,14 +18,14 @@ cast-t22 : tie.Need-cast-t22
 cast-t22 c =
     let v = c .before .before .before .before .before .before .before .before .before .before .before .before .before .before .put-text .ensures in
     let f = granted (c .before .before .before .before .before .before .before .before .before .before .before .before .before .before .before .before .before .before .before .fits2 .ensures) (c .before .before .before .before .before .before .before .before .before .before .before .before .before .before .before .before .before .before .if1 .left) in
-    omega (arith, v .short, next-place (v .put) (omega (arith, v .short, f .2)))
+    omega (arith, v .short, next-place (v .put) (omega (arith, v .short, f .1)))
 
 returns-2 : tie.Need-returns-2
 returns-2 c =
     let f = granted (c .before .before .before .before .before .before .before .before .before .before .before .before .before .before .before .before .before .before .before .fits2 .ensures) (c .before .before .before .before .before .before .before .before .before .before .before .before .before .before .before .before .before .before .if1 .left) in
     let v = c .before .before .before .before .before .before .before .before .before .before .before .before .before .before .put-text in
-    reports _ _ _ _ f (v .ensures) (c .before .before .before .before .before .before .fill .ensures ∙ ap (λ n. table n (λ i. 0)) (v .kept .1 .0 ∙ f .0))
-    (c .before .before .fill2 .ensures ∙ ap (λ n. table n (λ i. 0)) (v .kept .1 .1 .0 ∙ f .1))
+    reports _ _ _ _ f (v .ensures) (c .before .before .before .before .before .before .fill .ensures ∙ ap (λ n. table n (λ i. 0)) (v .kept .1 .0 ∙ f .0 .0))
+    (c .before .before .fill2 .ensures ∙ ap (λ n. table n (λ i. 0)) (v .kept .1 .1 .0 ∙ f .0 .1))
 
 fits-requires : tie.Need-fits-requires
 fits-requires c κs = search needs

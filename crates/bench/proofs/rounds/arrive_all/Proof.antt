@@ -88,34 +88,39 @@ element-copy-out-role c = omega (arith, c .before .before .before .before .befor
 mul-first : tie.Need-mul-first Inv-loop2 μ-loop2 Inv-loop μ-loop
 mul-first c = omega (arith, c .before .before .before .before .before .before .pre .0 .few, c .before .before .loop .inv .1)
 
-element-copy-out-wide : tie.Need-element-copy-out-wide Inv-loop2 μ-loop2 Inv-loop μ-loop
-element-copy-out-wide c = omega (arith, c .before .before .before .before .before .before .pre .0 .few, c .before .before .loop .inv .1)
+element-copy-out-past : tie.Need-element-copy-out-past Inv-loop2 μ-loop2 Inv-loop μ-loop
+element-copy-out-past c = omega (arith, c .before .before .before .before .before .before .pre .0 .few, c .before .before .loop .inv .1)
+
+cast-past : tie.Need-cast-past Inv-loop2 μ-loop2 Inv-loop μ-loop
+cast-past c =
+    let s = c .before .before .before .before .before .before .before in
+    let l = c .before .before .before .loop in
+    omega (arith, l .inv .1, s .pre .0 .most (l .d) (omega (arith, l .inv .1)))
 
 add-past : tie.Need-add-past Inv-loop2 μ-loop2 Inv-loop μ-loop
 add-past c =
-    let s = c .before .before .before .before .before .before .before .before in
-    let l = c .before .before .before .before .loop in
-    omega (arith, s .pre .0 .most (l .d) (omega (arith, l .inv .1)), s .pre .0 .few, l .inv .1, c .wide .ensures)
+    let s = c .before .before .before .before .before .before .before in
+    let l = c .before .before .before .loop in
+    omega (arith, s .pre .0 .most (l .d) (omega (arith, l .inv .1)), s .pre .0 .few, l .inv .1)
 
 loop2-holds : tie.Need-loop2-holds Inv-loop2 μ-loop2 Inv-loop μ-loop
 loop2-holds c =
-    let s = c .before .before .before .before .before .before .before .before in
-    let l = c .before .before .before .before .loop in
+    let s = c .before .before .before .before .before .before .before in
+    let l = c .before .before .before .loop in
     let most = s .pre .0 .most (l .d) (omega (arith, l .inv .1)) in
-    (λ size x v. v, omega arith, omega arith, omega (arith, most, l .inv .1, c .wide .ensures))
+    (λ size x v. v, omega arith, omega arith, omega (arith, most, l .inv .1))
 
 arrive-one-requires : tie.Need-arrive-one-requires Inv-loop2 μ-loop2 Inv-loop μ-loop
 arrive-one-requires c κs =
     let l = c .before .before .before .before .before .before .before .before .before in
-    let v = l .loop2 .inv .0 _ _ (l .before .before .before .before .before .loop .inv .0) in
+    let v = l .loop2 .inv .0 _ _ (l .before .before .before .before .loop .inv .0) in
     (v .state, omega (arith, v .few, l .loop2 .inv .3), omega (arith, v .count, v .few, l .loop2 .inv .3))
 
 loop2-again : tie.Need-loop2-again Inv-loop2 μ-loop2 Inv-loop μ-loop
 loop2-again c =
     let l = c .before .before .before .before in
-    let o = l .before .before .before .before .before in
+    let o = l .before .before .before .before in
     let most = o .before .before .before .before .pre .0 .most (o .loop .d) (omega (arith, o .loop .inv .1)) in
-    let ports = l .before .wide .ensures in
     let device : l .loop2 .q / 8 ≡ o .loop .d = omega arith in
     let byte = c .before .heard .ensures in (
       λ size x v. let u = l .loop2 .inv .0 size x v in
@@ -135,10 +140,9 @@ loop2-again c =
 loop-again : tie.Need-loop-again Inv-loop2 μ-loop2 Inv-loop μ-loop
 loop-again c =
     let l = c .before in
-    let o = l .before .before .before .before .before in
+    let o = l .before .before .before .before in
     let s = o .before .before .before .before in
-    let most = s .pre .0 .most (o .loop .d) (omega (arith, o .loop .inv .1)) in
-    let ports = l .before .wide .ensures in (
+    let most = s .pre .0 .most (o .loop .d) (omega (arith, o .loop .inv .1)) in (
       skip (l .loop2 .inv .0 _ _ (o .loop .inv .0)) (omega arith) (omega arith)
           (λ j a b. arrives-unused _ (s .pre .0) _ (s .pre .1) (o .loop .d) j (omega (arith, o .loop .inv .1)) (omega arith) (omega arith)),
       o .loop .inv .1,
@@ -147,9 +151,6 @@ loop-again c =
 returns : tie.Need-returns Inv-loop2 μ-loop2 Inv-loop μ-loop
 unfolding reached
 returns c = follows-done _ (c .before .loop .inv .0 .follows) (omega (arith, c .before .loop .inv .0 .within, c .before .loop .inv .1))
-
-wide-requires : tie.Need-wide-requires Inv-loop2 μ-loop2 Inv-loop μ-loop
-wide-requires c κs = search needs
 
 heard-requires : tie.Need-heard-requires Inv-loop2 μ-loop2 Inv-loop μ-loop
 heard-requires c κs = search needs
@@ -165,8 +166,8 @@ arrive-all-spec =
     loop-holds
     element-copy-out-role
     mul-first
-    element-copy-out-wide
-    wide-requires
+    element-copy-out-past
+    cast-past
     add-past
     loop2-holds
     (λ c. search needs)

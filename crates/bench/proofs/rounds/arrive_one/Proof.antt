@@ -17,12 +17,12 @@ returns c =
     let b = c .before .before .before .before .before .before .before in
     let a = b .before .before .before .before .before .before .before .args in (
       leads (λ told. arrived-acts _ (a .permissions .now) (a .q) (a .state .now) (eqb (a .role) 1) (a .byte) (b .react .result) told
-          (rw (b .before .before .widened .ensures) at (b .react .ensures))) (c .before .before .before .before .act .ensures .0),
+          (rw (b .before .before .word .ensures .0) at (b .react .ensures))) (c .before .before .before .before .act .ensures .0),
       c .before .before .before .before .act .ensures .1,
     )
 
-widened-requires : tie.Need-widened-requires
-widened-requires c κs = search needs
+word-requires : tie.Need-word-requires
+word-requires c κs = search needs
 
 react-requires : tie.Need-react-requires
 react-requires c κs = search needs
@@ -41,7 +41,7 @@ arrive-one-spec =
     (λ c. search needs)
     (λ c. search needs)
     (λ c. search needs)
-    widened-requires
+    word-requires
     (λ c. search needs)
     (λ c. search needs)
     react-requires

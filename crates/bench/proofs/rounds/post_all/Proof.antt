@@ -96,35 +96,41 @@ loop-holds c = let s = c .before .before .before in (begun _ _ _ _ (s .pre .2) (
 mul-first : tie.Need-mul-first Inv-loop2 μ-loop2 Inv-loop μ-loop
 mul-first c = omega (arith, c .before .before .before .before .before .pre .0 .few, c .before .loop .inv .2)
 
-element-copy-out-wide : tie.Need-element-copy-out-wide Inv-loop2 μ-loop2 Inv-loop μ-loop
-element-copy-out-wide c = omega (arith, c .before .before .before .before .before .pre .0 .few, c .before .loop .inv .2)
+element-copy-out-end : tie.Need-element-copy-out-end Inv-loop2 μ-loop2 Inv-loop μ-loop
+element-copy-out-end c = omega (arith, c .before .before .before .before .before .pre .0 .few, c .before .loop .inv .2)
+
+cast-end : tie.Need-cast-end Inv-loop2 μ-loop2 Inv-loop μ-loop
+cast-end c =
+    let s = c .before .before .before .before .before .before in
+    let l = c .before .before .loop in
+    omega (arith, l .inv .2, s .pre .0 .most (l .d) (omega (arith, l .inv .2)))
 
 add-end : tie.Need-add-end Inv-loop2 μ-loop2 Inv-loop μ-loop
 add-end c =
-    let s = c .before .before .before .before .before .before .before in
-    let l = c .before .before .before .loop in
-    omega (arith, s .pre .0 .few, l .inv .2, c .wide .ensures, s .pre .0 .most (l .d) (omega (arith, l .inv .2)))
+    let s = c .before .before .before .before .before .before in
+    let l = c .before .before .loop in
+    omega (arith, s .pre .0 .few, l .inv .2, s .pre .0 .most (l .d) (omega (arith, l .inv .2)))
 
 loop2-holds : tie.Need-loop2-holds Inv-loop2 μ-loop2 Inv-loop μ-loop
 loop2-holds c =
-    let s = c .before .before .before .before .before .before .before in
-    let l = c .before .before .before .loop in
-    (λ start v. v, omega arith, omega (arith, l .inv .2, c .wide .ensures, s .pre .0 .most (l .d) (omega (arith, l .inv .2))))
+    let s = c .before .before .before .before .before .before in
+    let l = c .before .before .loop in
+    (λ start v. v, omega arith, omega (arith, l .inv .2, s .pre .0 .most (l .d) (omega (arith, l .inv .2))))
 
 post-one-requires : tie.Need-post-one-requires Inv-loop2 μ-loop2 Inv-loop μ-loop
 post-one-requires c κs =
-    let s = c .before .before .before .before .before .before .before .before .before .before in
+    let s = c .before .before .before .before .before .before .before .before .before in
     let l = c .before .before in
-    (s .pre .1 .absent .size, l .loop2 .inv .0 _ (l .before .before .before .before .loop .inv .0) .long, omega (arith, s .pre .0 .few, l .loop2 .inv .2))
+    (s .pre .1 .absent .size, l .loop2 .inv .0 _ (l .before .before .before .loop .inv .0) .long, omega (arith, s .pre .0 .few, l .loop2 .inv .2))
 
 slice-write-sent : tie.Need-slice-write-sent Inv-loop2 μ-loop2 Inv-loop μ-loop
 slice-write-sent c =
     let l = c .before .before .before .before .before in
-    omega (arith, l .loop2 .inv .0 _ (l .before .before .before .before .loop .inv .0) .room)
+    omega (arith, l .loop2 .inv .0 _ (l .before .before .before .loop .inv .0) .room)
 
 loop2-again : tie.Need-loop2-again Inv-loop2 μ-loop2 Inv-loop μ-loop
 loop2-again c =
-    let s = c .before .before .before .before .before .before .before .before .before .before .before .before .before in
+    let s = c .before .before .before .before .before .before .before .before .before .before .before .before in
     let b = c .before .before in
     let l = b .before .before .before .loop2 in
     (λ start v. again (s .pre .0 .few) (l .inv .0 start v) (omega (arith, l .inv .2)) (b .post-one .ensures .0) (b .post-one .ensures .1) (b .post-one .kept .1 .1 .0), omega arith, l .inv .2)
@@ -132,10 +138,9 @@ loop2-again c =
 loop-again : tie.Need-loop-again Inv-loop2 μ-loop2 Inv-loop μ-loop
 loop-again c =
     let l = c .before in
-    let o = l .before .before .before .before in
+    let o = l .before .before .before in
     let s = o .before .before .before .before in
-    let u = s .pre .1 .unused (o .loop .d) (omega (arith, o .loop .inv .2)) in
-    let ports = l .before .wide .ensures in (
+    let u = s .pre .1 .unused (o .loop .d) (omega (arith, o .loop .inv .2)) in (
       skip (s .pre .0 .few) (l .loop2 .inv .0 _ (o .loop .inv .0)) (omega (arith, u .most)) (omega arith) (λ j kind a b. u .unused j kind (omega arith) (omega arith))
           (λ j a b _. let device : j / 8 ≡ o .loop .d = omega (arith, u .most) in rw device (omega arith)),
       omega arith,
@@ -149,9 +154,6 @@ returns c =
     let v = c .before .loop .inv in
     (done (v .0 .after) (omega (arith, v .2)), all-sent (s .pre .0 .few) (v .0) (omega (arith, v .2)))
 
-wide-requires : tie.Need-wide-requires Inv-loop2 μ-loop2 Inv-loop μ-loop
-wide-requires c κs = search needs
-
 pub post-all-spec : {M : Type 1} → statement M
 post-all-spec =
     tie.close
@@ -162,8 +164,8 @@ post-all-spec =
     μ-loop
     loop-holds
     mul-first
-    element-copy-out-wide
-    wide-requires
+    element-copy-out-end
+    cast-end
     add-end
     loop2-holds
     post-one-requires

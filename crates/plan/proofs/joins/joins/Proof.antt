@@ -20,43 +20,43 @@ leads ports peer d p q back e n l b = simp (← e, ne-eqb _ _ n, lt-ltb _ _ l, b
 
 returns : tie.Need-returns
 unfolding Fields·joins
-returns c = simp (← c .before .wide .ensures, eq-eqb _ _ (c .if1 .taken))
+returns c = simp (← c .before .wide16 .ensures .0, eq-eqb _ _ (c .if1 .taken))
 
 returns-2 : tie.Need-returns-2
 unfolding Fields·joins
 returns-2 c =
-    let w = c .before .before .wide in
+    let w = c .before .before .wide16 in
     let all = now (c .before .before .before .before .args .ports) in
     let none : getD all (w .result / 8) 0 ≡ 0 = List·getD-eq-default all 0 (omega arith) in
-    simp (← w .ensures, ne-eqb _ _ (c .before .if1 .left), none, le-ltb (w .result % 8) 0 zero≤)
+    simp (← w .ensures .0, ne-eqb _ _ (c .before .if1 .left), none, le-ltb (w .result % 8) 0 zero≤)
 
 returns-3 : tie.Need-returns-3
 unfolding Fields·joins
 returns-3 c =
-    simp (← c .before .before .before .before .before .wide .ensures, ne-eqb _ _ (c .before .before .before .before .if1 .left), ← c .before .wide8 .ensures, le-ltb _ _ (c .if3 .taken))
+    simp (← c .before .before .before .before .before .wide16 .ensures .0, ne-eqb _ _ (c .before .before .before .before .if1 .left), ← c .before .wide .ensures .0, le-ltb _ _ (c .if3 .taken))
 
 returns-4 : tie.Need-returns-4
 returns-4 c =
     let e = c .before .before .before in
-    let w = e .before .before .before .before .before .wide in
+    let w = e .before .before .before .before .before .wide16 in
     let some = e .before .before .before .before .if1 .left in
-    sym (leads _ _ _ _ (w .result) false (w .ensures) some (rw (← e .before .wide8 .ensures) (e .if3 .left)) (rw (← c .before .wide2 .ensures) (ne-eqb _ _ (c .if4 .taken))))
+    sym (leads _ _ _ _ (w .result) false (w .ensures .0) some (rw (← e .before .wide .ensures .0) (e .if3 .left)) (rw (← c .before .wide162 .ensures .0) (ne-eqb _ _ (c .if4 .taken))))
 
 returns-5 : tie.Need-returns-5
 returns-5 c =
     let e = c .before .before .before in
-    let w = e .before .before .before .before .before .wide in
+    let w = e .before .before .before .before .before .wide16 in
     let some = e .before .before .before .before .if1 .left in
-    sym (leads _ _ _ _ (w .result) true (w .ensures) some (rw (← e .before .wide8 .ensures) (e .if3 .left)) (rw (← c .before .wide2 .ensures) (eq-eqb _ _ (c .if4 .left))))
+    sym (leads _ _ _ _ (w .result) true (w .ensures .0) some (rw (← e .before .wide .ensures .0) (e .if3 .left)) (rw (← c .before .wide162 .ensures .0) (eq-eqb _ _ (c .if4 .left))))
+
+wide16-requires : tie.Need-wide16-requires
+wide16-requires c κs = search needs
 
 wide-requires : tie.Need-wide-requires
 wide-requires c κs = search needs
 
-wide8-requires : tie.Need-wide8-requires
-wide8-requires c κs = search needs
-
-wide-requires-2 : tie.Need-wide-requires-2
-wide-requires-2 c κs = search needs
+wide16-requires-2 : tie.Need-wide16-requires-2
+wide16-requires-2 c κs = search needs
 
 pub joins-spec : {M : Type 1} → statement M
 joins-spec =
@@ -66,17 +66,17 @@ joins-spec =
     (λ c. search needs)
     (λ c. search needs)
     (λ c. search needs)
-    wide-requires
+    wide16-requires
     returns
     returns-2
     (λ c. search needs)
-    wide8-requires
+    wide-requires
     returns-3
     (λ c. search needs)
     (λ c. search needs)
     (λ c. search needs)
     (λ c. search needs)
-    wide-requires-2
+    wide16-requires-2
     (λ c. search needs)
     (λ c. search needs)
     returns-4

@@ -36,20 +36,20 @@ unfolding weighted
 loop-holds c = record { within = omega arith; small = omega arith; sum = refl }
 
 mul-sum : tie.Need-mul-sum Inv-loop μ-loop
-mul-sum c = omega (arith, term-le (c .before .before .before .loop .i) (c .narrow .result) (omega arith) (c .narrow .ensures .1))
+mul-sum c = omega (arith, term-le (c .before .before .before .loop .i) (c .word .result) (omega arith) (c .word .ensures .1))
 
 add-sum-2 : tie.Need-add-sum-2 Inv-loop μ-loop
-add-sum-2 c = omega (arith, term-le (c .before .before .before .loop .i) (c .narrow .result) (omega arith) (c .narrow .ensures .1))
+add-sum-2 c = omega (arith, term-le (c .before .before .before .loop .i) (c .word .result) (omega arith) (c .word .ensures .1))
 
 loop-again : tie.Need-loop-again Inv-loop μ-loop
-loop-again c = more (c .before .before .before .loop .inv) (omega arith) (c .narrow .ensures .0) (c .narrow .ensures .1)
+loop-again c = more (c .before .before .before .loop .inv) (omega arith) (c .word .ensures .0) (c .word .ensures .1)
 
 returns : tie.Need-returns Inv-loop μ-loop
 unfolding check
 returns c = let e : c .before .loop .i ≡ 510 = omega arith in (ap (λ (x : ℕ). x % 65521) (c .before .loop .inv .sum ∙ ap (weighted _) e), omega arith)
 
-narrow-requires : tie.Need-narrow-requires Inv-loop μ-loop
-narrow-requires c κs = search needs
+word-requires : tie.Need-word-requires Inv-loop μ-loop
+word-requires c κs = search needs
 
 pub check-spec : {M : Type 1} → statement M
 check-spec =
@@ -61,7 +61,7 @@ check-spec =
     (λ c. search needs)
     (λ c. search needs)
     (λ c. search needs)
-    narrow-requires
+    word-requires
     mul-sum
     add-sum-2
     (λ c. search needs)

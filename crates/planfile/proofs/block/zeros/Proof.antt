@@ -46,7 +46,7 @@ loop-holds c =
     record { begun = omega arith; within = omega arith; small = omega arith; says = rw none }
 
 loop-again : tie.Need-loop-again Inv-loop μ-loop
-loop-again c = more (c .before .before .before .loop .inv) (omega arith) (c .narrow .ensures .0) (c .narrow .ensures .1)
+loop-again c = more (c .before .before .before .loop .inv) (omega arith) (c .word .ensures .0) (c .word .ensures .1)
 
 returns : tie.Need-returns Inv-loop μ-loop
 unfolding zerosIn
@@ -55,8 +55,8 @@ returns c =
     let e : c .before .loop .i ≡ c .before .before .before .args .to = omega (arith, v .within) in
     rw e at (v .says)
 
-narrow-requires : tie.Need-narrow-requires Inv-loop μ-loop
-narrow-requires c κs = search needs
+word-requires : tie.Need-word-requires Inv-loop μ-loop
+word-requires c κs = search needs
 
 pub zeros-spec : {M : Type 1} → statement M
 zeros-spec =
@@ -66,7 +66,7 @@ zeros-spec =
     μ-loop
     loop-holds
     (λ c. search needs)
-    narrow-requires
+    word-requires
     (λ c. search needs)
     (λ c. search needs)
     (λ c. search needs)

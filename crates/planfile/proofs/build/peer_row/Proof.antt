@@ -2,13 +2,13 @@ use Prim.Native.Nat.{_-_}
 use native.Mathlib.Omega.{arith}
 use borrow.Author.Needs.{needs}
 use Rattle.plan.specs.Refusals.{deviceBlock}
-use Rattle.plan.specs.Fields.{peerIn}
+use Rattle.plan.specs.Fields.{peerNumber}
 use Rattle.lists.proofs.Filled.{Filled, filled-none, filled-more, filled-whole}
 use Rattle.planfile.proofs.build.peer_row.Statement.{statement}
 use Rattle.planfile.proofs.build.peer_row.Tie as tie
 
 abbrev Inv-loop : tie.InvT-loop
-Inv-loop file d out₀ p₀ out p = Filled 8 8 0 (peerIn (deviceBlock file d)) p out
+Inv-loop file d out₀ p₀ out p = Filled 8 8 0 (peerNumber (deviceBlock file d)) p out
 
 abbrev μ-loop : tie.MeasureT-loop
 μ-loop file d out₀ p₀ out p = 8 - p

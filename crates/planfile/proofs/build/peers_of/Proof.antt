@@ -5,7 +5,7 @@ use lib.ListN.{replicate}
 use borrow.Author.Needs.{needs}
 use Rattle.lists.specs.Table.{table}
 use Rattle.plan.specs.Refusals.{countIn, deviceBlock}
-use Rattle.plan.specs.Fields.{peerIn, nobody}
+use Rattle.plan.specs.Fields.{peerNumber, nobody}
 use Rattle.planfile.proofs.Plans.{peers-of}
 use Rattle.lists.proofs.Filled.{Filled, filled-none, filled-more, filled-all}
 use Rattle.planfile.proofs.Places.{count-in}
@@ -13,7 +13,7 @@ use Rattle.planfile.proofs.build.peers_of.Statement.{statement}
 use Rattle.planfile.proofs.build.peers_of.Tie as tie
 
 abbrev Inv-loop : tie.InvT-loop
-Inv-loop file n out₀ d₀ out d = Filled 32 n (replicate 8 nobody) (λ e. table 8 (peerIn (deviceBlock file e))) d out
+Inv-loop file n out₀ d₀ out d = Filled 32 n (replicate 8 nobody) (λ e. table 8 (peerNumber (deviceBlock file e))) d out
 
 abbrev μ-loop : tie.MeasureT-loop
 μ-loop file n out₀ d₀ out d = n - d

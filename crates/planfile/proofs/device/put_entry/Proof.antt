@@ -17,9 +17,6 @@ peer-port-requires c κs = search needs
 put-requires-2 : tie.Need-put-requires-2
 put-requires-2 c κs = search needs
 
-narrow-requires : tie.Need-narrow-requires
-narrow-requires c κs = search needs
-
 put-requires-3 : tie.Need-put-requires-3
 put-requires-3 c κs = search needs
 
@@ -39,7 +36,6 @@ put-entry-spec =
     peer-port-requires
     put-requires-2
     (λ c. search needs)
-    narrow-requires
     put-requires-3
     (λ c. search needs)
     put-requires-4

@@ -11,14 +11,8 @@ put-requires c κs = search needs
 put-requires-2 : tie.Need-put-requires-2
 put-requires-2 c κs = search needs
 
-narrow-requires : tie.Need-narrow-requires
-narrow-requires c κs = search needs
-
 put-requires-3 : tie.Need-put-requires-3
 put-requires-3 c κs = search needs
-
-narrow-requires-2 : tie.Need-narrow-requires-2
-narrow-requires-2 c κs = search needs
 
 put-requires-4 : tie.Need-put-requires-4
 put-requires-4 c κs = search needs
@@ -36,9 +30,7 @@ put-own-spec =
     put-requires
     (λ c. search needs)
     put-requires-2
-    narrow-requires
     put-requires-3
-    narrow-requires-2
     put-requires-4
     put-requires-5
     put-requires-6

@@ -33,48 +33,48 @@ returns c = answered _ _ _ _ _ _ refl false _ _ _ (is (c .before .runs .ensures)
 returns-2 : tie.Need-returns-2
 unfolding word
 returns-2 c =
-    let e = c .before .before in
-    answered _ _ _ _ _ _ refl true false _ _ (is (e .before .runs .ensures) (not-false _ (e .if1 .left))) (is (c .before .sends .ensures) (not-true _ (c .if2 .taken))) refl refl
+    let e = c .before .before .before in
+    answered _ _ _ _ _ _ refl true false _ _ (is (e .before .runs .ensures) (not-false _ (e .if1 .left))) (is (c .before .may-send .ensures) (not-true _ (c .if2 .taken))) refl refl
 
 returns-3 : tie.Need-returns-3
 unfolding word
 returns-3 c =
-    let f = c .before .before in
-    let e = f .before .before in
-    answered _ _ _ _ _ _ (c .before .far-end .ensures) true true false _
-    (is (e .before .runs .ensures) (not-false _ (e .if1 .left))) (is (f .before .sends .ensures) (not-false _ (f .if2 .left))) (le-ltb _ _ (c .if3 .taken)) refl
+    let f = c .before .before .before in
+    let e = f .before .before .before in
+    answered _ _ _ _ _ _ (c .before .wide16 .ensures .0) true true false _
+    (is (e .before .runs .ensures) (not-false _ (e .if1 .left))) (is (f .before .may-send .ensures) (not-false _ (f .if2 .left))) (le-ltb _ _ (c .if3 .taken)) refl
 
 returns-4 : tie.Need-returns-4
 unfolding word
 returns-4 c =
-    let g = c .before .before in
-    let f = g .before .before in
-    let e = f .before .before in
-    answered _ _ _ _ _ _ (g .before .far-end .ensures) true true true false
-    (is (e .before .runs .ensures) (not-false _ (e .if1 .left))) (is (f .before .sends .ensures) (not-false _ (f .if2 .left))) (lt-ltb _ _ (g .if3 .left))
-    (is (c .before .receives .ensures) (not-true _ (c .if4 .taken)))
+    let g = c .before .before .before in
+    let f = g .before .before .before in
+    let e = f .before .before .before in
+    answered _ _ _ _ _ _ (g .before .wide16 .ensures .0) true true true false
+    (is (e .before .runs .ensures) (not-false _ (e .if1 .left))) (is (f .before .may-send .ensures) (not-false _ (f .if2 .left))) (lt-ltb _ _ (g .if3 .left))
+    (is (c .before .may-receive .ensures) (not-true _ (c .if4 .taken)))
 
 returns-5 : tie.Need-returns-5
 unfolding word
 returns-5 c =
-    let g = c .before .before in
-    let f = g .before .before in
-    let e = f .before .before in
-    answered _ _ _ _ _ _ (g .before .far-end .ensures) true true true true
-    (is (e .before .runs .ensures) (not-false _ (e .if1 .left))) (is (f .before .sends .ensures) (not-false _ (f .if2 .left))) (lt-ltb _ _ (g .if3 .left))
-    (is (c .before .receives .ensures) (not-false _ (c .if4 .left)))
+    let g = c .before .before .before in
+    let f = g .before .before .before in
+    let e = f .before .before .before in
+    answered _ _ _ _ _ _ (g .before .wide16 .ensures .0) true true true true
+    (is (e .before .runs .ensures) (not-false _ (e .if1 .left))) (is (f .before .may-send .ensures) (not-false _ (f .if2 .left))) (lt-ltb _ _ (g .if3 .left))
+    (is (c .before .may-receive .ensures) (not-false _ (c .if4 .left)))
 
 runs-requires : tie.Need-runs-requires
 runs-requires c κs = search needs
 
-sends-requires : tie.Need-sends-requires
-sends-requires c κs = search needs
+may-send-requires : tie.Need-may-send-requires
+may-send-requires c κs = search needs
 
-far-end-requires : tie.Need-far-end-requires
-far-end-requires c κs = search needs
+wide16-requires : tie.Need-wide16-requires
+wide16-requires c κs = search needs
 
-receives-requires : tie.Need-receives-requires
-receives-requires c κs = search needs
+may-receive-requires : tie.Need-may-receive-requires
+may-receive-requires c κs = search needs
 
 pub ahead-spec : {M : Type 1} → statement M
 ahead-spec =
@@ -82,10 +82,16 @@ ahead-spec =
     (tie.spec
     runs-requires
     returns
-    sends-requires
+    (λ c. search needs)
+    may-send-requires
     returns-2
-    far-end-requires
+    (λ c. search needs)
+    (λ c. search needs)
+    (λ c. search needs)
+    (λ c. search needs)
+    wide16-requires
     returns-3
-    receives-requires
+    (λ c. search needs)
+    may-receive-requires
     returns-4
     returns-5)
