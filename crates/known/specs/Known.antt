@@ -20,7 +20,7 @@ use Rattle.state.specs.Start.{started}
 use Rattle.state.specs.Queue.{queueAt, queueAllAt}
 use Rattle.state.specs.Mark.{mark}
 use Rattle.calls.specs.Calls.{called}
-use Rattle.bench.specs.Round.{nothing, tick, chosen, sends, unqueued, timed, forwarded, tells, acted, arrived, ticked, sentBytes, posted, arrives, reached, round}
+use Rattle.bench.specs.Round.{nothing, tick, chosen, sentWord, sends, unqueued, timed, forwarded, tells, acted, arrived, ticked, sentBytes, posted, arrives, reached, round}
 use Rattle.bench.specs.Settling.{rounds}
 
 -- node 0, a source of every identifier, and router 1; loads of 1, all permissions
