@@ -1,4 +1,4 @@
--- A source of which no port runs reaches itself alone.
+-- A device whose ports lead nowhere reaches itself alone; so does one of which no port runs.
 use mathlib.Core.Path.{_≡_, refl, sym, ap, _∙_}
 use Prim.Native.Nat.{ℕ, _+_, _*_, _<_}
 use native.Mathlib.Decide.{ℕ-discrete}
@@ -7,7 +7,7 @@ use Rattle.bits.specs.Set.{bit, join, sizeBelow, size}
 use Rattle.bits.proofs.Sets.{bit-two, bit-zero, same-members, join-same, join-other, join-lt, size-join}
 use Rattle.plan.specs.declared.Plan.{Plan}
 use Rattle.state.specs.State.{State, running}
-use Rattle.reach.specs.Walk.{Walk, stay, cross}
+use Rattle.reach.specs.Walk.{Leads, Walk, stay, cross}
 use Rattle.reach.specs.Reach.{Reached, Reaches}
 
 -- nothing is in the set 0, so one device is in the set of one
@@ -19,17 +19,19 @@ size-one : (d : ℕ) → d < 32 → size (join 0 d) ≡ 1
 unfolding size
 size-one d h = omega (arith, size-join 32 0 d (bit-zero d) h h, size-none)
 
-module _ (plan : Plan) (s : State) (d k : ℕ) (still : (p : ℕ) → p < 8 → running s (8 * d + p) ≡ 1 → ⊥) where
-  -- no walk leaves it
-  stays : {n e : ℕ} → Walk plan s 0 k d n e → e ≡ d
-  stays stay = refl
-  stays (cross {d = m} w on p l leads) =
-      let here : 8 * d + p ≡ 8 * m + p = omega (arith, stays w) in
-      absurd (still p l (ap (running s) here ∙ leads .runs))
+-- no walk leaves a device whose ports lead nowhere
+pub walks-stay : (plan : Plan) (s : State) (kind k d : ℕ) → ((p e : ℕ) → p < 8 → Leads plan s kind k (8 * d + p) e → ⊥)
+    → {n e : ℕ} → Walk plan s kind k d n e → (n ≡ 0) × (e ≡ d)
+walks-stay plan s kind k d nowhere stay = (refl, refl)
+walks-stay plan s kind k d nowhere (cross {d = m} {e = e} w on p l leads) =
+    let here : m ≡ d = walks-stay plan s kind k d nowhere w .1 in
+    absurd (nowhere p e l (rw here at leads))
 
+-- no port of device d runs
+module _ (plan : Plan) (s : State) (d k : ℕ) (still : (p : ℕ) → p < 8 → running s (8 * d + p) ≡ 1 → ⊥) where
   module _ (set : ℕ) (r : Reached plan s d k set) where
     pub itself-alone : (e : ℕ) → e < 32 → bit set e ≡ 1 → e ≡ d
-    itself-alone e h b = stays (r .only e h b .1)
+    itself-alone e h b = walks-stay plan s 0 k d (λ p _ l leads. still p l (leads .runs)) (r .only e h b .1) .1
 
     small : d < 32
     small = r .all 0 d stay .0

@@ -1,5 +1,6 @@
 -- The rounds of a crossing are enough, and no fewer are: where all other identifiers wait before it, a code is sent in the last of them.
-use mathlib.Core.Path.{_≡_, refl}
+-- So are the rounds of the window: until the last of them a code may wait.
+use mathlib.Core.Path.{_≡_, refl, ap, _∙_}
 use Prim.Native.Nat.{ℕ, _-_, _<_}
 use native.Mathlib.Omega.{arith}
 use Rattle.lists.specs.Loop.{upTo}
@@ -9,27 +10,43 @@ use Rattle.bits.specs.First.{searched, firstFrom, following}
 use Rattle.codes.specs.Codes.{reads}
 use Rattle.device.specs.Permissions.{maySend, mayReceive}
 use Rattle.device.specs.Reaction.{marked, ruled, reactsTo, reacts}
-use Rattle.state.specs.State.{word, put, register, stateOf}
+use Rattle.state.specs.State.{word, put, register, waiting, stateOf}
 use Rattle.state.specs.Network.{loadFor}
 use Rattle.state.specs.Queue.{queueAt, queueAllAt}
 use Rattle.state.specs.Mark.{mark}
 use Rattle.calls.specs.Calls.{called}
 use Rattle.bench.specs.Round.{tick, chosen, sentWord, sends, unqueued, timed, forwarded, tells, acted, arrived, ticked, sentBytes, posted, arrives, reached, round}
-use Rattle.assurance.specs.Demand3.{crossing, Demand3}
+use Rattle.assurance.specs.Demand3.{crossing, window, Demand3}
 use Rattle.assurance.proofs.Demand.{demand-3}
 use Rattle.witness.specs.Line.{line, busy, course}
-use Rattle.witness.specs.Rate.{Enough}
-use Rattle.witness.proofs.Conditions.{to-router, given}
+use Rattle.witness.specs.Rate.{Enough, Empties}
+use Rattle.witness.proofs.Conditions.{to-router, given, given-alone}
 
 pub enough : Enough crossing
 unfolding Enough Demand3
 enough plan k source D s at x = demand-3 plan k source D s at x .holds
 
--- computed: the router is one crossing away, and a round before the end of that crossing it does not hold 31
-late : bit (register (course (crossing - 1)) 1) 31 ≡ 0
+pub empties : Empties crossing
+unfolding Empties Demand3
+empties plan k source D s at x kind q t g h from to =
+    let end : t ≡ window D = omega arith in
+    ap (λ r. bit (waiting (at r) kind q) k) end ∙ demand-3 plan k source D s at x .gone kind q g h
+
+-- computed: the router is one crossing away from node 0, and a round before the end of that crossing it does not hold 31
+late : bit (register (course 0 (crossing - 1)) 1) 31 ≡ 0
 unfolding course busy line upTo table joined bit join leave searched firstFrom following reads maySend mayReceive marked ruled reactsTo reacts word put stateOf loadFor queueAt queueAllAt called mark tick chosen sentWord sends unqueued timed forwarded tells acted arrived ticked sentBytes posted arrives reached round
 late = refl
 
+-- computed: no device is a crossing away from node 3, and a round before the end of the window 31 waits at its port still
+waits-still : bit (waiting (course 3 (crossing - 1)) 0 24) 31 ≡ 1
+unfolding course busy line upTo table joined bit join leave searched firstFrom following reads maySend mayReceive marked ruled reactsTo reacts word put stateOf loadFor queueAt queueAllAt called mark tick chosen sentWord sends unqueued timed forwarded tells acted arrived ticked sentBytes posted arrives reached round
+waits-still = refl
+
 pub no-fewer : (W : ℕ) → W < crossing → Enough W → ⊥
 unfolding Enough
-no-fewer W h all = omega (arith, late, all line 31 0 2 busy course given 1 1 (crossing - 1) to-router (omega arith) (omega arith))
+no-fewer W h all = omega (arith, late, all line 31 0 2 (busy 0) (course 0) given 1 1 (crossing - 1) to-router (omega arith) (omega arith))
+
+pub no-sooner : (W : ℕ) → W < crossing → Empties W → ⊥
+unfolding Empties
+no-sooner W h all =
+    omega (arith, waits-still, all line 31 3 0 (busy 3) (course 3) given-alone 0 24 (crossing - 1) (omega arith) (omega arith) (omega arith) (omega arith))

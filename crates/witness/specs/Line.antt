@@ -1,4 +1,4 @@
--- No rules: a plan, a state and a course for which the demands are worked out.
+-- No rules: a plan, states and courses for which the demands are worked out.
 use mathlib.Core.List.{List, [], _∷_, _++_}
 use Prim.Native.Nat.{ℕ, zero, suc, _-_, _^_}
 use lib.ListN.{replicate}
@@ -14,28 +14,34 @@ use Rattle.bench.specs.Round.{round}
 abbrev row : ℕ → List ℕ → List ℕ
 row zeros front = front ++ replicate zeros 0
 
--- node 0, source of every identifier, at router 1, and at that node 2, handler of every identifier
+-- node 0, source of every identifier, at router 1, and at that node 2, handler of every identifier; and node 3, source of every
+-- identifier too, at a port of the router that may not receive interrupts
 unfoldable pub line : Plan
 line =
     record {
       core =
           record {
-            devices = 3;
+            devices = 4;
             loads = 200 ∷ 100 ∷ [];
-            role = row 29 (0 ∷ 1 ∷ 0 ∷ []);
-            ports = row 29 (1 ∷ 2 ∷ 1 ∷ []);
-            source = row 31 ((2 ^ 32 - 1) ∷ []);
+            role = row 28 (0 ∷ 1 ∷ 0 ∷ 0 ∷ []);
+            ports = row 28 (1 ∷ 3 ∷ 1 ∷ 1 ∷ []);
+            source = row 28 ((2 ^ 32 - 1) ∷ 0 ∷ 0 ∷ (2 ^ 32 - 1) ∷ []);
             handler = row 29 (0 ∷ 0 ∷ (2 ^ 32 - 1) ∷ []);
-            permissions = row 7 (15 ∷ []) ++ row 6 (15 ∷ 15 ∷ []) ++ row 239 (15 ∷ []);
+            permissions = row 7 (15 ∷ []) ++ row 5 (15 ∷ 15 ∷ 13 ∷ []) ++ row 7 (15 ∷ []) ++ row 231 (15 ∷ []);
           };
-      peers = (8 ∷ replicate 7 nobody) ∷ (0 ∷ 16 ∷ replicate 6 nobody) ∷ (9 ∷ replicate 7 nobody) ∷ replicate 29 (replicate 8 nobody);
+      peers =
+          (8 ∷ replicate 7 nobody)
+          ∷ (0 ∷ 16 ∷ 24 ∷ replicate 5 nobody)
+          ∷ (9 ∷ replicate 7 nobody)
+          ∷ (10 ∷ replicate 7 nobody)
+          ∷ replicate 28 (replicate 8 nobody);
     }
 
--- the host of node 0 has requested every identifier below 30
-unfoldable pub busy : State
-busy = upTo (called line 0 0) 30 (started line)
+-- the host of device d has requested every identifier below 30
+unfoldable pub busy : ℕ → State
+busy d = upTo (called line 0 d) 30 (started line)
 
 -- it requests 31, then 30; then rounds are played
-unfoldable pub course : ℕ → State
-course zero = called line 0 0 30 (called line 0 0 31 busy)
-course (suc t) = round line (course t) .next
+unfoldable pub course : ℕ → ℕ → State
+course d zero = called line 0 d 30 (called line 0 d 31 (busy d))
+course d (suc t) = round line (course d t) .next
