@@ -1,6 +1,6 @@
 #!/bin/sh
 # The measure, in its brief form: it says beforehand how long it takes, ours and both in C come to the same, and each row's ratios
-# are those of its own times, here and in the README.
+# are those of its own times, here and in docs/SPEED.md.
 set -eu
 cd "$(dirname "$0")/.."
 work=$(mktemp -d)
@@ -19,5 +19,5 @@ consistent() {
         END { exit bad || calls != 26 || programs != 3 }' "$1"
 }
 consistent "$work/tables"
-consistent README.md
+consistent docs/SPEED.md
 echo "speed: ok"
