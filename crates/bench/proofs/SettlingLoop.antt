@@ -21,6 +21,7 @@ use Rattle.plan.specs.declared.Plan.{Plan}
 use Rattle.state.specs.State.{State, words, portAt, waiting}
 use Rattle.state.specs.Sound.{Sound, stateAsks}
 use Rattle.state.proofs.Keeping.{both-kinds}
+use Rattle.bench.specs.declared.Answer.{Answer}
 use Rattle.bench.specs.Round.{round}
 use Rattle.bench.specs.inner.Idle.{Blank}
 use Rattle.bench.specs.Settling.{rounds, Quiet, Pair, mostRounds, settleAsks, Settles, pair}
@@ -91,17 +92,18 @@ module _ {plan : Plan} {s : State} {allowance : ℕ} where
   pub ran-more : {n : ℕ} {t u : State} → Ran plan s allowance n t → (Quiet t → ⊥) → n + 1 ≤ allowance → u ≡ round plan t .next → Ran plan s allowance (n + 1) u
   ran-more v q l e = record { within = l; is = rw upTo-step (e ∙ ap (λ (x : State). round plan x .next) (v .is)); busy = ran-on v q }
 
-  -- how it ends: no port waits, or all rounds are played and a port waits still
+  -- how it ends: no port waits, or all rounds are played and a port waits still; first what is then answered
   module _ {n : ℕ} {t : State} {now : Pair} (v : Ran plan s allowance n t) (e : now ≡ pair t zeros) where
     reached : now ≡ pair (rounds plan n s) zeros
     reached = e ∙ ap (λ (x : State). pair x zeros) (v .is)
 
-    pub settled : Quiet t → Ends plan s allowance 0 n now
-    settled q = inl (refl, v .within, record { quiet = subst (λ (x : State). Quiet x) (v .is) q; least = v .busy }, reached)
+    pub settled : {answer : Answer} → answer ≡ record { number = 0; value = n } → Quiet t → Ends plan s allowance (answer .number) (answer .value) now
+    settled a q =
+        rw a (inl (refl, v .within, record { quiet = subst (λ (x : State). Quiet x) (v .is) q; least = v .busy }, reached))
 
-    pub spent : (Quiet t → ⊥) → n ≡ allowance → Ends plan s allowance 12 n now
-    spent q all =
-        inr (refl, all, λ m l x. ran-on v q m (omega arith) x, reached ∙ ap (λ (k : ℕ). pair (rounds plan k s) zeros) all)
+    pub spent : {answer : Answer} → answer ≡ record { number = 12; value = n } → (Quiet t → ⊥) → n ≡ allowance → Ends plan s allowance (answer .number) (answer .value) now
+    spent a q all =
+        rw a (inr (refl, all, λ m l x. ran-on v q m (omega arith) x, reached ∙ ap (λ (k : ℕ). pair (rounds plan k s) zeros) all))
 
 -- ---- the returns
 

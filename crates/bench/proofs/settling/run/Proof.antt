@@ -76,8 +76,8 @@ same-length-2 c = c .before .before .before .before .finish .kept .1 .1 .0 ∙ c
 
 returns : tie.Need-returns Inv-loop μ-loop
 returns c =
-    rw (c .before .before .before .before .finish .ensures .0)
-    (spent (c .before .before .before .before .before .before .before .before .before .before .before .before .loop .inv .ran) (c .before .before .before .before .finish .ensures .1) (denied (c .before .before .before .before .before .before .before .before .before .quiet-in .ensures) (c .before .before .before .before .before .before .before .before .if1 .taken)) (c .before .before .before .before .before .before .before .if2 .taken))
+    let f = c .before .before .before .before .finish .ensures in
+    spent (c .before .before .before .before .before .before .before .before .before .before .before .before .loop .inv .ran) (f .1) (f .0) (denied (c .before .before .before .before .before .before .before .before .before .quiet-in .ensures) (c .before .before .before .before .before .before .before .before .if1 .taken)) (c .before .before .before .before .before .before .before .if2 .taken)
 
 advance-requires : tie.Need-advance-requires Inv-loop μ-loop
 advance-requires c κs =
@@ -100,8 +100,8 @@ same-length-4 c = c .before .before .before .before .finish2 .kept .1 .1 .0 ∙ 
 
 returns-2 : tie.Need-returns-2 Inv-loop μ-loop
 returns-2 c =
-    rw (c .before .before .before .before .finish2 .ensures .0)
-    (settled (c .before .before .before .before .before .before .before .before .before .before .before .loop .inv .ran) (c .before .before .before .before .finish2 .ensures .1) (granted (c .before .before .before .before .before .before .before .before .quiet-in .ensures) (c .before .before .before .before .before .before .before .if1 .left)))
+    let f = c .before .before .before .before .finish2 .ensures in
+    settled (c .before .before .before .before .before .before .before .before .before .before .before .loop .inv .ran) (f .1) (f .0) (granted (c .before .before .before .before .before .before .before .before .quiet-in .ensures) (c .before .before .before .before .before .before .before .if1 .left))
 
 pub run-spec : {M : Type 1} → statement M
 run-spec =
