@@ -5,7 +5,8 @@ use mathlib.Core.List.{List}
 use Prim.Native.Nat.{ℕ}
 use Rattle.answers.specs.Answer.{Answer}
 use Rattle.codes.specs.Codes.{reads, writes}
-use Rattle.device.specs.Reaction.{reacts}
+use Rattle.codes.specs.Numbers.{kindOf, valueOf, codeOf}
+use Rattle.device.specs.Reaction.{reacts, actionOf}
 use Rattle.device.specs.declared.Reaction.{Reaction}
 use Rattle.plan.specs.Refusals.{verdict}
 use Rattle.state.specs.State.{State}
@@ -21,7 +22,7 @@ use Rattle.reach.specs.Reach.{Reaches}
 use Rattle.reach.proofs.Unique.{reach-unique}
 use Rattle.report.specs.Report.{Areas as Texts, lent}
 use Rattle.report.proofs.Unique.{report-unique}
-use Rattle.door.specs.Numbers.{kindOf, valueOf, codeOf, actionOf, sideOf, planIn}
+use Rattle.door.specs.Numbers.{sideOf, planIn}
 use Rattle.door.specs.Own.{own, SettlesOwn, ReportsOwn}
 
 -- two numbers that a definition gives

@@ -4,14 +4,15 @@
 // reader gives the plan of zeros, which no file holds, so that each call refuses it by 1.
 ghost use mathlib.Core.Path.{_≡_};
 ghost use Rattle.codes.specs.Codes.{reads, writes};
-ghost use Rattle.device.specs.Reaction.{reacts};
+ghost use Rattle.codes.specs.Numbers.{kindOf, valueOf, codeOf};
+ghost use Rattle.device.specs.Reaction.{reacts, actionOf};
 ghost use Rattle.plan.specs.Refusals.{verdict};
 ghost use Rattle.state.specs.Start.{Starts};
 ghost use Rattle.calls.specs.Calls.{Takes, Stops, Links, Resets};
 ghost use Rattle.bench.specs.RoundCall.{Plays};
 ghost use Rattle.bench.specs.Round.{areas};
 ghost use Rattle.reach.specs.Reach.{Reaches};
-ghost use Rattle.door.specs.Numbers.{kindOf, valueOf, codeOf, actionOf, sideOf, planIn};
+ghost use Rattle.door.specs.Numbers.{sideOf, planIn};
 ghost use Rattle.door.specs.Own.{SettlesOwn, ReportsOwn};
 use codes::Code;
 use codes::Written;
