@@ -1,11 +1,8 @@
--- RULES, "The C door": the numbers that stand in C for yes and no and for a port's side, and the plan of the bytes of a file.
+-- RULES, "The C door": the numbers that stand in C for yes and no, and for a port's side.
 use mathlib.Core.Bool.{Bool, not}
-use mathlib.Core.List.{List}
 use Prim.Native.Nat.{ℕ}
 use lib.Dec.{eqb}
 use Rattle.device.specs.declared.Side.{Side}
-use Rattle.plan.specs.Reading.{reads}
-use Rattle.plan.specs.declared.Plan.{Plan}
 
 -- 0 is no, and any other number yes
 abbrev pub yes : ℕ → Bool
@@ -14,7 +11,3 @@ yes n = not (eqb n 0)
 -- the port's side of a reaction
 abbrev pub sideOf : ℕ → ℕ → ℕ → Side
 sideOf role running permissions = record { router = yes role; running = yes running; permissions = permissions }
-
--- the plan that the file holds; all zeros where it is not accepted
-abbrev pub planIn : List ℕ → Plan
-planIn file = reads file .plan
