@@ -4,16 +4,20 @@
  * Every call takes any input, ends, and touches nothing but what it is lent. It returns a number: 0 for done, or that of
  * the first refusal, in the order given at the call:
  *
- *    1 a plan file that is not accepted         7 the port does not run, or leads nowhere
  *    2 a state that is not sound                8 it may not send this kind
  *    3 an area of the wrong length, or one      9 the bit is already so
  *      that cannot be lent (see below)         10 the link is already so
  *    4 no such device or port                  11 an allowance above BENCH_ROUNDS
  *    5 an identifier or a value too great      12 still waiting after the allowance
- *    6 no source or no handler of it
+ *    6 no source or no handler of it           20 to 26 a plan file that is not accepted
+ *    7 the port does not run, or leads nowhere
  *
- * A refused call changes no area and gives 0 for a value, but for 12 (bench_settle) and 20 to 26 (bench_plan_read).
- * docs/RULES.md has the rules, and "The C door" there the numbers below.
+ * What is wrong with the file: 20 its length; of a block 21 the check, 22 the kind or the number, 23 a field, 24 a byte that has
+ * to be 0; 25 the number of blocks; 26 a connection. 1 is the number of a plan in memory that no file holds: no call answers it
+ * here, where a plan is a file.
+ *
+ * A refused call changes no area and gives 0 for a value, but for 12 (bench_settle) and 20 to 26 (bench_plan_read, which gives
+ * the block). docs/RULES.md has the rules, and "The C door" there the numbers below.
  *
  * A plan is the bytes of its file. An area is a pointer and its length, in words or bytes; the lengths have names below.
  * Before anything else a call refuses by 3 what cannot be lent together: areas that share a byte with each other, with the
@@ -208,14 +212,14 @@ static inline int bench_two_apart(const bench_u8 *plan, bench_size plan_length, 
     return bench_apart(all, 2);
 }
 
-/* The start state. 1; 3. */
+/* The start state. 20 to 26; 3. */
 static inline bench_u32 bench_start(const bench_u8 *plan, bench_size plan_length, bench_u32 *state, bench_size state_length) {
     if (!bench_two_apart(plan, plan_length, state, state_length))
         return 3;
     return bench_for_header_start(plan, plan_length, state, state_length);
 }
 
-/* The host of a device requests identifier k, or acknowledges it. 1; 2; 4; 5; 6; 7; 8; 9. */
+/* The host of a device requests identifier k, or acknowledges it. 20 to 26; 2; 4; 5; 6; 7; 8; 9. */
 static inline bench_u32 bench_request(const bench_u8 *plan, bench_size plan_length, bench_u32 *state, bench_size state_length,
                                       bench_size device, bench_u32 k) {
     if (!bench_two_apart(plan, plan_length, state, state_length))
@@ -230,7 +234,7 @@ static inline bench_u32 bench_acknowledge(const bench_u8 *plan, bench_size plan_
     return bench_for_header_acknowledge(plan, plan_length, state, state_length, device, k);
 }
 
-/* The link at a port stops, or starts. 1; 2; 4; 7; 10. */
+/* The link at a port stops, or starts. 20 to 26; 2; 4; 7; 10. */
 static inline bench_u32 bench_link_stop(const bench_u8 *plan, bench_size plan_length, bench_u32 *state,
                                         bench_size state_length, bench_size device, bench_size port) {
     if (!bench_two_apart(plan, plan_length, state, state_length))
@@ -245,7 +249,7 @@ static inline bench_u32 bench_link_start(const bench_u8 *plan, bench_size plan_l
     return bench_for_header_link_start(plan, plan_length, state, state_length, device, port);
 }
 
-/* A device is reset. 1; 2; 4. */
+/* A device is reset. 20 to 26; 2; 4. */
 static inline bench_u32 bench_reset(const bench_u8 *plan, bench_size plan_length, bench_u32 *state, bench_size state_length,
                                     bench_size device) {
     if (!bench_two_apart(plan, plan_length, state, state_length))
@@ -256,9 +260,8 @@ static inline bench_u32 bench_reset(const bench_u8 *plan, bench_size plan_length
 /* ---- rounds, settling, reach, and the text */
 
 /* One round from an old state. The word of the bytes sent at 8 x device + port is the byte that the port sent, or
- * BENCH_NOTHING; a word told has the identifier in its low byte, the device in the next, and above them 1 for an interrupt, 2 for an
- * acknowledge or 3 for a timeout. How many words
- * were told goes to *count, and behind them are zeros. 1; 2; 3. */
+ * BENCH_NOTHING; a word told has the identifier in its low byte, the device in the next, and above them 1 for an interrupt, 2 for
+ * an acknowledge or 3 for a timeout. How many words were told goes to *count, and behind them are zeros. 20 to 26; 2; 3. */
 static inline bench_u32 bench_round(const bench_u8 *plan, bench_size plan_length, const bench_u32 *old, bench_size old_length,
                                     bench_u32 *next, bench_size next_length, bench_u32 *sent, bench_size sent_length,
                                     bench_u32 *told, bench_size told_length, bench_u32 *count) {
@@ -276,8 +279,8 @@ static inline bench_u32 bench_round(const bench_u8 *plan, bench_size plan_length
     return number;
 }
 
-/* Rounds until no port waits; how many goes to *rounds. 1; 2; 11; 12: still waiting, *rounds is the allowance and the
- * state is the one after it. */
+/* Rounds until no port waits; how many goes to *rounds. 20 to 26; 2; 11; 12: still waiting, *rounds is the allowance
+ * and the state is the one after it. */
 static inline bench_u32 bench_settle(const bench_u8 *plan, bench_size plan_length, bench_u32 *state, bench_size state_length,
                                      bench_u32 allowance, bench_u32 *rounds) {
     const struct bench_lent all[] = {bench_bytes(plan, plan_length), bench_words(state, state_length), bench_place(rounds)};
@@ -292,7 +295,7 @@ static inline bench_u32 bench_settle(const bench_u8 *plan, bench_size plan_lengt
 }
 
 /* The devices that interrupts of k reach from a device: how many goes to *devices, and the set of them, bit d for device
- * d, to *set. 1; 2; 4; 5; 6. */
+ * d, to *set. 20 to 26; 2; 4; 5; 6. */
 static inline bench_u32 bench_reach(const bench_u8 *plan, bench_size plan_length, const bench_u32 *state,
                                     bench_size state_length, bench_size device, bench_u32 k, bench_u32 *devices,
                                     bench_u32 *set) {

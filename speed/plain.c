@@ -313,10 +313,10 @@ static u8 *put_text(const u8 *file, usize length, u32 *areas[2], u8 *at) {
 
 /* ---- the calls */
 
-/* What every call asks: a plan that is accepted, and a sound state. */
+/* What every call asks: a file that is accepted, and a sound state. */
 static u32 refusal(const u8 *file, usize length, const u32 *state, struct plan *plan) {
-    u32 block;
-    return read_plan(file, length, plan, &block) ? 1 : sound(plan, state) ? 0 : 2;
+    u32 block, bad = read_plan(file, length, plan, &block);
+    return bad ? bad : sound(plan, state) ? 0 : 2;
 }
 
 u32 plain_plan_read(const u8 *file, usize length, u32 *block) {

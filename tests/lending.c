@@ -82,16 +82,16 @@ static const struct call {
     bench_u32 answer, empty[LENT];
 } calls[] = {
     {"plan read", plan_read, {PLAN, VALUE}, {0}, 0, {20}},
-    {"start", start, {PLAN, STATE}, {0, BENCH_STATE}, 0, {1, 3}},
-    {"request", request, {PLAN, STATE}, {0, BENCH_STATE}, 0, {1, 2}},
-    {"acknowledge", acknowledge, {PLAN, STATE}, {0, BENCH_STATE}, 9, {1, 2}},
-    {"link stop", link_stop, {PLAN, STATE}, {0, BENCH_STATE}, 0, {1, 2}},
-    {"link start", link_start, {PLAN, STATE}, {0, BENCH_STATE}, 10, {1, 2}},
-    {"reset", reset, {PLAN, STATE}, {0, BENCH_STATE}, 0, {1, 2}},
+    {"start", start, {PLAN, STATE}, {0, BENCH_STATE}, 0, {20, 3}},
+    {"request", request, {PLAN, STATE}, {0, BENCH_STATE}, 0, {20, 2}},
+    {"acknowledge", acknowledge, {PLAN, STATE}, {0, BENCH_STATE}, 9, {20, 2}},
+    {"link stop", link_stop, {PLAN, STATE}, {0, BENCH_STATE}, 0, {20, 2}},
+    {"link start", link_start, {PLAN, STATE}, {0, BENCH_STATE}, 10, {20, 2}},
+    {"reset", reset, {PLAN, STATE}, {0, BENCH_STATE}, 0, {20, 2}},
     {"round", round, {PLAN, STATE, OUT, OUT, OUT, VALUE}, {0, BENCH_STATE, BENCH_STATE, BENCH_SENT, BENCH_TOLD}, 0,
-     {1, 2, 3, 3, 3}},
-    {"settle", settle, {PLAN, STATE, VALUE}, {0, BENCH_STATE}, 0, {1, 2}},
-    {"reach", reach, {PLAN, STATE, VALUE, VALUE}, {0, BENCH_STATE}, 0, {1, 2}},
+     {20, 2, 3, 3, 3}},
+    {"settle", settle, {PLAN, STATE, VALUE}, {0, BENCH_STATE}, 0, {20, 2}},
+    {"reach", reach, {PLAN, STATE, VALUE, VALUE}, {0, BENCH_STATE}, 0, {20, 2}},
     {"report", report, {PLAN, TEXT, VALUE}, {0}, 0, {0, 3}},
 };
 enum { CALLS = sizeof calls / sizeof *calls };

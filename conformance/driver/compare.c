@@ -28,13 +28,14 @@ static const char *const names[CALLS] = {
 
 /* Every number that a call can answer; the run has to hit each. */
 enum { END = 255 };
-static const u8 numbers[CALLS][12] = {
+#define OF_FILES 20, 21, 22, 23, 24, 25, 26
+static const u8 numbers[CALLS][17] = {
     [CODE_READ] = {0, END}, [CODE_WRITE] = {0, 5, END}, [REACT] = {0, END},
-    [PLAN_READ] = {0, 20, 21, 22, 23, 24, 25, 26, END}, [START] = {0, 1, 3, END},
-    [REQUEST] = {0, 1, 2, 4, 5, 6, 7, 8, 9, END}, [ACKNOWLEDGES] = {0, 1, 2, 4, 5, 6, 7, 8, 9, END},
-    [LINK_STOP] = {0, 1, 2, 4, 7, 10, END}, [LINK_START] = {0, 1, 2, 4, 7, 10, END}, [RESET] = {0, 1, 2, 4, END},
-    [ROUND] = {0, 1, 2, 3, END}, [SETTLE] = {0, 1, 2, 11, 12, END}, [REACH] = {0, 1, 2, 4, 5, 6, END},
-    [REPORT] = {0, 3, END}};
+    [PLAN_READ] = {0, OF_FILES, END}, [START] = {0, OF_FILES, 3, END},
+    [REQUEST] = {0, OF_FILES, 2, 4, 5, 6, 7, 8, 9, END}, [ACKNOWLEDGES] = {0, OF_FILES, 2, 4, 5, 6, 7, 8, 9, END},
+    [LINK_STOP] = {0, OF_FILES, 2, 4, 7, 10, END}, [LINK_START] = {0, OF_FILES, 2, 4, 7, 10, END},
+    [RESET] = {0, OF_FILES, 2, 4, END}, [ROUND] = {0, OF_FILES, 2, 3, END}, [SETTLE] = {0, OF_FILES, 2, 11, 12, END},
+    [REACH] = {0, OF_FILES, 2, 4, 5, 6, END}, [REPORT] = {0, 3, END}};
 
 _Noreturn void fail(const char *what, size one, size other) {
     printf("judge: %s: %lu, %lu\n", what, one, other);

@@ -1,4 +1,4 @@
-/* The values that the paper itself gives, asked of both, and the fullest report. */
+/* The values that the paper itself gives, asked of both, the fullest report, and every call over a file of each refusal. */
 #include "driver.h"
 
 static struct plan plan;
@@ -73,6 +73,34 @@ static void known_files(void) {
     must_be("an empty file", 20, try_plan_read(&plan));
 }
 
+/* A fault for each number that a block is refused with: a byte of a block, the check put right or not. */
+static const struct fault {
+    u32 number, block, at, value;
+    flag sealed;
+} faults[] = {{21, 0, 6, 1, 0}, {22, 0, 0, 2, 1}, {23, 0, 1, 33, 1}, {24, 0, 6, 1, 1}, {25, 0, 1, 2, 1}, {26, 1, 13, 1, 1}};
+
+/* Every call over a file that is not accepted answers the file's number. */
+static void refused_by_all(u32 number) {
+    must_be("a file with a fault", number, try_plan_read(&plan));
+    for (enum call call = START; call <= RESET; call++)
+        must_be("a call over it", number, try_change(call, &plan, &state, 0, 0));
+    must_be("a round over it", number, try_round(&plan, &state, &played));
+    must_be("settling over it", number, try_settle(&plan, &state, MOST_ALLOWED));
+    must_be("reach over it", number, try_reach(&plan, &state, 0, 5));
+}
+
+static void refused_files(void) {
+    for (u32 i = 0; i < sizeof faults / sizeof *faults; i++) {
+        three_in_a_row();
+        plan.bytes[BLOCK * faults[i].block + faults[i].at] = faults[i].value;
+        if (faults[i].sealed)
+            seal(&plan, faults[i].block);
+        refused_by_all(faults[i].number);
+    }
+    plan.length--;
+    refused_by_all(20);
+}
+
 void known_values(void) {
     fullest_report();
     three_in_a_row();
@@ -85,4 +113,5 @@ void known_values(void) {
     must_be("allowance 4,097", 11, try_settle(&plan, &state, MOST_ALLOWED + 1));
     known_timer();
     known_files();
+    refused_files();
 }

@@ -102,7 +102,7 @@ void try_files(struct plan *plan) {
         sound_state(plan, &state);
         if (once_in(4))
             state.length = wrong_length(STATE_WORDS);
-        must_be("a call with a damaged file", 1,
+        must_be("a call with a damaged file", number,
                 once_in(8) ? try_change(START, &damaged, &state, 0, 0) : any_call(plan, &damaged, &state));
     }
 }

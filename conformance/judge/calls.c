@@ -81,9 +81,9 @@ u32 judge_link_start(const u8 *plan, size plan_length, u32 *state, size state_le
 
 u32 judge_start(const u8 *plan, size plan_length, u32 *state, size state_length) {
     struct network net;
-    u32 block;
-    if (file_read(&net, plan, plan_length, &block))
-        return 1;
+    u32 block, number = file_read(&net, plan, plan_length, &block);
+    if (number)
+        return number;
     if (state_length != STATE_WORDS)
         return 3;
     start(&net);

@@ -70,7 +70,7 @@ enum action react(flag router, flag running, const flag may_receive[], flag set[
 u32 block_check(const u8 *block);
 u32 file_read(struct network *net, const u8 *file, size length, u32 *block);
 
-/* state.c: the areas' edge. network_read gives 1, 2, or 0 with plan and state in the network. */
+/* state.c: the areas' edge. network_read gives the number of a refused file, 2, or 0 with plan and state in the network. */
 void clear_device(struct device *device);
 void clear_waiting(struct port *port);
 void start(struct network *net);

@@ -99,9 +99,9 @@ static flag state_read(struct network *net, const u32 *words, size length) {
 }
 
 u32 network_read(struct network *net, const u8 *plan, size plan_length, const u32 *state, size state_length) {
-    u32 block;
-    if (file_read(net, plan, plan_length, &block))
-        return 1;
+    u32 block, number = file_read(net, plan, plan_length, &block);
+    if (number)
+        return number;
     return state_read(net, state, state_length) ? 0 : 2;
 }
 

@@ -1,2 +1,3 @@
 pub mod BothWays
+pub mod Numbers
 pub mod Unique

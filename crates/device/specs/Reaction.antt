@@ -43,3 +43,11 @@ module _ (side : Side) (register : ℕ) where
 
   unfoldable pub reacts : ℕ → Reaction
   reacts byte = reactsTo (reads byte)
+
+-- the number of what becomes of a code
+abbrev pub actionOf : Action → ℕ
+actionOf (Named code) = 0
+actionOf (LinkError code) = 1
+actionOf (Ignored code) = 2
+actionOf (Forwarded code) = 3
+actionOf (Told code) = 4

@@ -1,28 +1,117 @@
--- A call on a file's bytes is refused by 1 exactly where the file is not accepted; else what it asks next decides.
-use mathlib.Core.Path.{_≡_}
+-- A call over a file: how it shows its promise, and which numbers it answers. It is refused by one of 20 to 26 exactly where the file
+-- is not accepted, and by 1 never.
+use mathlib.Core.Path.{_≡_, refl, sym, ap, _∙_}
+use mathlib.Core.Bool.{Bool, true, _&&_}
+use mathlib.Core.List.{List, [], _∷_}
 use mathlib.Core.Logic.{inl, inr}
-use mathlib.Core.List.{List, _∷_}
-use Prim.Native.Nat.{ℕ, _<_}
-use lib.ListN.{getD}
-use borrow.Author.Tests.{ne-eqb}
+use Prim.Native.Nat.{ℕ, _≤_, _<_}
+use native.Mathlib.Decide.{ℕ-discrete}
+use native.Mathlib.Omega.{arith}
+use lib.Dec.{ltb, leb}
+use lib.ListN.{getD, drop}
+use borrow.Author.Tests.{ltb-true, leb-true}
 use Rattle.answers.specs.Ordered.{Condition, ask, Ordered}
+use Rattle.lists.proofs.Tests.{and-left, and-right}
 use Rattle.plan.specs.Refusals.{verdict}
 use Rattle.plan.specs.Reading.{planOf, Held, reads}
-use Rattle.plan.proofs.BothWays.{zeros-not-held, read-held}
-use Rattle.door.specs.Numbers.{planIn}
+use Rattle.plan.specs.declared.Plan.{Plan}
+use Rattle.plan.specs.declared.Read.{Read}
+use Rattle.plan.proofs.Firsts.{Refusal}
+use Rattle.plan.proofs.Good.{refusal-numbered}
+use Rattle.plan.proofs.BothWays.{read-held}
+use Rattle.state.specs.State.{State}
+use Rattle.state.specs.Start.{startAsks, Starts}
+use Rattle.calls.specs.Calls.{deviceAsks, callAsks, linkAsks, Takes, Stops, Links, Resets}
+use Rattle.bench.specs.Round.{Areas}
+use Rattle.bench.specs.RoundCall.{roundAsks, Plays}
+use Rattle.bench.specs.Settling.{pair, settleAsks}
+use Rattle.reach.specs.Reach.{reachAsks, Reaches}
+use Rattle.door.specs.OnFile.{OnFile, Changes, Gives}
+use Rattle.door.specs.Own.{own, SettlesOwn}
 
-module _ (file : List ℕ) where
-  not-held : (verdict file .number ≡ 0 → ⊥) → Held (planIn file) → ⊥
+-- ---- from what the reader answered
+
+module _ (file : List ℕ) (read : Read) (e : read ≡ reads file) where
+  number-read : read .number ≡ verdict file .number
   unfolding reads
-  not-held h held = zeros-not-held (simp (ne-eqb _ 0 h) at held)
+  number-read = ap (λ (r : Read). r .number) e
 
-  pub plan-in : verdict file .number ≡ 0 → planIn file ≡ planOf file
+  plan-read : verdict file .number ≡ 0 → read .plan ≡ planOf file
   unfolding reads
-  plan-in e = rw e
+  plan-read z = rw z at (ap (λ (r : Read). r .plan) e)
 
-  module _ (asks : List Condition) (n : ℕ) (answer : Ordered (ask 1 (Held (planIn file)) ∷ asks) n) where
-    pub refused-by-one : (verdict file .number ≡ 0 → ⊥) → n ≡ 1
-    refused-by-one h = elim answer [ inl p ↦ p .1 | inr p ↦ absurd (not-held h (p .0)) ]
+  pub turned-away : {call : Plan → Type 0} {kept : Type 0} → (read .number ≡ 0 → ⊥) → kept → OnFile file call (read .number) kept
+  turned-away n k = record { accepted = λ z. absurd (n (number-read ∙ z)); refused = λ _. (number-read, k) }
 
-    pub asked-next : ((i : ℕ) → getD file i 0 < 256) → verdict file .number ≡ 0 → Ordered asks n
-    asked-next small e = elim answer [ inl p ↦ absurd (p .0 (rw (plan-in e) (read-held file small e))) | inr p ↦ p .1 ]
+  pub let-in : {call : Plan → Type 0} {number : ℕ} {kept : Type 0} → read .number ≡ 0 → call (read .plan) → OnFile file call number kept
+  let-in z c = record { accepted = λ w. rw (plan-read w) at c; refused = λ n. absurd (n (sym number-read ∙ z)) }
+
+-- ---- which numbers a call answers
+
+-- conditions that have numbers of 2 to 12
+abbrev between : List Condition → Bool
+between [] = true
+between (c ∷ cs) = ltb 1 (c .number) && leb (c .number) 12 && between cs
+
+answered : (cs : List Condition) → between cs ≡ true → (n : ℕ) → Ordered cs n → (n ≡ 1 → ⊥) × (n ≤ 12)
+answered [] e n o = (λ z. omega arith, omega arith)
+answered (c ∷ cs) e n (inl p) =
+    let first = and-left (ltb 1 (c .number) && leb (c .number) 12) (between cs) e in
+    let above = ltb-true 1 (c .number) (and-left (ltb 1 (c .number)) (leb (c .number) 12) first) in
+    let below = leb-true (c .number) 12 (and-right (ltb 1 (c .number)) (leb (c .number) 12) first) in
+    let same = p .1 in
+    (λ z. omega arith, omega arith)
+answered (c ∷ cs) e n (inr p) = answered cs (and-right (ltb 1 (c .number) && leb (c .number) 12) (between cs) e) n (p .1)
+
+-- a number that tells a refused file from a refused call
+pub record Tells (file : List ℕ) (n : ℕ) : Type 0 where
+  pub refused : (verdict file .number ≡ 0 → ⊥) → Refusal n
+  pub only : Refusal n → verdict file .number ≡ 0 → ⊥
+  pub not-one : n ≡ 1 → ⊥
+
+-- a file in C is one of bytes
+module _ (file : List ℕ) (bytes : (i : ℕ) → getD file i 0 < 256) where
+  -- what the call asks behind its plan
+  module _ (asks : List Condition) (few : between asks ≡ true) (call : Plan → Type 0) (n : ℕ) where
+    tells : {kept : Type 0} → (call (planOf file) → Ordered (ask 1 (Held (planOf file)) ∷ asks) n) → OnFile file call n kept → Tells file n
+    tells answers promise = record { refused = refused; only = λ r z. omega (arith, next z .1, r); not-one = not-one }
+      where
+        next : verdict file .number ≡ 0 → (n ≡ 1 → ⊥) × (n ≤ 12)
+        next z = elim (answers (promise .accepted z)) [ inl p ↦ absurd (p .0 (read-held file bytes z)) | inr p ↦ answered asks few n (p .1) ]
+
+        refused : (verdict file .number ≡ 0 → ⊥) → Refusal n
+        refused h = rw (promise .refused h .0) (refusal-numbered file h)
+
+        not-one : n ≡ 1 → ⊥
+        not-one e = elim (ℕ-discrete (verdict file .number) 0) [ yes z ↦ next z .0 e | no h ↦ omega (arith, refused h) ]
+
+  abbrev plan : Plan
+  plan = planOf file
+
+  module _ (before after : State) (n : ℕ) where
+    pub start-tells : Changes file Starts before n after → Tells file n
+    start-tells = tells (drop 1 (startAsks plan before)) refl (λ p. Starts p before n after) n (λ o. o .answers)
+
+    module _ (device : ℕ) where
+      pub call-tells : (kind k : ℕ) → Changes file (λ p. Takes p kind device k) before n after → Tells file n
+      call-tells kind k = tells (drop 1 (callAsks plan kind device k before)) refl (λ p. Takes p kind device k before n after) n (λ o. o .answers)
+
+      pub link-stop-tells : (port : ℕ) → Changes file (λ p. Stops p device port) before n after → Tells file n
+      link-stop-tells port = tells (drop 1 (linkAsks plan 1 device port before)) refl (λ p. Stops p device port before n after) n (λ o. o .answers)
+
+      pub link-start-tells : (port : ℕ) → Changes file (λ p. Links p device port) before n after → Tells file n
+      link-start-tells port = tells (drop 1 (linkAsks plan 0 device port before)) refl (λ p. Links p device port before n after) n (λ o. o .answers)
+
+      pub reset-tells : Changes file (λ p. Resets p device) before n after → Tells file n
+      reset-tells = tells (drop 1 (deviceAsks plan device before)) refl (λ p. Resets p device before n after) n (λ o. o .answers)
+
+    pub settle-tells : (allowance value : ℕ) → Gives file (λ p s. SettlesOwn p s allowance) before n value after → Tells file n
+    settle-tells allowance value =
+        tells (drop 1 (settleAsks plan (pair before own) allowance)) refl (λ p. SettlesOwn p before allowance n value after) n (λ o. o .answers)
+
+  pub round-tells : (old : State) (before after : Areas) (n value : ℕ) → Gives file (λ p. Plays p old) before n value after → Tells file n
+  round-tells old before after n value = tells (drop 1 (roundAsks plan old before)) refl (λ p. Plays p old before n value after) n (λ o. o .answers)
+
+  pub reach-tells : (state : State) (device k n value set : ℕ) {kept : Type 0} → OnFile file (λ p. Reaches p state device k n value set) n kept → Tells file n
+  reach-tells state device k n value set =
+      tells (drop 1 (reachAsks plan state device k)) refl (λ p. Reaches p state device k n value set) n (λ o. o .answers)

@@ -1,4 +1,3 @@
 pub mod Files
 pub mod Own
 pub mod Unique
-pub mod Written

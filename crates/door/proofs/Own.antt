@@ -3,13 +3,17 @@ use mathlib.Core.Path.{_≡_, sym, ap, _∙_}
 use mathlib.Core.List.{List}
 use mathlib.Core.Logic.{inl, inr}
 use Prim.Native.Nat.{ℕ}
+use native.Mathlib.Decide.{ℕ-discrete}
 use native.Mathlib.Omega.{arith}
 use lib.ListN.{length}
 use Rattle.lists.proofs.Tables.{length-table}
+use Rattle.plan.specs.Refusals.{verdict}
 use Rattle.plan.specs.declared.Plan.{Plan}
+use Rattle.plan.proofs.Good.{refusal-numbered}
 use Rattle.state.specs.State.{State, words}
 use Rattle.bench.specs.Settling.{Pair, Settles, pair}
 use Rattle.report.specs.Report.{Areas, Reports, lent}
+use Rattle.door.specs.OnFile.{Gives}
 use Rattle.door.specs.Own.{own, SettlesOwn, ReportsOwn}
 
 own-long : length own ≡ words
@@ -32,9 +36,8 @@ module _ {plan : Plan} {before after : State} {allowance number value : ℕ} whe
       alone : {a b : Pair} → a ≡ b → pair (a .state) own ≡ pair (b .state) own
       alone e = ap (λ (p : Pair). pair (p .state) own) e
 
-  -- C lends no second area, so none is too short
-  pub never-3 : SettlesOwn plan before allowance number value after → number ≡ 3 → ⊥
-  never-3 s e =
+  no-3 : SettlesOwn plan before allowance number value after → number ≡ 3 → ⊥
+  no-3 s e =
       elim (s .answers) [
         | inl p ↦ omega (arith, p .1)
         | inr p ↦ elim (p .1) [
@@ -45,6 +48,15 @@ module _ {plan : Plan} {before after : State} {allowance number value : ℕ} whe
           ]
         ]
       ]
+
+-- C lends no second area, so none is too short
+pub never-3 : (file : List ℕ) (before after : State) (allowance number value : ℕ)
+    → Gives file (λ p s. SettlesOwn p s allowance) before number value after → number ≡ 3 → ⊥
+never-3 file before after allowance number value g e =
+    elim (ℕ-discrete (verdict file .number) 0) [
+      | yes z ↦ no-3 (g .accepted z) e
+      | no h ↦ omega (arith, g .refused h .0, refusal-numbered file h)
+    ]
 
 module _ {file before after : List ℕ} {number value : ℕ} where
   pub reports-own : (one other then last : List ℕ) → length one ≡ words → length other ≡ words

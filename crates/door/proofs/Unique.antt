@@ -3,11 +3,15 @@
 use mathlib.Core.Path.{_≡_, sym, ap, _∙_}
 use mathlib.Core.List.{List}
 use Prim.Native.Nat.{ℕ}
+use native.Mathlib.Decide.{ℕ-discrete}
 use Rattle.answers.specs.Answer.{Answer}
 use Rattle.codes.specs.Codes.{reads, writes}
-use Rattle.device.specs.Reaction.{reacts}
+use Rattle.codes.specs.Numbers.{kindOf, valueOf, codeOf}
+use Rattle.device.specs.Reaction.{reacts, actionOf}
 use Rattle.device.specs.declared.Reaction.{Reaction}
 use Rattle.plan.specs.Refusals.{verdict}
+use Rattle.plan.specs.Reading.{planOf}
+use Rattle.plan.specs.declared.Plan.{Plan}
 use Rattle.state.specs.State.{State}
 use Rattle.state.specs.Start.{Starts}
 use Rattle.state.proofs.Unique.{start-unique}
@@ -21,7 +25,8 @@ use Rattle.reach.specs.Reach.{Reaches}
 use Rattle.reach.proofs.Unique.{reach-unique}
 use Rattle.report.specs.Report.{Areas as Texts, lent}
 use Rattle.report.proofs.Unique.{report-unique}
-use Rattle.door.specs.Numbers.{kindOf, valueOf, codeOf, actionOf, sideOf, planIn}
+use Rattle.door.specs.Numbers.{sideOf}
+use Rattle.door.specs.OnFile.{OnFile, Changes, Gives}
 use Rattle.door.specs.Own.{own, SettlesOwn, ReportsOwn}
 
 -- two numbers that a definition gives
@@ -50,45 +55,70 @@ module _ (role running permissions register byte : ℕ) where
 
 -- ---- the calls over a file
 
+-- one outcome on the plan of an accepted file, and one where the file is refused
+on-file-once : (file : List ℕ) (A B : Plan → Type 0) (m n : ℕ) {k l same : Type 0} → (A (planOf file) → B (planOf file) → same)
+    → (m ≡ n → k → l → same) → OnFile file A m k → OnFile file B n l → same
+on-file-once file A B m n called kept p q =
+    elim (ℕ-discrete (verdict file .number) 0) [
+      | yes e ↦ called (p .accepted e) (q .accepted e)
+      | no e ↦ let r = p .refused e in let s = q .refused e in kept (r .0 ∙ sym (s .0)) (r .1) (s .1)
+    ]
+
+-- one number, one value, and one area after the call
+abbrev pub OnceWith : (S : Type 0) → (S → ℕ → ℕ → S → Type 0) → Type 0
+OnceWith S Promise = (before : S) (m n v w : ℕ) (a b : S) → Promise before m v a → Promise before n w b → (m ≡ n) × (v ≡ w) × (a ≡ b)
+
 module _ (file : List ℕ) where
+  changes-once : (call : Plan → State → ℕ → State → Type 0) → Once (call (planOf file)) → Once (Changes file call)
+  changes-once call once before m n a b =
+      on-file-once file (λ plan. call plan before m a) (λ plan. call plan before n b) m n (once before m n a b) (λ e x y. (e, x ∙ sym y))
+
+  gives-once : (S : Type 0) (call : Plan → S → ℕ → ℕ → S → Type 0) → OnceWith S (call (planOf file)) → OnceWith S (Gives file call)
+  gives-once S call once before m n v w a b =
+      on-file-once file (λ plan. call plan before m v a) (λ plan. call plan before n w b) m n (once before m n v w a b)
+      (λ e x y. (e, x .0 ∙ sym (y .0), x .1 ∙ sym (y .1)))
+
   pub bench-for-header-plan-read-unique : Two (verdict file .number) (verdict file .at)
   bench-for-header-plan-read-unique = two (verdict file .number) (verdict file .at)
 
-  pub bench-for-header-start-unique : Once (Starts (planIn file))
-  bench-for-header-start-unique = start-unique (planIn file)
+  pub bench-for-header-start-unique : Once (Changes file Starts)
+  bench-for-header-start-unique = changes-once Starts (start-unique (planOf file))
 
   module _ (device : ℕ) where
-    pub bench-for-header-request-unique : (k : ℕ) → Once (Takes (planIn file) 0 device k)
-    bench-for-header-request-unique = call-unique (planIn file) device 0
+    pub bench-for-header-request-unique : (k : ℕ) → Once (Changes file (λ plan. Takes plan 0 device k))
+    bench-for-header-request-unique k = changes-once (λ plan. Takes plan 0 device k) (call-unique (planOf file) device 0 k)
 
-    pub bench-for-header-acknowledge-unique : (k : ℕ) → Once (Takes (planIn file) 1 device k)
-    bench-for-header-acknowledge-unique = call-unique (planIn file) device 1
+    pub bench-for-header-acknowledge-unique : (k : ℕ) → Once (Changes file (λ plan. Takes plan 1 device k))
+    bench-for-header-acknowledge-unique k = changes-once (λ plan. Takes plan 1 device k) (call-unique (planOf file) device 1 k)
 
-    pub bench-for-header-link-stop-unique : (port : ℕ) → Once (Stops (planIn file) device port)
-    bench-for-header-link-stop-unique = link-stop-unique (planIn file) device
+    pub bench-for-header-link-stop-unique : (port : ℕ) → Once (Changes file (λ plan. Stops plan device port))
+    bench-for-header-link-stop-unique port = changes-once (λ plan. Stops plan device port) (link-stop-unique (planOf file) device port)
 
-    pub bench-for-header-link-start-unique : (port : ℕ) → Once (Links (planIn file) device port)
-    bench-for-header-link-start-unique = link-start-unique (planIn file) device
+    pub bench-for-header-link-start-unique : (port : ℕ) → Once (Changes file (λ plan. Links plan device port))
+    bench-for-header-link-start-unique port = changes-once (λ plan. Links plan device port) (link-start-unique (planOf file) device port)
 
-    pub bench-for-header-reset-unique : Once (Resets (planIn file) device)
-    bench-for-header-reset-unique = reset-unique (planIn file) device
+    pub bench-for-header-reset-unique : Once (Changes file (λ plan. Resets plan device))
+    bench-for-header-reset-unique = changes-once (λ plan. Resets plan device) (reset-unique (planOf file) device)
 
     pub bench-for-header-reach-unique : (state : State) (k m n v w x y : ℕ)
-        → Reaches (planIn file) state device k m v x → Reaches (planIn file) state device k n w y → (m ≡ n) × (v ≡ w) × (x ≡ y)
-    bench-for-header-reach-unique state = reach-unique (planIn file) state device
+        → OnFile file (λ plan. Reaches plan state device k m v x) m ((v ≡ 0) × (x ≡ 0))
+        → OnFile file (λ plan. Reaches plan state device k n w y) n ((w ≡ 0) × (y ≡ 0)) → (m ≡ n) × (v ≡ w) × (x ≡ y)
+    bench-for-header-reach-unique state k m n v w x y =
+        on-file-once file (λ plan. Reaches plan state device k m v x) (λ plan. Reaches plan state device k n w y) m n
+        (reach-unique (planOf file) state device k m n v w x y) (λ e p q. (e, p .0 ∙ sym (q .0), p .1 ∙ sym (q .1)))
 
-  pub bench-for-header-round-unique : (old : State) (before : Areas) (m n v w : ℕ) (a b : Areas)
-      → Plays (planIn file) old before m v a → Plays (planIn file) old before n w b → (m ≡ n) × (v ≡ w) × (a ≡ b)
-  bench-for-header-round-unique = round-unique (planIn file)
+  pub bench-for-header-round-unique : (old : State) → OnceWith Areas (Gives file (λ plan. Plays plan old))
+  bench-for-header-round-unique old = gives-once Areas (λ plan. Plays plan old) (round-unique (planOf file) old)
 
-  pub bench-for-header-settle-unique : (before : State) (allowance m n v w : ℕ) (a b : State)
-      → SettlesOwn (planIn file) before allowance m v a → SettlesOwn (planIn file) before allowance n w b → (m ≡ n) × (v ≡ w) × (a ≡ b)
-  bench-for-header-settle-unique before allowance m n v w a b p q =
-      let e = settle-unique (planIn file) (pair before own) allowance m n v w (pair a own) (pair b own) p q in
-      (e .0, e .1, ap (λ (x : Pair). x .state) (e .2))
+  pub bench-for-header-settle-unique : (allowance : ℕ) → OnceWith State (Gives file (λ plan before. SettlesOwn plan before allowance))
+  bench-for-header-settle-unique allowance = gives-once State (λ plan before. SettlesOwn plan before allowance) settle-own-unique
+    where
+      settle-own-unique : OnceWith State (λ before. SettlesOwn (planOf file) before allowance)
+      settle-own-unique before m n v w a b p q =
+          let e = settle-unique (planOf file) (pair before own) allowance m n v w (pair a own) (pair b own) p q in
+          (e .0, e .1, ap (λ (x : Pair). x .state) (e .2))
 
-  pub bench-for-header-report-unique : (before : List ℕ) (m n v w : ℕ) (a b : List ℕ)
-      → ReportsOwn file before m v a → ReportsOwn file before n w b → (m ≡ n) × (v ≡ w) × (a ≡ b)
+  pub bench-for-header-report-unique : OnceWith (List ℕ) (ReportsOwn file)
   bench-for-header-report-unique before m n v w a b p q =
       let e = report-unique file (lent own own before) m n v w (lent own own a) (lent own own b) p q in
       (e .0, e .1, ap (λ (x : Texts). x .text) (e .2))

@@ -1,23 +1,24 @@
 // The bench for C: the calls over numbers and areas, for the functions of include/bench.h, and for
 // nobody else in C. A promise here holds where what is lent is apart, which the language sees to and C
-// does not; the header tests it. A plan is the bytes of its file. Where the file is not accepted the
-// reader gives the plan of zeros, which no file holds, so that each call refuses it by 1.
+// does not; the header tests it. A plan is the bytes of its file, which each call reads first: it answers
+// the reader's number where the file is not accepted, so that no call meets a plan that it refuses by 1.
 ghost use mathlib.Core.Path.{_≡_};
 ghost use Rattle.codes.specs.Codes.{reads, writes};
-ghost use Rattle.device.specs.Reaction.{reacts};
+ghost use Rattle.codes.specs.Numbers.{kindOf, valueOf, codeOf};
+ghost use Rattle.device.specs.Reaction.{reacts, actionOf};
 ghost use Rattle.plan.specs.Refusals.{verdict};
 ghost use Rattle.state.specs.Start.{Starts};
 ghost use Rattle.calls.specs.Calls.{Takes, Stops, Links, Resets};
 ghost use Rattle.bench.specs.RoundCall.{Plays};
 ghost use Rattle.bench.specs.Round.{areas};
 ghost use Rattle.reach.specs.Reach.{Reaches};
-ghost use Rattle.door.specs.Numbers.{kindOf, valueOf, codeOf, actionOf, sideOf, planIn};
+ghost use Rattle.door.specs.Numbers.{sideOf};
+ghost use Rattle.door.specs.OnFile.{OnFile, Changes, Gives};
 ghost use Rattle.door.specs.Own.{SettlesOwn, ReportsOwn};
 use codes::Code;
 use codes::Written;
 use device::Action;
 use device::Side;
-use plan::Plan;
 
 // ---- numbers for cases
 
@@ -64,13 +65,6 @@ fn action_of(action: Action) -> u32
         Action::Forwarded(_) => 3,
         Action::Told(_) => 4,
     }
-}
-
-// The plan of a file, or the plan of zeros.
-fn plan_in(file: &[u8]) -> Plan
-    ensures { λ r. ⌜ r ≡ planIn (now (file .entry)) ⌝ }
-{
-    planfile::read(file).plan
 }
 
 // ---- codes, and one device
@@ -140,9 +134,13 @@ pub extern "C" fn bench_for_header_plan_read(file: &[u8], block: &mut u32) -> u3
 
 #[no_mangle]
 pub extern "C" fn bench_for_header_start(plan: &[u8], state: &mut [u32]) -> u32
-    ensures { λ r. ⌜ Starts (planIn (now (plan .entry))) (now (state .entry)) r (now (state .exit)) ⌝ }
+    ensures { λ r. ⌜ Changes (now (plan .entry)) Starts (now (state .entry)) r (now (state .exit)) ⌝ }
 {
-    bench::start(plan_in(plan), state)
+    let read = planfile::read(plan);
+    if read.number != 0 {
+        return read.number;
+    }
+    bench::start(read.plan, state)
 }
 
 #[no_mangle]
@@ -152,9 +150,13 @@ pub extern "C" fn bench_for_header_request(
     device: usize,
     k: u32,
 ) -> u32
-    ensures { λ r. ⌜ Takes (planIn (now (plan .entry))) 0 device k (now (state .entry)) r (now (state .exit)) ⌝ }
+    ensures { λ r. ⌜ Changes (now (plan .entry)) (λ p. Takes p 0 device k) (now (state .entry)) r (now (state .exit)) ⌝ }
 {
-    bench::request(plan_in(plan), state, device, k)
+    let read = planfile::read(plan);
+    if read.number != 0 {
+        return read.number;
+    }
+    bench::request(read.plan, state, device, k)
 }
 
 #[no_mangle]
@@ -164,9 +166,13 @@ pub extern "C" fn bench_for_header_acknowledge(
     device: usize,
     k: u32,
 ) -> u32
-    ensures { λ r. ⌜ Takes (planIn (now (plan .entry))) 1 device k (now (state .entry)) r (now (state .exit)) ⌝ }
+    ensures { λ r. ⌜ Changes (now (plan .entry)) (λ p. Takes p 1 device k) (now (state .entry)) r (now (state .exit)) ⌝ }
 {
-    bench::acknowledge(plan_in(plan), state, device, k)
+    let read = planfile::read(plan);
+    if read.number != 0 {
+        return read.number;
+    }
+    bench::acknowledge(read.plan, state, device, k)
 }
 
 #[no_mangle]
@@ -176,9 +182,13 @@ pub extern "C" fn bench_for_header_link_stop(
     device: usize,
     port: usize,
 ) -> u32
-    ensures { λ r. ⌜ Stops (planIn (now (plan .entry))) device port (now (state .entry)) r (now (state .exit)) ⌝ }
+    ensures { λ r. ⌜ Changes (now (plan .entry)) (λ p. Stops p device port) (now (state .entry)) r (now (state .exit)) ⌝ }
 {
-    bench::link_stop(plan_in(plan), state, device, port)
+    let read = planfile::read(plan);
+    if read.number != 0 {
+        return read.number;
+    }
+    bench::link_stop(read.plan, state, device, port)
 }
 
 #[no_mangle]
@@ -188,16 +198,24 @@ pub extern "C" fn bench_for_header_link_start(
     device: usize,
     port: usize,
 ) -> u32
-    ensures { λ r. ⌜ Links (planIn (now (plan .entry))) device port (now (state .entry)) r (now (state .exit)) ⌝ }
+    ensures { λ r. ⌜ Changes (now (plan .entry)) (λ p. Links p device port) (now (state .entry)) r (now (state .exit)) ⌝ }
 {
-    bench::link_start(plan_in(plan), state, device, port)
+    let read = planfile::read(plan);
+    if read.number != 0 {
+        return read.number;
+    }
+    bench::link_start(read.plan, state, device, port)
 }
 
 #[no_mangle]
 pub extern "C" fn bench_for_header_reset(plan: &[u8], state: &mut [u32], device: usize) -> u32
-    ensures { λ r. ⌜ Resets (planIn (now (plan .entry))) device (now (state .entry)) r (now (state .exit)) ⌝ }
+    ensures { λ r. ⌜ Changes (now (plan .entry)) (λ p. Resets p device) (now (state .entry)) r (now (state .exit)) ⌝ }
 {
-    bench::reset(plan_in(plan), state, device)
+    let read = planfile::read(plan);
+    if read.number != 0 {
+        return read.number;
+    }
+    bench::reset(read.plan, state, device)
 }
 
 // ---- rounds, settling, reach, and the text
@@ -212,9 +230,14 @@ pub extern "C" fn bench_for_header_round(
     told: &mut [u32],
     count: &mut u32,
 ) -> u32
-    ensures { λ r. ⌜ Plays (planIn (now (plan .entry))) (now (old .entry)) (areas (now (next .entry)) (now (sent .entry)) (now (told .entry))) r (now (count .exit)) (areas (now (next .exit)) (now (sent .exit)) (now (told .exit))) ⌝ }
+    ensures { λ r. ⌜ Gives (now (plan .entry)) (λ p. Plays p (now (old .entry))) (areas (now (next .entry)) (now (sent .entry)) (now (told .entry))) r (now (count .exit)) (areas (now (next .exit)) (now (sent .exit)) (now (told .exit))) ⌝ }
 {
-    let answer = bench::round(plan_in(plan), old, next, sent, told);
+    let read = planfile::read(plan);
+    if read.number != 0 {
+        *count = 0;
+        return read.number;
+    }
+    let answer = bench::round(read.plan, old, next, sent, told);
     *count = answer.value;
     answer.number
 }
@@ -228,10 +251,15 @@ pub extern "C" fn bench_for_header_settle(
     allowance: u32,
     rounds: &mut u32,
 ) -> u32
-    ensures { λ r. ⌜ SettlesOwn (planIn (now (plan .entry))) (now (state .entry)) allowance r (now (rounds .exit)) (now (state .exit)) ⌝ }
+    ensures { λ r. ⌜ Gives (now (plan .entry)) (λ p before. SettlesOwn p before allowance) (now (state .entry)) r (now (rounds .exit)) (now (state .exit)) ⌝ }
 {
+    let read = planfile::read(plan);
+    if read.number != 0 {
+        *rounds = 0;
+        return read.number;
+    }
     let mut second = [0u32; bench::WORDS];
-    let answer = bench::settle(plan_in(plan), state, &mut second, allowance);
+    let answer = bench::settle(read.plan, state, &mut second, allowance);
     *rounds = answer.value;
     answer.number
 }
@@ -246,9 +274,15 @@ pub extern "C" fn bench_for_header_reach(
     devices: &mut u32,
     set: &mut u32,
 ) -> u32
-    ensures { λ r. ⌜ Reaches (planIn (now (plan .entry))) (now (state .entry)) device k r (now (devices .exit)) (now (set .exit)) ⌝ }
+    ensures { λ r. ⌜ OnFile (now (plan .entry)) (λ p. Reaches p (now (state .entry)) device k r (now (devices .exit)) (now (set .exit))) r ((now (devices .exit) ≡ 0) × (now (set .exit) ≡ 0)) ⌝ }
 {
-    let answer = reach::reach(plan_in(plan), state, device, k);
+    let read = planfile::read(plan);
+    if read.number != 0 {
+        *devices = 0;
+        *set = 0;
+        return read.number;
+    }
+    let answer = reach::reach(read.plan, state, device, k);
     *devices = answer.value;
     *set = answer.set;
     answer.number

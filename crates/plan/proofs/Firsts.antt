@@ -3,7 +3,7 @@ use mathlib.Core.Path.{_≡_, refl}
 use mathlib.Core.Bool.{Bool, true, false, cond}
 use mathlib.Core.List.{List, [], _∷_, _++_}
 use mathlib.Core.Logic.{_⊎_, inl, inr}
-use Prim.Native.Nat.{ℕ, zero, suc, _<_}
+use Prim.Native.Nat.{ℕ, zero, suc, _≤_, _<_}
 use native.Mathlib.Decide.{ℕ-discrete}
 use native.Mathlib.Omega.{arith}
 use Rattle.lists.specs.Table.{table, joined}
@@ -45,12 +45,16 @@ passes-or-stops (t ∷ ts) = by-test (t .passes) refl (passes-or-stops ts)
     by-test true e (inl p) = inl (e, p)
     by-test true e (inr s) = inr (later e s)
 
--- no test is refused with 0
+-- the numbers of the reader's refusals
+abbrev pub Refusal : ℕ → Type 0
+Refusal n = (20 ≤ n) × (n ≤ 26)
+
+-- every test is refused with one of them
 abbrev pub Numbered : List Test → Type 0
 Numbered [] = Unit {0}
-Numbered (t ∷ ts) = (0 < t .number) × Numbered ts
+Numbered (t ∷ ts) = Refusal (t .number) × Numbered ts
 
-stops-numbered : {ts : List Test} {v : Verdict} → Numbered ts → Stops ts v → 0 < v .number
+pub stops-numbered : {ts : List Test} {v : Verdict} → Numbered ts → Stops ts v → Refusal (v .number)
 stops-numbered n (here e) = n .0
 stops-numbered n (later e s) = stops-numbered (n .1) s
 
@@ -131,7 +135,7 @@ stops-table zero f i h e l = absurd (omega arith)
 stops-table (suc n) f zero h e l = here e
 stops-table (suc n) f (suc i) h e l = later (h 0 (omega arith)) (stops-table n (λ k. f (suc k)) i (λ j k. h (suc j) (omega arith)) e (omega arith))
 
-pub numbered-table : (n : ℕ) (f : ℕ → Test) → ((i : ℕ) → 0 < f i .number) → Numbered (table n f)
+pub numbered-table : (n : ℕ) (f : ℕ → Test) → ((i : ℕ) → Refusal (f i .number)) → Numbered (table n f)
 unfolding table
 numbered-table zero f h = tt
 numbered-table (suc n) f h = (h 0, numbered-table n (λ k. f (suc k)) (λ i. h (suc i)))

@@ -2,6 +2,7 @@
 use mathlib.Core.Path.{_≡_, ap}
 use mathlib.Core.Bool.{true}
 use mathlib.Core.List.{List, _++_}
+use mathlib.Core.Logic.{inl, inr}
 use Prim.Native.Nat.{ℕ, _+_, _*_, _≤_, _<_}
 use native.Mathlib.Omega.{arith}
 use lib.ListN.{length, getD}
@@ -12,7 +13,7 @@ use Rattle.plan.specs.Header.{headerFields, headerIn, headerFits}
 use Rattle.plan.specs.Refusals.{Test, test, accepts, lengthFits, headerTests, deviceTests, joinTests, deviceBlock, countIn, portsOf, peerOf, tests, verdict}
 use Rattle.plan.specs.declared.Header.{Header}
 use Rattle.lists.proofs.Facts.{facts}
-use Rattle.plan.proofs.Firsts.{AllPass, Numbered, first-accepts, accepts-all, all-append, all-front, all-back, all-joined, all-at, all-table, all-table-at, numbered-append, numbered-joined, numbered-table}
+use Rattle.plan.proofs.Firsts.{AllPass, Refusal, Numbered, stops-numbered, passes-or-stops, first-accepts, accepts-all, all-append, all-front, all-back, all-joined, all-at, all-table, all-table-at, numbered-append, numbered-joined, numbered-table}
 
 -- ---- the facts
 
@@ -93,7 +94,16 @@ module _ (file : List ℕ) where
       (λ d. numbered-table 8 (λ p. test 26 (1 + d) (joins (portsOf file) (peerOf file) d p)) (λ p. omega arith))) in
       (omega arith, (omega arith, (omega arith, (omega arith, (omega arith, (omega arith, devices))))))
 
-  -- no number is 0
+  -- a file is refused with a number of 20 to 26
+  pub refusal-numbered : (verdict file .number ≡ 0 → ⊥) → Refusal (verdict file .number)
+  unfolding verdict
+  refusal-numbered h =
+      elim (passes-or-stops (tests file)) [
+        | inl p ↦ absurd (h (ap (λ v. v .number) (first-accepts (tests file) p)))
+        | inr s ↦ stops-numbered numbered s
+      ]
+
+  -- so 0 says that nothing is wrong
   pub zero-accepts : verdict file .number ≡ 0 → verdict file ≡ accepts
   unfolding verdict
   zero-accepts e = first-accepts (tests file) (accepts-all (tests file) numbered e)

@@ -1,4 +1,4 @@
-use Rattle.door.specs.Numbers.{kindOf, valueOf}
+use Rattle.codes.specs.Numbers.{kindOf, valueOf}
 use mathlib.Core.Path.{ap, _∙_}
 use borrow.Author.Needs.{needs}
 use Rattle.door.proofs.bench_for_header_code_read.Statement.{statement}

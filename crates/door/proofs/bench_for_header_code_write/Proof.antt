@@ -1,7 +1,7 @@
 use mathlib.Core.Path.{sym, ap, _∙_}
 use borrow.Author.Needs.{needs}
 use Rattle.codes.specs.Codes.{writes, answerOf}
-use Rattle.door.proofs.Written.{no-byte}
+use Rattle.codes.proofs.Numbers.{no-byte}
 use Rattle.door.proofs.bench_for_header_code_write.Statement.{statement}
 use Rattle.door.proofs.bench_for_header_code_write.Tie as tie
 

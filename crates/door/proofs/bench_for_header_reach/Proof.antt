@@ -1,18 +1,26 @@
+use mathlib.Core.Path.{refl}
 use borrow.Author.Needs.{needs}
+use Rattle.door.proofs.Files.{turned-away, let-in}
 use Rattle.door.proofs.bench_for_header_reach.Statement.{statement}
 use Rattle.door.proofs.bench_for_header_reach.Tie as tie
 
 returns : tie.Need-returns
-returns c = rw (c .before .plan-in .ensures) at (c .reach .ensures)
+returns c = turned-away _ _ (c .before .before .read .ensures) (c .if1 .taken) (refl, refl)
 
-plan-in-requires : tie.Need-plan-in-requires
-plan-in-requires c κs = search needs
+returns-2 : tie.Need-returns-2
+returns-2 c = let-in _ _ (c .before .before .before .read .ensures) (c .before .if1 .left) (c .reach .ensures)
+
+read-requires : tie.Need-read-requires
+read-requires c κs = search needs
 
 reach-requires : tie.Need-reach-requires
 reach-requires c κs = search needs
 
 pub bench-for-header-reach-spec : {M : Type 1} → statement M
-bench-for-header-reach-spec = tie.close (tie.spec
-    plan-in-requires
+bench-for-header-reach-spec =
+    tie.close
+    (tie.spec
+    read-requires
+    returns
     reach-requires
-    returns)
+    returns-2)

@@ -1,7 +1,7 @@
 use mathlib.Core.Path.{ap, _∙_}
 use borrow.Author.Needs.{needs}
 use Rattle.device.specs.declared.Reaction.{Reaction}
-use Rattle.door.specs.Numbers.{actionOf}
+use Rattle.device.specs.Reaction.{actionOf}
 use Rattle.door.proofs.bench_for_header_react.Statement.{statement}
 use Rattle.door.proofs.bench_for_header_react.Tie as tie
 

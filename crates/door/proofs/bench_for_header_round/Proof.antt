@@ -1,12 +1,17 @@
+use mathlib.Core.Path.{refl}
 use borrow.Author.Needs.{needs}
+use Rattle.door.proofs.Files.{turned-away, let-in}
 use Rattle.door.proofs.bench_for_header_round.Statement.{statement}
 use Rattle.door.proofs.bench_for_header_round.Tie as tie
 
 returns : tie.Need-returns
-returns c = rw (c .before .before .before .before .before .before .before .before .before .before .plan-in .ensures) at (c .before .before .before .before .before .before .round .ensures)
+returns c = turned-away _ _ (c .before .before .read .ensures) (c .if1 .taken) (refl, refl)
 
-plan-in-requires : tie.Need-plan-in-requires
-plan-in-requires c κs = search needs
+returns-2 : tie.Need-returns-2
+returns-2 c = let-in _ _ (c .before .before .before .before .before .before .before .before .before .before .before .before .read .ensures) (c .before .before .before .before .before .before .before .before .before .before .if1 .left) (c .before .before .before .before .before .before .round .ensures)
+
+read-requires : tie.Need-read-requires
+read-requires c κs = search needs
 
 round-requires : tie.Need-round-requires
 round-requires c κs = search needs
@@ -15,9 +20,10 @@ pub bench-for-header-round-spec : {M : Type 1} → statement M
 bench-for-header-round-spec =
     tie.close
     (tie.spec
-    plan-in-requires
+    read-requires
+    returns
     round-requires
     (λ c. search needs)
     (λ c. search needs)
     (λ c. search needs)
-    returns)
+    returns-2)

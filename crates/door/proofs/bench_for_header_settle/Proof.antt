@@ -1,23 +1,29 @@
+use mathlib.Core.Path.{refl}
 use borrow.Author.Needs.{needs}
+use Rattle.door.proofs.Files.{turned-away, let-in}
 use Rattle.door.proofs.Own.{settles-own}
 use Rattle.door.proofs.bench_for_header_settle.Statement.{statement}
 use Rattle.door.proofs.bench_for_header_settle.Tie as tie
 
 returns : tie.Need-returns
-returns c =
-    settles-own _ _ (search needs) (rw (c .before .before .before .before .before .before .plan-in .ensures) at (c .before .before .before .settle .ensures))
+returns c = turned-away _ _ (c .before .before .read .ensures) (c .if1 .taken) (refl, refl)
 
-plan-in-requires : tie.Need-plan-in-requires
-plan-in-requires c κs = search needs
+returns-2 : tie.Need-returns-2
+returns-2 c = let-in _ _ (c .before .before .before .before .before .before .before .before .read .ensures) (c .before .before .before .before .before .before .if1 .left) (settles-own _ _ (search needs) (c .before .before .before .settle .ensures))
+
+read-requires : tie.Need-read-requires
+read-requires c κs = search needs
 
 settle-requires : tie.Need-settle-requires
 settle-requires c κs = search needs
 
 pub bench-for-header-settle-spec : {M : Type 1} → statement M
 bench-for-header-settle-spec =
-    tie.close (tie.spec
-    plan-in-requires
+    tie.close
+    (tie.spec
+    read-requires
+    returns
     (λ c. search needs)
     settle-requires
     (λ c. search needs)
-    returns)
+    returns-2)

@@ -1,19 +1,27 @@
+use mathlib.Core.Path.{refl}
 use borrow.Author.Needs.{needs}
+use Rattle.door.proofs.Files.{turned-away, let-in}
 use Rattle.door.proofs.bench_for_header_start.Statement.{statement}
 use Rattle.door.proofs.bench_for_header_start.Tie as tie
 
 returns : tie.Need-returns
-returns c = rw (c .before .before .before .before .plan-in .ensures) at (c .before .before .start .ensures)
+returns c = turned-away _ _ (c .before .before .read .ensures) (c .if1 .taken) refl
 
-plan-in-requires : tie.Need-plan-in-requires
-plan-in-requires c κs = search needs
+returns-2 : tie.Need-returns-2
+returns-2 c = let-in _ _ (c .before .before .before .before .before .before .read .ensures) (c .before .before .before .before .if1 .left) (c .before .before .start .ensures)
+
+read-requires : tie.Need-read-requires
+read-requires c κs = search needs
 
 start-requires : tie.Need-start-requires
 start-requires c κs = search needs
 
 pub bench-for-header-start-spec : {M : Type 1} → statement M
-bench-for-header-start-spec = tie.close (tie.spec
-    plan-in-requires
+bench-for-header-start-spec =
+    tie.close
+    (tie.spec
+    read-requires
+    returns
     start-requires
     (λ c. search needs)
-    returns)
+    returns-2)

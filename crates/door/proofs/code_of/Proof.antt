@@ -1,5 +1,5 @@
 use borrow.Author.Tests.{ne-eqb}
-use Rattle.door.specs.Numbers.{codeOf}
+use Rattle.codes.specs.Numbers.{codeOf}
 use Rattle.door.proofs.code_of.Statement.{statement}
 use Rattle.door.proofs.code_of.Tie as tie
 

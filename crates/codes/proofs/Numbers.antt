@@ -1,4 +1,4 @@
--- Codes by the numbers of C: the two numbers of a code say which it is, and a value above 63 has no byte, whatever the kind.
+-- Codes by their numbers: the two numbers of a code say which it is, and a value above 63 has no byte, whatever the kind.
 use mathlib.Core.Path.{_≡_, refl}
 use mathlib.Core.Bool.{Bool, true, false, cond}
 use Prim.Native.Nat.{ℕ, _<_}
@@ -6,10 +6,10 @@ use native.Mathlib.Omega.{arith}
 use lib.Dec.{eqb}
 use borrow.Author.Tests.{lt-leb}
 use Rattle.answers.specs.Answer.{refused}
 use Rattle.codes.specs.Codes.{writes, atMost}
 use Rattle.codes.specs.declared.Code.{Code}
 use Rattle.codes.specs.declared.Code.the-variants.{Time, Interrupt, Acknowledge, Reserved}
-use Rattle.door.specs.Numbers.{kindOf, valueOf, codeOf}
+use Rattle.codes.specs.Numbers.{kindOf, valueOf, codeOf}
 
 pub code-of-numbers : (code : Code) → codeOf (kindOf code) (valueOf code) ≡ code
 unfolding codeOf
