@@ -12,7 +12,7 @@ use Rattle.device.specs.declared.Action.the-variants.{Named, LinkError, 
 use Rattle.device.specs.declared.Reaction.{Reaction}
 use Rattle.device.specs.declared.Side.{Side}
 
--- an interrupt (kind 0) sets the bit of its identifier, an acknowledge (kind 1) clears it; there is no kind above 1, and one leaves the register as it is
+-- an interrupt (kind 0) sets the bit of its identifier, an acknowledge (kind 1) clears it; a number that is no kind changes nothing
 unfoldable pub marked : ℕ → ℕ → ℕ → ℕ
 marked kind register k = cond (eqb kind 0) (join register k) (cond (eqb kind 1) (leave register k) register)
 

@@ -26,8 +26,8 @@ pub struct Reaction {
     pub action: Action,
 }
 
-// May a port with these permissions send codes of the kind? There is no kind above 1, and no port
-// may send one.
+// May a port with these permissions send codes of the kind? There are kinds 0 and 1, and no port may
+// send another.
 pub fn may_send(kind: u8, permissions: u32) -> bool
     ensures { λ r. ⌜ r ≡ maySend kind permissions ⌝ }
 {
@@ -37,7 +37,7 @@ pub fn may_send(kind: u8, permissions: u32) -> bool
     bits::get(permissions, 2 * kind as u32) == 1
 }
 
-// May it receive them? Again, none above 1.
+// May it receive them?
 pub fn may_receive(kind: u8, permissions: u32) -> bool
     ensures { λ r. ⌜ r ≡ mayReceive kind permissions ⌝ }
 {
@@ -48,7 +48,7 @@ pub fn may_receive(kind: u8, permissions: u32) -> bool
 }
 
 // The register once a code of the kind was accepted: an interrupt sets the bit, an acknowledge
-// clears it. There is no kind above 1, and one leaves the register as it was.
+// clears it. A number that is no kind changes nothing.
 pub fn marked(kind: u8, register: u32, k: u8) -> u32
     ensures { λ r. ⌜ r ≡ Reaction·marked kind register k ⌝ }
 {

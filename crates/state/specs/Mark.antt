@@ -1,5 +1,5 @@
 -- RULES, "Between rounds" and "Rounds": a code of a kind is taken at device d: the bit of its identifier is set and its timer loaded, or cleared and stopped.
--- There is no kind above 1, and one would change nothing.
+-- A number that is no kind changes nothing.
 use mathlib.Core.Bool.{cond}
 use Prim.Native.Nat.{ℕ}
 use lib.Dec.{eqb}
