@@ -75,7 +75,7 @@ sentWord interrupts Nowhere = nothing
 unfoldable pub sends : State → ℕ → ℕ
 sends old q = sentWord (waiting old 0 q) (chosen old q)
 
--- it leaves its set, and next moves behind it
+-- it leaves its set, and next moves behind it; no identifier waits as both kinds, so to leave both sets is to leave its own
 unfoldable pub unqueued : State → ℕ → State → State
 unqueued old q s =
     elim (chosen old q) [

@@ -14,13 +14,14 @@ use Rattle.state.specs.State.{State, words, put, portAt, waiting, runnin
 abbrev pub sendsAt : ℕ → ℕ → ℕ → State → Bool
 sendsAt permissions kind q s = eqb (running s q) 1 && maySend kind permissions
 
+-- k is queued there as a code of the kind; 1 - kind is the other kind
 unfoldable pub queueAt : ℕ → ℕ → ℕ → ℕ → State → State
 queueAt permissions kind k q s =
     cond (sendsAt permissions kind q s)
     (put (put s (portAt q kind) (join (waiting s kind q) k)) (portAt q (1 - kind)) (leave (waiting s (1 - kind) q) k))
     s
 
--- by the permissions of all ports, at port p of device d, unless it is one that is left out, or nobody
+-- at port p of device d, by the permissions of all ports; the port `but` is left out, and none is where `but` is nobody
 abbrev pub queueBut : List ℕ → ℕ → ℕ → ℕ → ℕ → ℕ → State → State
 queueBut permissions kind k d but p s =
     cond (eqb (8 * d + p) but) s (queueAt (getD permissions (8 * d + p) 0) kind k (8 * d + p) s)
