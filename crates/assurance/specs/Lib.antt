@@ -1,2 +1,5 @@
 pub mod Demand3
 pub mod Between
+pub mod Return
+pub mod Cycle
+pub mod Clock
