@@ -17,13 +17,13 @@ use Rattle.state.specs.Network.{devices, router, peer, permissions, loadOf}
 use Rattle.state.specs.Sound.{Sound}
 use Rattle.state.proofs.Plans.{few}
 use Rattle.bench.specs.Round.{World, nothing, sentBytes, arrives, reached}
-use Rattle.bench.proofs.RoundSound.{arrives-sound}
+use Rattle.bench.proofs.RoundSound.{Opens, arrives-sound}
 use Rattle.laws.specs.Alike.{Alike, SendsIt}
 use Rattle.laws.proofs.Apart.{Both, about, arrives-aside, alike-same}
 use Rattle.assurance.proofs.Choices.{sends-small, sends-inside, sent-waits}
 use Rattle.assurance.proofs.Fits.{alike-back, Fit, fit-alike, fit-took}
 use Rattle.assurance.proofs.Taking.{Took, took}
-use Rattle.assurance.proofs.Entering.{Opens, arrives-meets, arrives-turns}
+use Rattle.assurance.proofs.Entering.{arrives-meets, arrives-turns}
 
 -- what changed does not concern identifier k, and no port's next
 record Aside (k : ℕ) (v t : State) : Type 0 where
@@ -167,7 +167,7 @@ module _ (plan : Plan) (kind k : ℕ) (s₀ : State) (takers : ℕ → Type 0) (
             ]
           ]
 
-      going-enters : ((d : ℕ) → d < devices plan → u < loadOf plan d k) → Sound plan t → Going u p t
+      going-enters : (kind ≡ 0 → (d : ℕ) → d < devices plan → u < loadOf plan d k) → Sound plan t → Going u p t
       going-enters loads y =
           let n = few plan held in
           record {
@@ -182,7 +182,7 @@ module _ (plan : Plan) (kind k : ℕ) (s₀ : State) (takers : ℕ → Type 0) (
 
     -- ---- one arrival
 
-    module _ (f : Fit plan kind k s₀ takers (suc u) s) (loads : (d : ℕ) → d < devices plan → u < loadOf plan d k) where
+    module _ (f : Fit plan kind k s₀ takers (suc u) s) (loads : kind ≡ 0 → (d : ℕ) → d < devices plan → u < loadOf plan d k) where
       module _ (j : ℕ) (i : j < 8 * devices plan) (w : World) where
         abbrev arrived : State
         arrived = arrives plan (sentBytes plan s) j w .state

@@ -1,20 +1,26 @@
--- A host's call is taken where its identifier waits nowhere: the flood starts from there.
+-- When a host's call is taken; and where its identifier waits nowhere, the flood starts from there.
 use mathlib.Core.Path.{_≡_, refl, sym, ap, _∙_}
 use mathlib.Core.Bool.{true, cond}
+use mathlib.Core.List.{[]}
 use mathlib.Core.Logic.{inl, inr, _≢_}
-use Prim.Native.Nat.{ℕ, _-_, _<_}
+use Prim.Native.Nat.{ℕ, _+_, _-_, _*_, _<_}
 use native.Mathlib.Decide.{ℕ-discrete}
 use native.Mathlib.Omega.{arith}
 use lib.Dec.{eqb}
+use borrow.Author.Tests.{eq-eqb}
+use Rattle.answers.specs.Ordered.{Ordered}
+use Rattle.answers.proofs.Outcomes.{passed}
+use Rattle.lists.proofs.Tests.{both}
 use Rattle.bits.specs.Set.{bit}
+use Rattle.device.specs.Permissions.{maySend}
 use Rattle.plan.specs.Fields.{nobody}
 use Rattle.plan.specs.Reading.{Held}
 use Rattle.plan.specs.declared.Plan.{Plan}
 use Rattle.state.specs.State.{State, register, timer, waiting, running}
-use Rattle.state.specs.Network.{devices, loadOf}
+use Rattle.state.specs.Network.{devices, permissions, loadOf}
 use Rattle.state.specs.Sound.{Sound}
 use Rattle.state.proofs.Plans.{few}
-use Rattle.calls.specs.Calls.{called}
+use Rattle.calls.specs.Calls.{owns, callAsks, called}
 use Rattle.calls.proofs.Called.{call-sound}
 use Rattle.laws.specs.Alike.{Alike}
 use Rattle.flood.specs.Flood.{Start}
@@ -22,6 +28,13 @@ use Rattle.assurance.proofs.Nets.{net}
 use Rattle.assurance.proofs.Sights.{sight, takersOf}
 use Rattle.assurance.proofs.Fits.{Fit, fit-alike, fit-took}
 use Rattle.assurance.proofs.Taking.{New, Took, called-took}
+
+-- the identifier is the node's, its bit is as the call asks, and port p of the node runs and may send
+pub call-taken : (plan : Plan) → Held plan → (kind d k p : ℕ) (s : State) → Sound plan s → d < devices plan → k < 32 → bit (owns plan kind d) k ≡ 1 → p < 8
+    → running s (8 * d + p) ≡ 1 → maySend kind (permissions plan (8 * d + p)) ≡ true → bit (register s d) k ≡ kind → Ordered (callAsks plan kind d k s) 0
+call-taken plan held kind d k p s x here l own h runs may stands =
+    let sends = both (eqb (running s (8 * d + p)) 1) _ (eq-eqb (running s (8 * d + p)) 1 runs) may in
+    passed (callAsks plan kind d k s) [] 0 (held, (x, (here, (l, (own, ((p, h, runs), ((p, h, sends), (stands, tt)))))))) refl
 
 -- device d alone took code k in, and it waits at the ports of d that run and may send it, and nowhere else
 pub record Begun (plan : Plan) (kind k d : ℕ) (s t : State) : Type 0 where
@@ -54,7 +67,7 @@ module _ (plan : Plan) (held : Held plan) (kind k : ℕ) (g : kind < 2) (l : k <
       }
 
   -- with u rounds to go, if no timer of k ends before
-  pub fit-first : Sound plan t → (u : ℕ) → ((e : ℕ) → e < devices plan → u < loadOf plan e k)
+  pub fit-first : Sound plan t → (u : ℕ) → (kind ≡ 0 → (e : ℕ) → e < devices plan → u < loadOf plan e k)
       → ((e : ℕ) → e < devices plan → bit (register s e) k ≡ 1 → u < timer s e k) → Fit plan kind k s (takersOf kind k s) u t
   fit-first y u loads long =
       fit-alike plan kind k s (takersOf kind k s) held g u like y

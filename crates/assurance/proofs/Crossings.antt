@@ -1,15 +1,17 @@
--- Crossings in the network that a code spreads over are the walks of the rules, where every device takes the code in.
-use mathlib.Core.Path.{_≡_, refl, sym, subst}
+-- Crossings in the network that a code spreads over are the walks of the rules, where every device that a walk gets to takes the code in. A walk
+-- asks only which ports run.
+use mathlib.Core.Path.{_≡_, refl, sym, subst, _∙_}
 use mathlib.Core.Logic.{inl, inr}
 use Prim.Native.Nat.{ℕ, suc, _+_, _*_, _/_, _≤_, _<_}
+use native.Mathlib.Decide.{decLe}
 use native.Mathlib.Omega.{arith}
 use Rattle.plan.specs.Reading.{Held}
 use Rattle.plan.specs.declared.Plan.{Plan}
-use Rattle.state.specs.State.{State}
+use Rattle.state.specs.State.{State, running}
 use Rattle.state.specs.Network.{devices}
 use Rattle.state.proofs.Plans.{few}
 use Rattle.reach.specs.Walk.{Walk, stay, cross}
-use Rattle.reach.specs.Away.{Farthest}
+use Rattle.reach.specs.Away.{Away}
 use Rattle.reach.proofs.Found.{none-away}
 use Rattle.reach.proofs.Distances.{walk-device, walk-port, nearest}
 use Rattle.flood.specs.Flood.{Crossed, here, cross as step, Relays, Within}
@@ -33,7 +35,7 @@ module _ (plan : Plan) (held : Held plan) (kind k : ℕ) (s : State) (takers : �
             (suc (before .0), omega (arith, before .1), walk-port plan held s kind k source h q (before .2) (inr router) (leads .1))
       ]
 
-  module _ (all : (e : ℕ) → e < devices plan → takers e) where
+  module _ (all : (n e : ℕ) → Walks n e → takers e) where
     pub walk-crossed : {n e : ℕ} → Walks n e → Crosses n e
     walk-crossed stay = here
     walk-crossed (cross {n = n} {d = d} {e = e} w on p l leads) =
@@ -42,13 +44,39 @@ module _ (plan : Plan) (held : Held plan) (kind k : ℕ) (s : State) (takers : �
         elim on [ inl none ↦ inl (none-away w none) | inr router ↦ inr router ] in
         let small : 8 * d + p < 256 = omega (arith, walk-device plan held s kind k source h w, few plan held) in
         step {n = n} (8 * d + p) (rw device (walk-crossed w)) (rw device relays)
-        (small, leads, all e (walk-device plan held s kind k source h (cross w on p l leads)))
+        (small, leads, all (suc n) e (cross w on p l leads))
 
     -- no device that is reached needs more crossings than the farthest
-    pub farthest-within : (D : ℕ) → Farthest plan s kind k source D → Within (net plan kind k s takers source) D
-    farthest-within D x =
+    pub farthest-within : (D : ℕ) → ((n e : ℕ) → Away plan s kind k source n e → n ≤ D) → Within (net plan kind k s takers source) D
+    farthest-within D most =
         record {
           shorter = λ {n} {d} way.
               let near = nearest plan held s kind k source h (crossed-walk way .2) in
-              (near .0, x .most (near .0) d (near .2), walk-crossed (near .2 .there));
+              (near .0, most (near .0) d (near .2), walk-crossed (near .2 .there));
         }
+
+-- no walk is shorter than a device is away
+pub away-least : {plan : Plan} {s : State} {kind k from n m e : ℕ} → Away plan s kind k from n e → Walk plan s kind k from m e → n ≤ m
+away-least {n = n} {m = m} a w = elim (decLe n m) [ yes l ↦ l | no l ↦ absurd (a .least m (omega arith) w) ]
+
+-- ---- two states in which the same ports run
+
+abbrev SameLinks : State → State → Type 0
+SameLinks s t = (q : ℕ) → q < 256 → running s q ≡ running t q
+
+module _ (plan : Plan) (held : Held plan) (kind k from : ℕ) (h : from < devices plan) where
+  pub walk-same : {s t : State} → SameLinks s t → {n e : ℕ} → Walk plan s kind k from n e → Walk plan t kind k from n e
+  walk-same same stay = stay
+  walk-same {s} same (cross {d = d} w on p l leads) =
+      let small : 8 * d + p < 256 = omega (arith, walk-device plan held s kind k from h w, few plan held) in
+      cross (walk-same same w) on p l
+      (record {
+        runs = sym (same (8 * d + p) small) ∙ leads .runs;
+        sends = leads .sends;
+        joined = leads .joined;
+        receives = leads .receives;
+        there = leads .there;
+      })
+
+  pub away-same : {s t : State} → SameLinks s t → {n e : ℕ} → Away plan s kind k from n e → Away plan t kind k from n e
+  away-same same a = record { there = walk-same same (a .there); least = λ m l w. a .least m l (walk-same (λ q b. sym (same q b)) w) }

@@ -1,100 +1,94 @@
--- Demand 3, proved: the rounds after a request that is taken are a run of the flood, and the flood's crossings are the walks.
+-- Demand 3, proved: what follows a request that is taken is a trip of the interrupt. It may go on behind the window.
 use mathlib.Core.Path.{_≡_, refl}
-use Prim.Native.Nat.{ℕ, suc, _+_, _-_, _<_}
+use Prim.Native.Nat.{ℕ, suc, _+_, _≤_, _<_}
 use native.Mathlib.Nat.{le-refl}
 use native.Mathlib.Omega.{arith}
+use Rattle.answers.specs.Ordered.{Ordered}
 use Rattle.answers.proofs.Outcomes.{holds}
 use Rattle.bits.specs.Set.{bit}
-use Rattle.bits.proofs.Sets.{bit-two}
+use Rattle.plan.specs.Reading.{Held}
 use Rattle.plan.specs.declared.Plan.{Plan}
-use Rattle.state.specs.State.{State, waiting}
-use Rattle.state.specs.Network.{devices}
+use Rattle.state.specs.State.{State}
+use Rattle.state.specs.Network.{devices, source, loadOf}
 use Rattle.state.specs.Sound.{Sound}
-use Rattle.state.proofs.Keeping.{both-kinds}
 use Rattle.calls.specs.Calls.{callAsks, called}
 use Rattle.calls.proofs.Called.{call-sound}
 use Rattle.bench.specs.Round.{round}
-use Rattle.flood.specs.Flood.{Flooded}
-use Rattle.flood.proofs.Spreads.{flooded}
-use Rattle.assurance.specs.Demand3.{Given, Follows, Demand3, SendsK, crossing, window}
-use Rattle.assurance.proofs.Nets.{net}
-use Rattle.assurance.proofs.Sights.{sight, sending, takersOf}
-use Rattle.assurance.proofs.Choices.{sends-small}
-use Rattle.assurance.proofs.Fits.{Fit}
-use Rattle.assurance.proofs.Arrivals.{of-kind}
+use Rattle.reach.specs.Away.{Away}
+use Rattle.reach.proofs.Distances.{walk-device}
+use Rattle.assurance.specs.Demand3.{Course, Given, Follows, Demand3, window}
+use Rattle.assurance.specs.Cycle.{AtRest}
 use Rattle.assurance.proofs.Meanwhile.{Beside, course-begins, course-goes-on}
-use Rattle.assurance.proofs.Runs.{Ready, fit, run}
-use Rattle.assurance.proofs.Crossings.{crossed-walk, walk-crossed, farthest-within}
+use Rattle.assurance.proofs.Runs.{Ready}
+use Rattle.assurance.proofs.Trips.{Trip, trip}
 
-module _ (plan : Plan) (k source D : ℕ) (s : State) (at : ℕ → State) (given : Given plan k source D s at) where
-  abbrev last : ℕ
-  last = window D
+-- where k is at rest, a request for it is taken
+pub record Asked (plan : Plan) (k from : ℕ) (s : State) : Type 0 where
+  pub held : Held plan
+  pub at-rest : AtRest plan k s
+  pub taken : Ordered (callAsks plan 0 from k s) 0
 
-  abbrev takers : ℕ → Type 0
-  takers = takersOf 0 k s
-
-  pub there : source < devices plan
-  there = holds (callAsks plan 0 source k s) refl (given .taken) refl .1 .1 .0
+module _ {plan : Plan} {k from : ℕ} {s : State} (a : Asked plan k from s) where
+  pub there : from < devices plan
+  there = holds (callAsks plan 0 from k s) refl (a .taken) refl .1 .1 .0
 
   pub place : k < 32
-  place = holds (callAsks plan 0 source k s) refl (given .taken) refl .1 .1 .1 .0
+  place = holds (callAsks plan 0 from k s) refl (a .taken) refl .1 .1 .1 .0
 
-  ready : Ready plan 0 k source last s
-  ready =
+  pub requests : bit (source plan from) k ≡ 1
+  requests = holds (callAsks plan 0 from k s) refl (a .taken) refl .1 .1 .1 .1 .0
+
+  pub first : Sound plan (called plan 0 from k s)
+  first = call-sound plan (a .held) s (a .at-rest .sound) 0 from k (omega arith) there place
+
+  -- for so many rounds nobody calls for k
+  module _ {last : ℕ} {at : ℕ → State} (course : Course plan k last (called plan 0 from k s) at) where
+    pub later : (t : ℕ) → t < last → Beside plan k (round plan (at t) .next) (at (suc t))
+    later = course-goes-on plan (a .held) k place last (called plan 0 from k s) at first course
+
+    -- and no timer of k ends in them, or in some more
+    module _ (spare : ℕ) (loads : (d : ℕ) → d < devices plan → last + spare < loadOf plan d k) where
+      ready : Ready plan 0 k from last spare s
+      ready =
+          record {
+            held = a .held;
+            kinds = omega arith;
+            place = place;
+            there = there;
+            sound = a .at-rest .sound;
+            idle = a .at-rest .idle;
+            stood = a .at-rest .unset from there;
+            loads = λ z. loads;
+            long = λ e h b. absurd (omega (arith, a .at-rest .unset e h));
+          }
+
+      pub goes-out : (D : ℕ) → ((n e : ℕ) → Away plan s 0 k from n e → n ≤ D) → Trip plan 0 k from D last spare s at
+      goes-out =
+          trip ready at (course-begins plan (a .held) k place last (called plan 0 from k s) at first course) later
+          (λ n e w. a .at-rest .unset e (walk-device plan (a .held) s 0 k from there w))
+
+module _ {plan : Plan} {k from D : ℕ} {s : State} {at : ℕ → State} (given : Given plan k from D s at) where
+  pub asked : Asked plan k from s
+  asked =
       record {
         held = given .held;
-        kinds = omega arith;
-        place = place;
-        there = there;
-        sound = given .sound;
-        idle = given .idle;
-        stood = given .unset source there;
-        loads = given .loads;
-        long = λ e h b. absurd (omega (arith, given .unset e h));
+        at-rest = record { sound = given .sound; unset = given .unset; idle = given .idle };
+        taken = given .taken;
       }
 
-  pub first : Sound plan (called plan 0 source k s)
-  first = call-sound plan (given .held) s (given .sound) 0 source k (omega arith) there place
+  -- the trip of the window
+  pub out : Trip plan 0 k from D (window D) 0 s at
+  out = goes-out asked (given .course) 0 (λ d h. omega (arith, given .loads d h)) D (given .farthest .most)
 
-  begins : Beside plan k (called plan 0 source k s) (at 0)
-  begins = course-begins plan (given .held) k place last (called plan 0 source k s) at first (given .course)
-
-  goes-on : (t : ℕ) → t < last → Beside plan k (round plan (at t) .next) (at (suc t))
-  goes-on = course-goes-on plan (given .held) k place last (called plan 0 source k s) at first (given .course)
-
-  -- with u rounds to go
-  fits : (t u : ℕ) → u + t ≡ last → Fit plan 0 k s takers u (at t)
-  fits = fit ready at begins goes-on
-
-  flood : Flooded (net plan 0 k s takers source) crossing last D (λ t. sight plan 0 k s takers source (at t)) (λ t. sending plan 0 k (at t))
-  flood =
-      flooded (net plan 0 k s takers source) crossing last (omega arith) (λ t. sight plan 0 k s takers source (at t)) (λ t. sending plan 0 k (at t))
-      (run ready at begins goes-on) D (farthest-within plan (given .held) 0 k s takers source there (given .unset) D (given .farthest))
-
-  -- what is sent of k is an interrupt: no acknowledge of k waits
-  interrupt : (q t : ℕ) → t < last → SendsK plan k (at t) q → sending plan 0 k (at t) q
-  interrupt q t h x =
-      let is = of-kind plan 0 k s takers (at t) (given .held) (omega arith) place (fits t (last - t) (omega arith)) (x .0) q (x .1) (x .2) in
-      (sends-small plan k (x .0) (at t) q place (x .1) (x .2), rw is at (x .2))
-
-  no-interrupt : (q : ℕ) → q < 256 → bit (waiting (at last) 0 q) k ≡ 0
-  no-interrupt q h =
-      let none : bit (waiting (at last) 0 q) k ≡ 1 → ⊥ = λ b. flood .done last (le-refl _) (le-refl _) (h, b) in
-      omega (arith, bit-two (waiting (at last) 0 q) k)
-
-  pub follows : Follows plan k source D s at
+  pub follows : Follows plan k from D s at
   follows =
       record {
-        holds = λ n e t w from to. flood .reached (walk-crossed plan (given .held) 0 k s takers source there (given .unset) w) t from to .2;
-        no-other = λ e t h to b.
-            let way = flood .only t to {d = e} (h, given .unset e h, b) in
-            let walk = crossed-walk plan (given .held) 0 k s takers source there (way .1) in
-            (walk .0, walk .2);
-        once = λ q t u lt to x y. flood .once t u lt to (interrupt q t (omega arith) x) (interrupt q u to y);
-        gone = λ kind q g h.
-            both-kinds (λ c. bit (waiting (at last) c q) k ≡ 0) (no-interrupt q h) (fits last 0 (omega arith) .other q h) kind g;
+        holds = out .gets;
+        no-other = λ e t h to b. let way = out .only e t h to (given .unset e h) b in (way .0, way .2);
+        once = out .once;
+        gone = out .gone (window D) (le-refl _) (le-refl _);
       }
 
 pub demand-3 : Demand3
 unfolding Demand3
-demand-3 = follows
+demand-3 plan k from D s at given = follows given

@@ -49,7 +49,7 @@ module _ (plan : Plan) (kind k : ℕ) (s₀ : State) (takers : ℕ → Type 0) w
       }
 
   -- a device that takes the code in stays fit
-  pub fit-took : Held plan → kind < 2 → (u : ℕ) → ((d : ℕ) → d < devices plan → u < loadOf plan d k) → {d but : ℕ} {hands : Bool} {v t : State}
+  pub fit-took : Held plan → kind < 2 → (u : ℕ) → (kind ≡ 0 → (d : ℕ) → d < devices plan → u < loadOf plan d k) → {d but : ℕ} {hands : Bool} {v t : State}
       → d < devices plan → Took plan kind k d but hands v t → Sound plan t → Fit u v → Fit u t
   fit-took held g u loads {d} {t = t} h x y f =
       let n = few plan held in
@@ -60,7 +60,7 @@ module _ (plan : Plan) (kind k : ℕ) (s₀ : State) (takers : ℕ → Type 0) w
         long = λ e b o. elim (ℕ-discrete e d) [
           | yes is ↦
               let zero : kind ≡ 0 = omega (arith, x .held, ap (λ i. bit (register t i) k) is) in
-              rw is (rw (x .timed, zero) (loads d h))
+              rw is (rw (x .timed, zero) (loads zero d h))
           | no ne ↦
               let same = x .others e (omega arith) ne in
               rw (same .1) (f .long e b (ap (λ r. bit r k) (sym (same .0)) ∙ o))

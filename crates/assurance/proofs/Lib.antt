@@ -11,6 +11,14 @@ pub mod Begun
 pub mod Meanwhile
 pub mod Runs
 pub mod Crossings
+pub mod Trips
 pub mod Demand
 pub mod Between
 pub mod Users
+pub mod Backward
+pub mod Hearing
+pub mod Quiet
+pub mod Return
+pub mod Cycle
+pub mod Clock
+pub mod Instances

@@ -18,6 +18,7 @@ use Rattle.laws.proofs.Apart.{alike-same, call-apart}
 use Rattle.assurance.specs.Demand3.{Calls, none, then, Course}
 use Rattle.assurance.specs.Between.{After}
 use Rattle.assurance.proofs.Taking.{called-took}
+use Rattle.assurance.proofs.Fits.{alike-back}
 
 pub alike-then : {k : ℕ} {s t u : State} → Alike k s t → Alike k t u → Alike k s u
 alike-then a b =
@@ -26,15 +27,6 @@ alike-then a b =
       timers = λ d h. a .timers d h ∙ b .timers d h;
       waits = λ kind q g h. a .waits kind q g h ∙ b .waits kind q g h;
       runs = λ q h. a .runs q h ∙ b .runs q h;
-    }
-
-alike-back : {k : ℕ} {s t : State} → Alike k s t → Alike k t s
-alike-back a =
-    record {
-      marks = λ d h. sym (a .marks d h);
-      timers = λ d h. sym (a .timers d h);
-      waits = λ kind q g h. sym (a .waits kind q g h);
-      runs = λ q h. sym (a .runs q h);
     }
 
 -- what s becomes where nothing that is done concerns k
@@ -62,7 +54,7 @@ module _ (plan : Plan) (held : Held plan) (k : ℕ) (l : k < 32) where
       ]
 
   module _ (rounds : ℕ) (s : State) (at : ℕ → State) (x : Sound plan s) (course : Course plan k rounds s at) where
-    course-sound : (t : ℕ) → t ≤ rounds → Sound plan (at t)
+    pub course-sound : (t : ℕ) → t ≤ rounds → Sound plan (at t)
     course-sound zero h = calls-beside x (course .begins) .sound
     course-sound (suc t) h = calls-beside (round-sound plan held (at t) (course-sound t (omega arith))) (course .goes-on t h) .sound
 

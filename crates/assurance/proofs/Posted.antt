@@ -103,7 +103,7 @@ module _ (plan : Plan) (held : Held plan) {s : State} (x : Sound plan s) where
   falls-sound : Sound plan falls
   falls-sound = ticked-sound plan held start x
 
-  posts-sound : Sound plan posts
+  pub posts-sound : Sound plan posts
   posts-sound = posted-sound plan held s x falls falls-sound
 
   falls-port : (q i : ℕ) → word falls (portAt q i) ≡ word s (portAt q i)
@@ -113,7 +113,7 @@ module _ (plan : Plan) (held : Held plan) {s : State} (x : Sound plan s) where
       untouched (turn plan) (λ v. word (v .state) (portAt q i)) (32 * devices plan)
       (λ j v b. tick-other (router plan (j / 32)) (j / 32) (j % 32) v (portAt q i) (omega arith) (omega arith)) start
 
-  posts-runs : (q : ℕ) → running posts q ≡ running s q
+  pub posts-runs : (q : ℕ) → running posts q ≡ running s q
   unfolding posted
   posts-runs q =
       untouched (unqueued s) (λ t. running t q) (8 * devices plan) (λ j t b. unqueued-other s j t (portAt q runningAt) (omega arith) (omega arith) (omega arith)) falls

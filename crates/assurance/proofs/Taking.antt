@@ -26,6 +26,7 @@ use Rattle.state.proofs.Keeping.{both-kinds}
 use Rattle.state.proofs.Marks.{mark-other}
 use Rattle.state.proofs.Waits.{queue-all-left}
 use Rattle.calls.specs.Calls.{called}
+use Rattle.bench.proofs.RoundSound.{taking}
 
 module _ (plan : Plan) (kind k : ℕ) where
   -- port p, which had not queued the code: it is one of device d, it runs, and it may send the code
@@ -54,9 +55,6 @@ module _ (plan : Plan) (kind k : ℕ) where
     pub others : (e : ℕ) → e < 32 → e ≢ d → (register t e ≡ register s e) × (timer t e k ≡ timer s e k)
     pub fresh : (p : ℕ) → p < 256 → bit (waiting t kind p) k ≡ 1 → bit (waiting s kind p) k ≡ 1 ⊎ ((hands ≡ true) × New d s p)
     pub all : (p : ℕ) → p < 256 → p ≢ but → hands ≡ true → New d s p → bit (waiting t kind p) k ≡ 1
-
-  abbrev pub taking : ℕ → ℕ → Bool → State → State
-  taking d but hands s = cond hands (queueAll plan kind k d but (mark plan kind d k s)) (mark plan kind d k s)
 
 -- ---- the code is queued
 

@@ -1,5 +1,5 @@
 -- Demand 3 in the words of somebody who calls reach, then request, and then plays the rounds of the window: who holds the identifier then,
--- how often a port sends it, and that it is on no link any more.
+-- how often a port sends it, and that it is on no link any more; and what settling finds of it.
 use mathlib.Core.Path.{_≡_, refl, sym, ap, ap₂, _∙_}
 use mathlib.Core.List.{[]}
 use mathlib.Core.Logic.{dite}
@@ -7,21 +7,29 @@ use Prim.Native.Nat.{ℕ, zero, suc, _+_, _≤_, _<_}
 use native.Mathlib.Decide.{decLt, ℕ-discrete}
 use native.Mathlib.Nat.{le-refl}
 use native.Mathlib.Omega.{arith}
+use Rattle.answers.specs.Ordered.{Ordered}
 use Rattle.answers.proofs.Outcomes.{holds, passed}
 use Rattle.answers.proofs.Unique.{ordered-once}
 use Rattle.bits.specs.Set.{bit, sizeBelow, size}
-use Rattle.bits.proofs.Sets.{bit-two}
+use Rattle.bits.proofs.Sets.{bit-two, bit-zero}
+use Rattle.lists.specs.Loop.{upTo}
+use Rattle.plan.specs.Reading.{Held}
 use Rattle.plan.specs.declared.Plan.{Plan}
-use Rattle.state.specs.State.{State, register}
+use Rattle.state.specs.State.{State, register, waiting}
 use Rattle.state.specs.Network.{devices}
 use Rattle.state.proofs.Plans.{few}
-use Rattle.calls.specs.Calls.{callAsks}
+use Rattle.calls.specs.Calls.{callAsks, called}
+use Rattle.bench.specs.Round.{round}
+use Rattle.bench.specs.Settling.{rounds, Quiet, Least}
 use Rattle.bench.specs.Trials.{holders}
 use Rattle.reach.specs.Reach.{Reached, reachAsks, Reaches}
 use Rattle.reach.proofs.Distances.{walk-device, reached-counted}
-use Rattle.assurance.specs.Demand3.{Given, Follows, Demand3, SendsK, window}
-use Rattle.assurance.proofs.Choices.{sends-small, sends-inside, sent-waits}
-use Rattle.assurance.proofs.Demand.{there, place, demand-3}
+use Rattle.assurance.specs.Demand3.{Calls, none, Course, Given, Follows, SendsK, window}
+use Rattle.assurance.specs.Cycle.{AtRest}
+use Rattle.assurance.proofs.Meanwhile.{course-sound}
+use Rattle.assurance.proofs.Demand.{Asked, there, place, first, later, asked, out, follows}
+use Rattle.assurance.proofs.Quiet.{none-sends, idle-lasts}
+use Rattle.assurance.proofs.Cycle.{longer-sound, longer-idle}
 
 -- ---- how many hold an identifier is how many are in the set of those that hold it
 
@@ -45,14 +53,13 @@ module _ (plan : Plan) (k source D : ℕ) (s : State) (at : ℕ → State) (give
   end = at (window D)
 
   said : Follows plan k source D s at
-  unfolding Demand3
-  said = demand-3 plan k source D s at given
+  said = follows given
 
   inside : source < devices plan
-  inside = there plan k source D s at given
+  inside = there (asked given)
 
   small : k < 32
-  small = place plan k source D s at given
+  small = place (asked given)
 
   -- ---- the devices that hold k at the end are those that reach answered with before the request
 
@@ -106,7 +113,33 @@ module _ (plan : Plan) (k source D : ℕ) (s : State) (at : ℕ → State) (give
 
   -- and none at all in the round after the last: k has left every link
   pub off-the-links : (q : ℕ) → SendsK plan k end q → ⊥
-  off-the-links q x =
-      let kind = x .0 in
-      let b = sent-waits plan (given .held) k small end q (sends-inside plan k kind end q small (x .1) (x .2)) kind (x .1) (x .2) in
-      omega (arith, b, said .gone kind q (x .1) (sends-small plan k kind end q small (x .1) (x .2)))
+  off-the-links = none-sends plan (given .held) k small (out given .sound (window D) (le-refl _)) (said .gone)
+
+  -- nor in any round after it, as long as nobody calls for k: it has left them for good
+  pub for-good : (last : ℕ) → ((t : ℕ) → window D ≤ t → t < last → Calls plan k (round plan (at t) .next) (at (suc t)))
+      → (q t : ℕ) → window D ≤ t → t ≤ last → SendsK plan k (at t) q → ⊥
+  for-good last on q t since to =
+      none-sends plan (given .held) k small (longer-sound given on t to) (longer-idle given on t since to) q
+
+-- ---- a network that carries nothing else: after as many rounds as settling answers, and after more, k waits nowhere, as `Sooner` asks
+
+module _ (plan : Plan) (k from n : ℕ) (s : State) (held : Held plan) (at-rest : AtRest plan k s) (taken : Ordered (callAsks plan 0 from k s) 0)
+    (settles : Least plan (called plan 0 from k s) n) where
+  sent : Asked plan k from s
+  sent = record { held = held; at-rest = at-rest; taken = taken }
+
+  abbrev alone : ℕ → State
+  alone t = rounds plan t (called plan 0 from k s)
+
+  plain : (until : ℕ) → Course plan k until (called plan 0 from k s) alone
+  unfolding upTo
+  plain until = record { begins = none; goes-on = λ t h. none }
+
+  pub settling-quiets : (until : ℕ) → n ≤ until
+      → Course plan k until (called plan 0 from k s) alone × ((kind q : ℕ) → kind < 2 → q < 256 → bit (waiting (alone until) kind q) k ≡ 0)
+  unfolding Quiet
+  settling-quiets until h = (
+    plain until,
+    idle-lasts plan held k (place sent) alone until (course-sound plan held k (place sent) until (called plan 0 from k s) alone (first sent) (plain until))
+        (later sent (plain until)) n (λ kind q g b. ap (λ v. bit v k) (settles .quiet q kind b g) ∙ bit-zero k) until h (le-refl _),
+  )

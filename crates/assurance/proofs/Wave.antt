@@ -25,7 +25,7 @@ use Rattle.assurance.proofs.Posted.{posts-next, posts-marks, posts-wait
 use Rattle.assurance.proofs.Arrivals.{Came, Going, all-going, gets-in}
 
 module _ (plan : Plan) (held : Held plan) (kind k : ℕ) (g : kind < 2) (l : k < 32) (s₀ : State) (takers : ℕ → Type 0) where
-  module _ (u : ℕ) (loads : (d : ℕ) → d < devices plan → u < loadOf plan d k) {s : State} (f : Fit plan kind k s₀ takers (suc u) s) where
+  module _ (u : ℕ) (loads : kind ≡ 0 → (d : ℕ) → d < devices plan → u < loadOf plan d k) {s : State} (f : Fit plan kind k s₀ takers (suc u) s) where
     -- after the timers and the sending
     abbrev posts : State
     posts = afterSending plan s .state

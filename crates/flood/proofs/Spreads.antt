@@ -63,13 +63,18 @@ module _ (N : Net) (W last : ℕ) (pos : 0 < W) (at : ℕ → Sight N) (sends : 
         | inr x ↦ persist (W * n) t (omega arith) k x
       ]
 
-  holders : (t : ℕ) → t ≤ last → {d : N .Device} → at t .holds d → (n : ℕ) × Crossed N n d
-  holders zero h x = (0, subst (Crossed N 0) (sym (r .start .alone x)) here)
+  -- where it waits nowhere, all that it leads to have it
+  complete : (t : ℕ) → t ≤ last → ((q : N .Port) → at t .waits q → ⊥) → {n : ℕ} {d : N .Device} → Crossed N n d → at t .holds d
+  complete t h none here = persist 0 t zero-le h (r .start .source-holds)
+  complete t h none (cross q w y l) = elim (covered t h (complete t h none w) y l) [ inl x ↦ absurd (none q x) | inr x ↦ x ]
+
+  holders : (t : ℕ) → t ≤ last → {d : N .Device} → at t .holds d → (n : ℕ) × (n ≤ t) × Crossed N n d
+  holders zero h x = (0, zero-le, subst (Crossed N 0) (sym (r .start .alone x)) here)
   holders (suc t) h x = elim (r .step t h .begins x) [
-    | inl y ↦ holders t (omega arith) y
+    | inl y ↦ let p = holders t (omega arith) y in (p .0, omega (arith, p .1), p .2)
     | inr y ↦ let o = owned t (omega arith) (r .step t h .waited (y .1)) in
         let p = holders t (omega arith) (o .0) in
-        (suc (p .0), cross (y .0) (p .1) (o .1) (y .2))
+        (suc (p .0), omega (arith, p .1), cross (y .0) (p .2) (o .1) (y .2))
   ]
 
   -- a port that has sent the code never has it waiting again
@@ -103,7 +108,7 @@ module _ (N : Net) (W last : ℕ) (pos : 0 < W) (at : ℕ → Sight N) (sends : 
   module _ (D : ℕ) (near : Within N D) where
     calm : (u : ℕ) → W * D ≤ u → u < last → (d : N .Device) → at (suc u) .holds d → at u .holds d
     calm u h k d x =
-        let p = near .shorter (holders (suc u) k x .1) in
+        let p = near .shorter (holders (suc u) k x .2) in
         let le = mul-le-mul-left W (p .1) in
         arrive (p .2) u (omega arith) (omega arith)
 
@@ -117,6 +122,7 @@ module _ (N : Net) (W last : ℕ) (pos : 0 < W) (at : ℕ → Sight N) (sends : 
     flooded = record {
       reached = arrive;
       only = holders;
+      complete = complete;
       once = λ t u h k s v. spent t u h (omega arith) s (r .step u k .waited v);
       done = empty;
     }

@@ -74,9 +74,11 @@ pub record Run (N : Net) (W last : ℕ) (at : ℕ → Sight N) (sends : ℕ → 
 pub record Flooded (N : Net) (W last D : ℕ) (at : ℕ → Sight N) (sends : ℕ → N .Port → Type 0) : Type 0 where
   -- a device n crossings away holds the code from the end of round W x n on
   pub reached : {n : ℕ} {d : N .Device} → Crossed N n d → (t : ℕ) → W * n ≤ t → t ≤ last → at t .holds d
-  -- none out of reach holds it
-  pub only : (t : ℕ) → t ≤ last → {d : N .Device} → at t .holds d → (n : ℕ) × Crossed N n d
+  -- none out of reach holds it, and nobody sooner than a round for each crossing
+  pub only : (t : ℕ) → t ≤ last → {d : N .Device} → at t .holds d → (n : ℕ) × (n ≤ t) × Crossed N n d
   -- no port sends it twice
   pub once : {q : N .Port} (t u : ℕ) → t < u → u < last → sends t q → sends u q → ⊥
+  -- wherever it waits nowhere, it has got to all devices that it can get to
+  pub complete : (t : ℕ) → t ≤ last → ((q : N .Port) → at t .waits q → ⊥) → {n : ℕ} {d : N .Device} → Crossed N n d → at t .holds d
   -- after W x (D + 1) rounds it waits nowhere
   pub done : (t : ℕ) → W * (D + 1) ≤ t → t ≤ last → {q : N .Port} → at t .waits q → ⊥

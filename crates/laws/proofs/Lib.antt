@@ -1,3 +1,4 @@
 pub mod Accepting
 pub mod Apart
 pub mod Timers
+pub mod Telling

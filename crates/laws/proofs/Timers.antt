@@ -87,10 +87,10 @@ timed-bit {s} {d} {k} t =
 abbrev pub turn : Plan → ℕ → World → World
 turn plan i = tick (router plan (i / 32)) (i / 32) (i % 32)
 
-module _ (plan : Plan) (held : Held plan) (d k : ℕ) (h : d < devices plan) (l : k < 32) where
-  turn-sound : (i : ℕ) (v : World) → i < 32 * devices plan → Sound plan (v .state) → Sound plan (turn plan i v .state)
-  turn-sound i v b y = tick-step plan held y (i / 32) (omega arith) (router plan (i / 32)) (i % 32) (v .told) (omega arith)
+pub turn-sound : (plan : Plan) → Held plan → (i : ℕ) (v : World) → i < 32 * devices plan → Sound plan (v .state) → Sound plan (turn plan i v .state)
+turn-sound plan held i v b y = tick-step plan held y (i / 32) (omega arith) (router plan (i / 32)) (i % 32) (v .told) (omega arith)
 
+module _ (plan : Plan) (held : Held plan) (d k : ℕ) (h : d < devices plan) (l : k < 32) where
   -- that of this timer, and the others
   turn-here : (P : ℕ → ℕ → Type 0) → P d k → P ((32 * d + k) / 32) ((32 * d + k) % 32)
   turn-here P p =
@@ -106,7 +106,7 @@ module _ (plan : Plan) (held : Held plan) (d k : ℕ) (h : d < devices plan) (l 
     unfolding ticked
     ticked-timer =
         let n = few plan held in
-        own (turn plan) (λ v. Sound plan (v .state)) (32 * devices plan) turn-sound (λ v. timer (v .state) d k) (λ t. t - 1) (32 * d + k) (omega arith)
+        own (turn plan) (λ v. Sound plan (v .state)) (32 * devices plan) (turn-sound plan held) (λ v. timer (v .state) d k) (λ t. t - 1) (32 * d + k) (omega arith)
         (λ i v b ne y. turn-other i v ne)
         (λ v y. turn-here (λ e j. timer (tick (router plan e) e j v .state) d k ≡ timer (v .state) d k - 1)
         (tick-own (router plan d) d k v (y .size) (omega arith) l))
@@ -124,10 +124,10 @@ module _ (plan : Plan) (held : Held plan) (d k : ℕ) (h : d < devices plan) (l 
         (turn-here (λ e j. List·Memᴰ (toldWord ofTimeout d k) (tick (router plan e) e j (upTo (turn plan) (32 * d + k) w) .told))
         (tick-tells (router plan d) d k (upTo (turn plan) (32 * d + k) w) node (before-turn ∙ o)))
 
-    ticked-came : List·Memᴰ (toldWord ofTimeout d k) (ticked plan w .told) → List·Memᴰ (toldWord ofTimeout d k) (w .told) ⊎ ((timer (w .state) d k ≡ 1) × (router plan d ≡ false))
+    pub ticked-came : List·Memᴰ (toldWord ofTimeout d k) (ticked plan w .told) → List·Memᴰ (toldWord ofTimeout d k) (w .told) ⊎ ((timer (w .state) d k ≡ 1) × (router plan d ≡ false))
     unfolding ticked
     ticked-came m =
-        elim (came (turn plan) (λ v. Sound plan (v .state)) (32 * devices plan) turn-sound (λ v. List·Memᴰ (toldWord ofTimeout d k) (v .told))
+        elim (came (turn plan) (λ v. Sound plan (v .state)) (32 * devices plan) (turn-sound plan held) (λ v. List·Memᴰ (toldWord ofTimeout d k) (v .told))
         (λ i v. (i ≡ 32 * d + k) × (timer (v .state) d k ≡ 1) × (router plan d ≡ false)) by-turn w x m) [
           | inl a ↦ inl a
           | inr b ↦ inr (sym before-turn ∙ ap (λ i. timer (upTo (turn plan) i w .state) d k) (sym (b .2 .0)) ∙ b .2 .1, b .2 .2)
@@ -269,7 +269,7 @@ module _ (plan : Plan) (held : Held plan) (w : World) (d k : ℕ) where
   reached-more sent m =
       keeps (arrives plan sent) (λ v. List·Memᴰ (toldWord ofTimeout d k) (v .told)) (8 * devices plan) (λ q v b. arrives-more plan sent q v (toldWord ofTimeout d k)) w m
 
-  reached-came : (sent : List ℕ) → List·Memᴰ (toldWord ofTimeout d k) (reached plan sent w .told) → List·Memᴰ (toldWord ofTimeout d k) (w .told)
+  pub reached-came : (sent : List ℕ) → List·Memᴰ (toldWord ofTimeout d k) (reached plan sent w .told) → List·Memᴰ (toldWord ofTimeout d k) (w .told)
   unfolding reached
   reached-came sent =
       let n = few plan held in

@@ -165,6 +165,11 @@ module _ (plan : Plan) (held : Held plan) (s : State) (kind k from : ℕ) (h : f
       omega (arith, count-gains (λ i. ⊥) (Near 0) (λ i. no (λ b. b)) (near? 0) (λ i b. absurd b) 32 from (omega (arith, few plan held)) (0, omega arith, stay) (λ b. b))
   more-near (suc n) x = omega (arith, more-near n (before n x), gains n x)
 
+  -- no shortest way enters a device twice: to the farthest there are fewer crossings than devices in a set that has all that are reached
+  pub crossings-below : (D set : ℕ) → Farthest plan s kind k from D → ((n e : ℕ) → Far n e → bit set e ≡ 1) → D < size set
+  unfolding size
+  crossings-below D set x all = omega (arith, more-near D (x .some), count-size (Near D) (near? D) set 32 (λ e l w. all (w .0) e (w .2)))
+
 pub farthest-once : (plan : Plan) (s : State) (kind k from D E : ℕ) → Farthest plan s kind k from D → Farthest plan s kind k from E → D ≡ E
 farthest-once plan s kind k from D E x y = omega (arith, x .most E (y .some .0) (y .some .1), y .most D (x .some .0) (x .some .1))
 
@@ -182,8 +187,5 @@ module _ (plan : Plan) (held : Held plan) (s : State) (k from D set : ℕ) (h : 
   pub counted-reached : (e : ℕ) → Counted e → (e < 32) × (bit set e ≡ 1)
   counted-reached e a = y .all (a .0) e (a .2 .there)
 
-  -- no shortest way enters a device twice: to the farthest there are fewer crossings than devices that are reached
   pub farthest-below : D < size set
-  unfolding size
-  farthest-below =
-      omega (arith, more-near plan held s 0 k from h D (x .some), count-size (Near plan held s 0 k from h D) (near? plan held s 0 k from h D) set 32 (λ e l w. y .all (w .0) e (w .2) .1))
+  farthest-below = crossings-below plan held s 0 k from h D set x (λ n e w. y .all n e w .1)

@@ -1,0 +1,92 @@
+-- What worked instances need, over any plan: when a plan is held, what rests at the start, and how far is farthest.
+use mathlib.Core.Path.{_≡_, ap, _∙_}
+use mathlib.Core.Bool.{Bool, true, _&&_}
+use mathlib.Core.List.{List, []}
+use mathlib.Core.Logic.{dite}
+use Prim.Native.Nat.{ℕ, _≤_, _<_}
+use native.Mathlib.Decide.{decLt}
+use native.Mathlib.Nat.{le-trans}
+use native.Mathlib.Omega.{arith}
+use lib.Dec.{eqb, ltb}
+use lib.ListN.{length, getD, List·getD-eq-default}
+use Rattle.lists.specs.Table.{every}
+use Rattle.lists.proofs.Facts.{facts}
+use Rattle.bits.specs.Set.{bit}
+use Rattle.bits.proofs.Sets.{bit-zero}
+use Rattle.plan.specs.Reading.{Held}
+use Rattle.plan.specs.declared.Plan.{Plan}
+use Rattle.plan.specs.inner.Memory.{at, right}
+use Rattle.plan.proofs.Shape.{Numbers}
+use Rattle.plan.proofs.BothWays.{right-held}
+use Rattle.state.specs.State.{State, registerAt}
+use Rattle.state.specs.Network.{devices}
+use Rattle.state.specs.Start.{started}
+use Rattle.state.proofs.Plans.{few}
+use Rattle.state.proofs.Started.{start-device, start-port, started-sound}
+use Rattle.reach.specs.Walk.{Walk}
+use Rattle.reach.specs.Away.{Away, Farthest}
+use Rattle.reach.proofs.Distances.{walk-device}
+use Rattle.assurance.specs.Cycle.{AtRest}
+use Rattle.assurance.proofs.Crossings.{away-least}
+
+-- ---- two computed tests are true of a plan that some accepted file holds
+
+-- so many numbers, each below a bound
+abbrev pub fits : ℕ → ℕ → List ℕ → Bool
+fits size bound l = eqb (length l) size && every size (λ i. ltb (at l i) bound)
+
+module _ {l : List ℕ} {size bound : ℕ} (pos : 0 < bound) where
+  numbers : (length l ≡ size) × ((i : ℕ) → i < size → at l i < bound) → Numbers l size bound
+  numbers f =
+      record {
+        long = f .0;
+        small = λ i. dite (decLt i size) (f .1 i) (λ h. let past : length l ≤ i = omega (arith, f .0) in omega (arith, List·getD-eq-default l 0 past));
+      }
+
+-- a plan has the shape that its types give it
+abbrev pub shaped : Plan → Bool
+shaped plan =
+    fits 2 65536 (plan .core .loads)
+    && fits 32 256 (plan .core .role)
+    && fits 32 256 (plan .core .ports)
+    && fits 32 4294967296 (plan .core .source)
+    && fits 32 4294967296 (plan .core .handler)
+    && fits 256 256 (plan .core .permissions)
+    && eqb (length (plan .peers)) 32
+    && every 32 (λ d. fits 8 65536 (getD (plan .peers) d []))
+
+pub tested-held : (plan : Plan) → shaped plan ≡ true → right plan ≡ true → Held plan
+tested-held plan e =
+    let f = simp facts at e in
+    let g = f .0 .0 .0 in
+    right-held plan (record {
+      loads = numbers (omega arith) (g .0 .0 .0 .0);
+      role = numbers (omega arith) (g .0 .0 .0 .1);
+      ports = numbers (omega arith) (g .0 .0 .1);
+      source = numbers (omega arith) (g .0 .1);
+      handler = numbers (omega arith) (g .1);
+      permissions = numbers (omega arith) (f .0 .0 .1);
+      rows = f .0 .1;
+      row = λ d h. numbers (omega arith) (f .1 d h);
+    })
+
+-- ---- what is so of a held plan
+
+module _ (plan : Plan) (held : Held plan) where
+  -- at the start every identifier is at rest
+  pub start-rests : (k : ℕ) → AtRest plan k (started plan)
+  start-rests k =
+      record {
+        sound = started-sound plan held;
+        unset = λ d h. ap (λ v. bit v k) (start-device plan (registerAt d) (omega (arith, h, few plan held))) ∙ bit-zero k;
+        idle = λ kind q g h. ap (λ v. bit v k) (start-port plan q h kind (omega arith)) ∙ bit-zero k;
+      }
+
+  -- D is the most crossings, where some device is so many away and all can be got to by no more
+  pub farthest-of : (s : State) (kind k from D : ℕ) → from < devices plan → (e : ℕ) × Away plan s kind k from D e
+      → ((e : ℕ) → e < devices plan → (n : ℕ) × (n ≤ D) × Walk plan s kind k from n e) → Farthest plan s kind k from D
+  farthest-of s kind k from D h some near =
+      record {
+        some = some;
+        most = λ n e a. let c = near e (walk-device plan held s kind k from h (a .there)) in le-trans (away-least a (c .2)) (c .1);
+      }
