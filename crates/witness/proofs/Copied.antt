@@ -20,12 +20,12 @@ use Rattle.witness.proofs.Conditions.{first-there, to-router, requested
 
 -- the request for 31 is taken
 abbrev requested : State
-requested = called line 0 0 31 (busy 0)
+requested = called line 0 0 31 (busy line)
 
 module _ (at : ℕ → State) (copies : Copies line 31 (window 2) requested at) where
   -- nothing that concerns 31 changes
   stays : (t : ℕ) → t ≤ window 2 → Sound line (at t) × Alike 31 requested (at t)
-  stays zero h = let b = calls-beside line line-held 31 (omega arith) (requested-sound 0 first-there) (copies .begins) in (b .sound, b .like)
+  stays zero h = let b = calls-beside line line-held 31 (omega arith) (requested-sound line line-held first-there) (copies .begins) in (b .sound, b .like)
   stays (suc t) h =
       let before = stays t (omega arith) in
       let b = calls-beside line line-held 31 (omega arith) (before .0) (copies .goes-on t h) in
@@ -35,11 +35,11 @@ module _ (at : ℕ → State) (copies : Copies line 31 (window 2) requested at) 
   unfolding line
   source-alone e t h ne l =
       let small : e < 32 = omega arith in
-      let took = called-took line 0 31 (omega arith) (omega arith) 0 (omega arith) (busy 0) (busy-sound 0 first-there .size) in
-      sym (stays t l .1 .marks e small) ∙ ap (λ r. bit r 31) (took .others e small ne .0) ∙ busy-unset 0 first-there 31 (omega arith) (omega arith) e h
+      let took = called-took line 0 31 (omega arith) (omega arith) 0 (omega arith) (busy line) (busy-sound line line-held first-there .size) in
+      sym (stays t l .1 .marks e small) ∙ ap (λ r. bit r 31) (took .others e small ne .0) ∙ busy-unset line line-held first-there 31 (omega arith) (omega arith) e h
 
   -- so the router, one crossing away, does not hold 31 by the end of that crossing
-  pub copying-fails : Follows line 31 0 2 (busy 0) at → ⊥
+  pub copying-fails : Follows line 31 0 2 (busy line) at → ⊥
   unfolding line
   copying-fails f = omega (arith, source-alone 1 crossing (omega arith) (λ e. omega arith) (omega arith), f .holds 1 1 crossing to-router (omega arith) (omega arith))
 

@@ -18,7 +18,7 @@ use Rattle.calls.specs.Calls.{called}
 use Rattle.bench.specs.Round.{tick, chosen, sentWord, sends, unqueued, timed, forwarded, tells, acted, arrived, ticked, sentBytes, posted, arrives, reached, round}
 use Rattle.assurance.specs.Demand3.{crossing, window, Demand3}
 use Rattle.assurance.proofs.Demand.{demand-3}
-use Rattle.witness.specs.Line.{line, busy, course}
+use Rattle.witness.specs.Line.{line, deaf, busy, course}
 use Rattle.witness.specs.Rate.{Enough, Empties}
 use Rattle.witness.proofs.Conditions.{to-router, given, given-alone}
 
@@ -33,20 +33,20 @@ empties plan k source D s at x kind q t g h from to =
     ap (λ r. bit (waiting (at r) kind q) k) end ∙ demand-3 plan k source D s at x .gone kind q g h
 
 -- computed: the router is one crossing away from node 0, and a round before the end of that crossing it does not hold 31
-late : bit (register (course 0 (crossing - 1)) 1) 31 ≡ 0
+late : bit (register (course line (crossing - 1)) 1) 31 ≡ 0
 unfolding course busy line upTo table joined bit join leave searched firstFrom following reads maySend mayReceive marked ruled reactsTo reacts word put stateOf loadFor queueAt queueAllAt called mark tick chosen sentWord sends unqueued timed forwarded tells acted arrived ticked sentBytes posted arrives reached round
 late = refl
 
--- computed: no device is a crossing away from node 3, and a round before the end of the window 31 waits at its port still
-waits-still : bit (waiting (course 3 (crossing - 1)) 0 24) 31 ≡ 1
-unfolding course busy line upTo table joined bit join leave searched firstFrom following reads maySend mayReceive marked ruled reactsTo reacts word put stateOf loadFor queueAt queueAllAt called mark tick chosen sentWord sends unqueued timed forwarded tells acted arrived ticked sentBytes posted arrives reached round
+-- computed: no device is a crossing away from node 0, and a round before the end of the window 31 waits at its port still
+waits-still : bit (waiting (course deaf (crossing - 1)) 0 0) 31 ≡ 1
+unfolding course busy deaf upTo table joined bit join leave searched firstFrom following reads maySend mayReceive marked ruled reactsTo reacts word put stateOf loadFor queueAt queueAllAt called mark tick chosen sentWord sends unqueued timed forwarded tells acted arrived ticked sentBytes posted arrives reached round
 waits-still = refl
 
 pub no-fewer : (W : ℕ) → W < crossing → Enough W → ⊥
 unfolding Enough
-no-fewer W h all = omega (arith, late, all line 31 0 2 (busy 0) (course 0) given 1 1 (crossing - 1) to-router (omega arith) (omega arith))
+no-fewer W h all = omega (arith, late, all line 31 0 2 (busy line) (course line) given 1 1 (crossing - 1) to-router (omega arith) (omega arith))
 
 pub no-sooner : (W : ℕ) → W < crossing → Empties W → ⊥
 unfolding Empties
 no-sooner W h all =
-    omega (arith, waits-still, all line 31 3 0 (busy 3) (course 3) given-alone 0 24 (crossing - 1) (omega arith) (omega arith) (omega arith) (omega arith))
+    omega (arith, waits-still, all deaf 31 0 0 (busy deaf) (course deaf) given-alone 0 0 (crossing - 1) (omega arith) (omega arith) (omega arith) (omega arith))

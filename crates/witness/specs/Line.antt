@@ -1,5 +1,5 @@
--- No rules: a plan, states and courses for which the demands are worked out.
-use mathlib.Core.List.{List, [], _∷_, _++_}
+-- No rules: two plans, states and courses for which the demands are worked out.
+use mathlib.Core.List.{[], _∷_, _++_}
 use Prim.Native.Nat.{ℕ, zero, suc, _-_, _^_}
 use lib.ListN.{replicate}
 use Rattle.lists.specs.Loop.{upTo}
@@ -10,38 +10,49 @@ use Rattle.state.specs.Start.{started}
 use Rattle.calls.specs.Calls.{called}
 use Rattle.bench.specs.Round.{round}
 
--- some numbers, and so many zeros behind them
-abbrev row : ℕ → List ℕ → List ℕ
-row zeros front = front ++ replicate zeros 0
-
--- node 0, source of every identifier, at router 1, and at that node 2, handler of every identifier; and node 3, source of every
--- identifier too, at a port of the router that may not receive interrupts
+-- node 0, source of every identifier, at router 1, and at that node 2, handler of every identifier
 unfoldable pub line : Plan
 line =
     record {
       core =
           record {
-            devices = 4;
+            devices = 3;
             loads = 200 ∷ 100 ∷ [];
-            role = row 28 (0 ∷ 1 ∷ 0 ∷ 0 ∷ []);
-            ports = row 28 (1 ∷ 3 ∷ 1 ∷ 1 ∷ []);
-            source = row 28 ((2 ^ 32 - 1) ∷ 0 ∷ 0 ∷ (2 ^ 32 - 1) ∷ []);
-            handler = row 29 (0 ∷ 0 ∷ (2 ^ 32 - 1) ∷ []);
-            permissions = row 7 (15 ∷ []) ++ row 5 (15 ∷ 15 ∷ 13 ∷ []) ++ row 7 (15 ∷ []) ++ row 231 (15 ∷ []);
+            role = 0 ∷ 1 ∷ replicate 30 0;
+            ports = 1 ∷ 2 ∷ 1 ∷ replicate 29 0;
+            source = (2 ^ 32 - 1) ∷ replicate 31 0;
+            handler = 0 ∷ 0 ∷ (2 ^ 32 - 1) ∷ replicate 29 0;
+            permissions = (15 ∷ replicate 7 0) ++ (15 ∷ 15 ∷ replicate 6 0) ++ (15 ∷ replicate 239 0);
           };
       peers =
           (8 ∷ replicate 7 nobody)
-          ∷ (0 ∷ 16 ∷ 24 ∷ replicate 5 nobody)
+          ∷ (0 ∷ 16 ∷ replicate 6 nobody)
           ∷ (9 ∷ replicate 7 nobody)
-          ∷ (10 ∷ replicate 7 nobody)
-          ∷ replicate 28 (replicate 8 nobody);
+          ∷ replicate 29 (replicate 8 nobody);
     }
 
--- the host of device d has requested every identifier below 30
-unfoldable pub busy : ℕ → State
-busy d = upTo (called line 0 d) 30 (started line)
+-- node 0, source of every identifier, at a port of router 1 that may not receive interrupts
+unfoldable pub deaf : Plan
+deaf =
+    record {
+      core =
+          record {
+            devices = 2;
+            loads = 200 ∷ 100 ∷ [];
+            role = 0 ∷ 1 ∷ replicate 30 0;
+            ports = 1 ∷ 1 ∷ replicate 30 0;
+            source = (2 ^ 32 - 1) ∷ replicate 31 0;
+            handler = replicate 32 0;
+            permissions = (15 ∷ replicate 7 0) ++ (13 ∷ replicate 247 0);
+          };
+      peers = (8 ∷ replicate 7 nobody) ∷ (0 ∷ replicate 7 nobody) ∷ replicate 30 (replicate 8 nobody);
+    }
+
+-- the host of node 0 has requested every identifier below 30
+unfoldable pub busy : Plan → State
+busy plan = upTo (called plan 0 0) 30 (started plan)
 
 -- it requests 31, then 30; then rounds are played
-unfoldable pub course : ℕ → ℕ → State
-course d zero = called line 0 d 30 (called line 0 d 31 (busy d))
-course d (suc t) = round line (course d t) .next
+unfoldable pub course : Plan → ℕ → State
+course plan zero = called plan 0 0 30 (called plan 0 0 31 (busy plan))
+course plan (suc t) = round plan (course plan t) .next

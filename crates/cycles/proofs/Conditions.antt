@@ -1,0 +1,69 @@
+-- What a request or an acknowledge asks in a star, what a window asks from then on, and what a cycle asks.
+use mathlib.Core.Path.{_≡_}
+use Prim.Native.Nat.{ℕ, suc, _+_, _<_}
+use native.Mathlib.Omega.{arith}
+use Rattle.answers.specs.Ordered.{Ordered}
+use Rattle.lists.specs.Loop.{upTo}
+use Rattle.bits.specs.Set.{bit}
+use Rattle.plan.specs.declared.Plan.{Plan}
+use Rattle.state.specs.State.{State, register}
+use Rattle.state.specs.Network.{source, handler}
+use Rattle.state.specs.Sound.{Sound}
+use Rattle.calls.specs.Calls.{owns, callAsks, called}
+use Rattle.bench.specs.Round.{round}
+use Rattle.bench.specs.Settling.{rounds}
+use Rattle.assurance.specs.Demand3.{Calls, none, Course, window, Given}
+use Rattle.assurance.specs.Cycle.{AtRest, Cycle}
+use Rattle.assurance.proofs.Begun.{call-taken}
+use Rattle.cycles.proofs.Stars.{Star}
+use Rattle.cycles.proofs.Ways.{Links, node-there, leads-in, permits, far, gets, far-back}
+
+-- ---- rounds with no call between them
+
+pub on : (plan : Plan) (k : ℕ) (u : State) (t : ℕ) → Calls plan k (round plan (rounds plan t u) .next) (rounds plan (suc t) u)
+unfolding upTo
+on plan k u t = none
+
+pub played : {plan : Plan} {k : ℕ} {s u : State} → Calls plan k s u → (n : ℕ) → Course plan k n s (λ t. rounds plan t u)
+unfolding upTo
+played {plan} {k} {u = u} first n = record { begins = first; goes-on = λ t h. on plan k u t }
+
+-- ---- node i + 1 calls, by links that run as at the start
+
+module _ {plan : Plan} {n : ℕ} (x : Star plan n) (k : ℕ) (l : k < 32) (i : ℕ) (h : i < n) (s : State) (links : Links plan s) where
+  pub asked : (kind : ℕ) → kind < 2 → Sound plan s → bit (owns plan kind (suc i)) k ≡ 1 → bit (register s (suc i)) k ≡ kind
+      → Ordered (callAsks plan kind (suc i) k s) 0
+  asked kind g y own stands =
+      let way = leads-in x kind k g s links i h in
+      call-taken plan (x .held) kind (suc i) k 0 s y (node-there x i h) l own (omega arith) (way .runs) (way .sends) stands
+
+  -- a request, where k is at rest, meets demand 3's conditions
+  pub meets : AtRest plan k s → bit (source plan (suc i)) k ≡ 1 → (at : ℕ → State) → Course plan k (window 2) (called plan 0 (suc i) k s) at
+      → Given plan k (suc i) 2 s at
+  meets rest own at course =
+      record {
+        held = x .held;
+        sound = rest .sound;
+        unset = rest .unset;
+        idle = rest .idle;
+        taken = asked 0 (omega arith) (rest .sound) own (rest .unset (suc i) (node-there x i h));
+        farthest = far x 0 k (omega arith) s links i h;
+        course = course;
+        loads = λ e b. omega (arith, x .long k e b);
+      }
+
+  -- a cycle, with node j + 1 as its handler; other calls follow the request, and none later
+  pub a-cycle : AtRest plan k s → bit (source plan (suc i)) k ≡ 1 → (u : State) → Calls plan k (called plan 0 (suc i) k s) u
+      → (j gap : ℕ) → j < n → bit (handler plan (suc j)) k ≡ 1 → gap < 208
+      → Cycle plan k (suc i) (suc j) 2 2 gap s (λ t. rounds plan t u) (λ t. rounds plan t (called plan 1 (suc j) k (rounds plan (window 2 + gap) u)))
+  a-cycle rest own u first j gap m handles short =
+      record {
+        request = meets rest own (λ t. rounds plan t u) (played first (window 2));
+        permits = permits x s links;
+        between = λ t a b. on plan k u t;
+        handles = handles;
+        was-reached = gets x k s links i h (suc j) (node-there x j m);
+        farthest = far-back x k s links i h j m;
+        course = played none (window 2);
+        loads = λ e b. omega (arith, x .long k e b);
+      }

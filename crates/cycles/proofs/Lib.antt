@@ -1,0 +1,11 @@
+pub mod Stars
+pub mod Ways
+pub mod Flags
+pub mod Usual
+pub mod Conditions
+pub mod Idle
+pub mod Heard
+pub mod Early
+pub mod LateBack
+pub mod Twice
+pub mod Clocks

@@ -1,0 +1,3 @@
+pub mod Star
+pub mod Early
+pub mod RateBack
