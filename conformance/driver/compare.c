@@ -199,14 +199,19 @@ u32 try_change(enum call call, const struct plan *plan, struct state *state, siz
     return judge;
 }
 
-u32 try_round(const struct plan *plan, const struct state *old, struct played *played) {
+/* Where the judge has the old state in its records, as the round before left them, it need not read it again. */
+u32 try_round_of(struct network *known, const struct plan *plan, const struct state *old, struct played *played) {
     size next_length = played->next.length, sent_length = played->sent_length, told_length = played->told_length;
     begin(ROUND, plan->length, old->length, next_length, sent_length, told_length);
     struct lent *file = lend("plan", INPUT, 1, plan->bytes, plan->length);
     struct lent *from = lend("old state", INPUT, 4, old->words, old->length);
     struct lent *next = lend("next state", AREA, 4, 0, next_length), *sent = lend("bytes sent", AREA, 4, 0, sent_length);
     struct lent *told = lend("words told", AREA, 4, 0, told_length), *count = lend("count", VALUE, 4, 0, 1);
-    u32 judge = judge_round(by_judge(file), plan->length, by_judge(from), old->length, by_judge(next), next_length,
+    u32 judge = 0;
+    if (known)
+        build_round(known, by_judge(next), by_judge(sent), by_judge(told), by_judge(count));
+    else
+        judge = judge_round(by_judge(file), plan->length, by_judge(from), old->length, by_judge(next), next_length,
                             by_judge(sent), sent_length, by_judge(told), told_length, by_judge(count));
     u32 bench = bench_round(by_bench(file), plan->length, by_bench(from), old->length, by_bench(next), next_length,
                             by_bench(sent), sent_length, by_bench(told), told_length, by_bench(count));
@@ -216,6 +221,10 @@ u32 try_round(const struct plan *plan, const struct state *old, struct played *p
     memcpy(played->told, by_bench(told), told->bytes);
     memcpy(&played->count, by_bench(count), count->bytes);
     return bench;
+}
+
+u32 try_round(const struct plan *plan, const struct state *old, struct played *played) {
+    return try_round_of(0, plan, old, played);
 }
 
 u32 try_settle(const struct plan *plan, struct state *state, u32 allowance) {

@@ -65,6 +65,7 @@ u32 try_plan_read(const struct plan *plan);
 u32 judge_change(enum call call, const u8 *plan, size plan_length, u32 *state, size state_length, size device, size other);
 u32 try_change(enum call call, const struct plan *plan, struct state *state, size device, size other);
 u32 try_round(const struct plan *plan, const struct state *old, struct played *played);
+u32 try_round_of(struct network *known, const struct plan *plan, const struct state *old, struct played *played);
 u32 try_settle(const struct plan *plan, struct state *state, u32 allowance);
 u32 try_reach(const struct plan *plan, const struct state *state, size device, u32 k);
 u32 try_report(const struct plan *file, struct printed *printed);
@@ -78,6 +79,7 @@ flag in_mask(struct plan *plan, u32 device, u32 mask, u32 k);
 u8 *device_block(struct plan *plan, u32 device);
 u8 *port_entry(struct plan *plan, u32 device, u32 port);
 void seal(struct plan *plan, u32 block);
+void give_role(struct plan *plan, u32 device, u32 mask, u32 k);
 void blank(struct plan *plan, u32 devices);
 void be_router(struct plan *plan, u32 device, u32 ports);
 void connect_ports(struct plan *plan, u32 device, u32 port, u32 peer, u32 peer_port, u8 permissions);
@@ -95,7 +97,42 @@ u32 *port_words(struct state *state, u32 device, u32 port);
 void sound_state(struct plan *plan, struct state *state);
 flag break_state(struct plan *plan, struct state *state, u32 clause);
 
-/* trials.c, known.c and demand.c: what is tried. */
+/* A network whose rounds are played one after the other, and what the last of them built. The judge keeps it in its records,
+ * which are known as long as no call changes the state. */
+struct course {
+    struct plan plan;
+    struct state state;
+    struct played played;
+    flag known;
+    struct network records;
+};
+
+/* A code that goes from one device to all that it reaches, in a window of 32 x (D + 1) rounds. */
+struct spread {
+    const char *name; /* of what is being tried */
+    enum kind kind;
+    u32 k, start, window;
+    u32 distance[DEVICES]; /* in crossings by codes of the kind, or UNREACHED */
+    flag sent[SENT_WORDS];
+    u32 told[DEVICES]; /* the round in which the host was told of it, 0 before that */
+};
+
+/* spread.c: what is given, and what is to be seen, in such a window. A check that fails ends the run. */
+void begin_course(struct course *course, const struct plan *plan); /* in any sound state */
+void unset(struct course *course, u32 k); /* held by nobody and waiting nowhere */
+void crowd(struct course *course, u32 k); /* the most in its way: all others wait at every port, and come before it */
+void read_records(struct course *course);
+void measure(struct course *course, struct spread *spread); /* by kind, k and start: distances and window */
+void exceed(struct course *course, u32 rounds); /* loads that are longer, by one in half of the trials */
+u32 make_call(struct course *course, enum call call, size device, size other);
+void play_on(struct course *course, u32 k, u32 calls); /* a round, and calls before it: on others, or refused */
+flag holds(struct course *course, u32 device, u32 k);
+_Noreturn void broken(const struct spread *spread, const char *what, u32 one, u32 other);
+void check_held(const struct spread *spread, struct course *course, u32 round);
+void check_sent(struct spread *spread, const struct course *course, u32 round);
+void check_rest(const struct spread *spread, struct course *course);
+
+/* trials.c, known.c, demand.c and cycle.c: what is tried. */
 void known_values(void);
 void try_tables(void);
 void try_files(struct plan *plan);
@@ -106,5 +143,6 @@ void try_reports(struct plan *plan);
 void right_lengths(struct played *played);
 void likely_call(struct plan *plan, enum call *call, size *device, size *other);
 u32 try_demand_3(const struct plan *plan); /* the rounds in its window; 0 where nobody can send */
+u32 try_cycles(const struct plan *plan, u32 *longest); /* how many; 0 where no node can reach another */
 
 #endif

@@ -2,8 +2,8 @@
 #include "driver.h"
 
 static struct plan plan;
-static size seed, this_case, before_case, demands;
-static u32 longest;
+static size seed, this_case, before_case, demands, returns, cycles;
+static u32 longest, longest_cycle;
 
 void say_where(void) {
     printf("comparison %lu of the case; again: conformance/run --seed %lu --case %lu\n", compared() - before_case, seed,
@@ -28,6 +28,17 @@ static void play(size which) {
     demands += window > 0;
     if (window > longest)
         longest = window;
+    u32 count = try_cycles(&plan, &longest_cycle);
+    returns += count > 0;
+    cycles += count;
+}
+
+/* Were demand 3 and T-01 tried at all, and cycles in a row? */
+static flag all_tried(void) {
+    if (demands && cycles > returns)
+        return 1;
+    printf("demand 3, T-01 or two cycles in a row were never tried\n");
+    return 0;
 }
 
 /* A line on standard error at each tenth. */
@@ -41,7 +52,7 @@ static size number(const char *word) {
 }
 
 /* For conformance/run, which has tested the numbers: the seed, the first case, how many cases, and 1 where every number
- * that a call can answer has to be answered. */
+ * that a call can answer has to be answered, and all be tried. */
 int main(int count, char **words) {
     if (count != 5)
         return 2;
@@ -56,7 +67,9 @@ int main(int count, char **words) {
     table();
     printf("demand 3 tried on %lu of the networks, for up to %u rounds; in the others no node is joined to anything\n",
            demands, longest);
-    if (whole && !all_hit())
+    printf("T-01 tried on %lu of the networks, in %lu cycles of up to %u rounds; in the other %lu no node reaches another\n",
+           returns, cycles, longest_cycle, cases - returns);
+    if (whole && !(all_hit() && all_tried()))
         return 1;
     printf("judge: ok\n");
     return 0;

@@ -15,6 +15,15 @@ flag in_mask(struct plan *plan, u32 device, u32 mask, u32 k) {
     return device_block(plan, device)[mask + k / 8] >> k % 8 & 1;
 }
 
+/* The role that this mask is about, and not the other one: no node has both for one identifier. */
+void give_role(struct plan *plan, u32 device, u32 mask, u32 k) {
+    u8 *block = device_block(plan, device), bit = 1 << k % 8;
+    block[SOURCES + k / 8] &= ~bit;
+    block[HANDLERS + k / 8] &= ~bit;
+    block[mask + k / 8] |= bit;
+    seal(plan, 1 + device);
+}
+
 void put_number(u8 *at, u32 bytes, u32 number) {
     for (u32 i = 0; i < bytes; i++)
         at[i] = number >> 8 * i;

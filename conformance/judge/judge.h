@@ -81,11 +81,13 @@ void state_write(const struct network *net, u32 *words);
 u32 host_asks(struct network *net, size device, enum kind kind, u32 k);
 void queue(struct port *port, struct code code);
 void play_round(struct network *net, struct told *told);
+void build_round(struct network *net, u32 *next, u32 *sent, u32 *told, u32 *count); /* the same, into its areas */
 u32 settle(struct network *net, u32 allowance, u32 *rounds);
 
-/* reach.c: the least crossings from a source to each device, UNREACHED for none; the number of devices reached. */
+/* reach.c: the least crossings by which a code of a kind gets from one device to each, UNREACHED for none; the number of
+ * devices reached. */
 enum { UNREACHED = DEVICES };
-u32 crossings(const struct network *net, u32 source, u32 distance[DEVICES]);
+u32 crossings(const struct network *net, u32 start, enum kind kind, u32 distance[DEVICES]);
 
 /* The calls, as in include/bench.h. */
 u32 judge_code_read(u8 byte, u32 *value);

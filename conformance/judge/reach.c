@@ -2,23 +2,23 @@
  * is a shortest one. */
 #include "judge.h"
 
-/* Does an interrupt that this port sends get into the device at the other end? */
-static flag passes(const struct port *port) {
-    return port->peer && port->running && port->may_send[INTERRUPT] && port->peer->may_receive[INTERRUPT];
+/* Does a code of this kind that the port sends get into the device at the other end? */
+static flag passes(const struct port *port, enum kind kind) {
+    return port->peer && port->running && port->may_send[kind] && port->peer->may_receive[kind];
 }
 
-u32 crossings(const struct network *net, u32 source, u32 distance[DEVICES]) {
+u32 crossings(const struct network *net, u32 start, enum kind kind, u32 distance[DEVICES]) {
     u32 line[DEVICES], first = 0, last = 0;
     for (u32 d = 0; d < DEVICES; d++)
         distance[d] = UNREACHED;
-    distance[source] = 0;
-    line[last++] = source;
+    distance[start] = 0;
+    line[last++] = start;
     for (; first < last; first++) {
         const struct device *from = &net->device[line[first]];
-        if (!from->router && from->number != source)
+        if (!from->router && from->number != start)
             continue; /* a node passes nothing on */
         for (u32 p = 0; p < from->ports; p++) {
-            if (!passes(&from->port[p]))
+            if (!passes(&from->port[p], kind))
                 continue;
             u32 to = from->port[p].peer->device->number;
             if (distance[to] != UNREACHED)
@@ -45,7 +45,7 @@ u32 judge_reach(const u8 *plan, size plan_length, const u32 *state, size state_l
         return 5;
     if (!net.device[device].source[k])
         return 6;
-    *devices = crossings(&net, device, distance);
+    *devices = crossings(&net, device, INTERRUPT, distance);
     for (u32 d = 0; d < DEVICES; d++)
         *set |= (u32)(distance[d] != UNREACHED) << d;
     return 0;

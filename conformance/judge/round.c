@@ -100,22 +100,26 @@ static void sent_write(const struct network *net, u32 *sent) {
                 sent[PORTS * d + p] = code_byte(net->device[d].port[p].sent);
 }
 
+void build_round(struct network *net, u32 *next, u32 *sent, u32 *told, u32 *count) {
+    struct told telling;
+    play_round(net, &telling);
+    state_write(net, next);
+    sent_write(net, sent);
+    for (u32 i = 0; i < TOLD_WORDS; i++)
+        told[i] = i < telling.count ? telling.word[i] : 0;
+    *count = telling.count;
+}
+
 u32 judge_round(const u8 *plan, size plan_length, const u32 *old, size old_length, u32 *next, size next_length, u32 *sent,
                 size sent_length, u32 *told, size told_length, u32 *count) {
     struct network net;
-    struct told telling;
     *count = 0;
     u32 number = network_read(&net, plan, plan_length, old, old_length);
     if (number)
         return number;
     if (next_length != STATE_WORDS || sent_length != SENT_WORDS || told_length != TOLD_WORDS)
         return 3;
-    play_round(&net, &telling);
-    state_write(&net, next);
-    sent_write(&net, sent);
-    for (u32 i = 0; i < TOLD_WORDS; i++)
-        told[i] = i < telling.count ? telling.word[i] : 0;
-    *count = telling.count;
+    build_round(&net, next, sent, told, count);
     return 0;
 }
 

@@ -1,0 +1,125 @@
+/* What demand 3 and T-01 have in common: a code of k that spreads from one device while other identifiers are used. */
+#include "driver.h"
+
+void begin_course(struct course *course, const struct plan *plan) {
+    course->plan = *plan;
+    sound_state(&course->plan, &course->state);
+    right_lengths(&course->played);
+    course->known = 0;
+}
+
+void unset(struct course *course, u32 k) {
+    for (u32 d = 0; d < DEVICES; d++) {
+        device_words(&course->state, d)[0] &= ~(1u << k);
+        device_words(&course->state, d)[1 + k] = 0;
+        for (u32 p = 0; p < PORTS; p++) {
+            port_words(&course->state, d, p)[AT_INTERRUPTS] &= ~(1u << k);
+            port_words(&course->state, d, p)[AT_ACKNOWLEDGES] &= ~(1u << k);
+        }
+    }
+}
+
+void crowd(struct course *course, u32 k) {
+    struct plan *plan = &course->plan;
+    for (u32 d = 0; d < plan->bytes[1]; d++)
+        for (u32 p = 0; p < device_block(plan, d)[3]; p++) {
+            u32 *words = port_words(&course->state, d, p), others = ~(1u << k);
+            words[AT_NEXT] = (k + 1) % IDENTIFIERS;
+            if (words[AT_RUNNING] && port_entry(plan, d, p)[2] & 4)
+                words[AT_ACKNOWLEDGES] = others & ~words[AT_INTERRUPTS];
+            if (words[AT_RUNNING] && port_entry(plan, d, p)[2] & 1)
+                words[AT_INTERRUPTS] = others & ~words[AT_ACKNOWLEDGES];
+        }
+}
+
+void read_records(struct course *course) {
+    const struct plan *plan = &course->plan;
+    const struct state *state = &course->state;
+    must_be("plan and state are good", 0,
+            network_read(&course->records, plan->bytes, plan->length, state->words, state->length));
+}
+
+void measure(struct course *course, struct spread *spread) {
+    u32 farthest = 0;
+    read_records(course);
+    crossings(&course->records, spread->start, spread->kind, spread->distance);
+    for (u32 d = 0; d < DEVICES; d++)
+        if (spread->distance[d] != UNREACHED && spread->distance[d] > farthest)
+            farthest = spread->distance[d];
+    spread->window = 32 * (farthest + 1);
+}
+
+void exceed(struct course *course, u32 rounds) {
+    u32 router = rounds + 1 + (once_in(2) ? 0 : pick(30000));
+    set_loads(&course->plan, router, router + (once_in(2) ? 0 : pick(30000)));
+}
+
+u32 make_call(struct course *course, enum call call, size device, size other) {
+    u32 number = try_change(call, &course->plan, &course->state, device, other);
+    course->known &= number != 0;
+    return number;
+}
+
+/* A call on another identifier, or one that is refused: no other call is made in the window. */
+static void other_call(struct course *course, u32 k) {
+    static struct state scratch;
+    struct plan *plan = &course->plan;
+    enum call call;
+    size device, other;
+    likely_call(plan, &call, &device, &other);
+    flag of_host = call == REQUEST || call == ACKNOWLEDGES;
+    scratch = course->state;
+    if ((!of_host || (u32)other == k) &&
+        judge_change(call, plan->bytes, plan->length, scratch.words, scratch.length, device, other) == 0)
+        return;
+    make_call(course, call, device, other);
+}
+
+void play_on(struct course *course, u32 k, u32 calls) {
+    for (u32 i = pick(1 + calls); i; i--)
+        other_call(course, k);
+    if (!course->known)
+        read_records(course);
+    course->known = 1;
+    must_be("a round is played", 0, try_round_of(&course->records, &course->plan, &course->state, &course->played));
+    course->state = course->played.next;
+}
+
+_Noreturn void broken(const struct spread *spread, const char *what, u32 one, u32 other) {
+    printf("judge: %s: identifier %u from device %u\n", spread->name, spread->k, spread->start);
+    fail(what, one, other);
+}
+
+flag holds(struct course *course, u32 device, u32 k) {
+    return device_words(&course->state, device)[0] >> k & 1;
+}
+
+void check_held(const struct spread *spread, struct course *course, u32 round) {
+    for (u32 d = 0; d < DEVICES; d++) {
+        flag held = holds(course, d, spread->k);
+        if (spread->distance[d] == UNREACHED && held)
+            broken(spread, "held out of reach (device, round)", d, round);
+        if (spread->distance[d] != UNREACHED && round >= 32 * spread->distance[d] && !held)
+            broken(spread, "not held (device, round)", d, round);
+    }
+}
+
+void check_sent(struct spread *spread, const struct course *course, u32 round) {
+    for (u32 i = 0; i < SENT_WORDS; i++) {
+        u32 sent = course->played.sent[i];
+        if (sent != 128 + spread->k && sent != 160 + spread->k)
+            continue;
+        if (spread->sent[i])
+            broken(spread, "sent twice (port, round)", i, round);
+        spread->sent[i] = 1;
+    }
+}
+
+void check_rest(const struct spread *spread, struct course *course) {
+    for (u32 d = 0; d < DEVICES; d++)
+        for (u32 p = 0; p < PORTS; p++) {
+            const u32 *words = port_words(&course->state, d, p);
+            if ((words[AT_INTERRUPTS] | words[AT_ACKNOWLEDGES]) >> spread->k & 1)
+                broken(spread, "still waiting (device, port)", d, p);
+        }
+}
