@@ -130,3 +130,21 @@ judged() {
     done
     linked "$program" "$parts"/*.o "$here/target/staticlib/libdoor.a"
 }
+
+# Compiles and links a program of one source with the judge in the place of the bench: by_judge SOURCE PROGRAM. The judge has the
+# calls of the header under names of its own, and with the same parameters, which the compiler tests here. So it can be linked
+# where the archive was.
+by_judge() {
+    parts=$2.parts
+    mkdir "$parts"
+    program=$2
+    printf '#include "%s"\n' "$here/conformance/judge/judge.h" bench.h >"$parts/alike.c"
+    object "$1" "$parts/program.o"
+    set --
+    for call in $(sed -n 's/^bench_u32 bench_for_header_\([a-z_]*\)(.*/\1/p' "$here/include/bench.h"); do
+        echo "__typeof__(judge_$call) bench_for_header_$call;" >>"$parts/alike.c"
+        set -- "$@" "--defsym=bench_for_header_$call=judge_$call"
+    done
+    for source in "$parts/alike.c" "$here"/conformance/judge/*.c; do object "$source" "$parts/judge-${source##*/}.o"; done
+    linked "$program" "$@" "$parts"/*.o
+}

@@ -11,16 +11,7 @@ trap 'rm -rf "$work"' EXIT
 bin/example incident <examples/incident.plan >"$work/given"
 cmp "$work/given" tests/expected/incident.txt
 
-# The judge has the calls of the header under names of its own, and with the same parameters, which the compiler tests here. So
-# it can be linked where the archive was.
-set --
-printf '#include "%s"\n' "$here/conformance/judge/judge.h" bench.h >"$work/alike.c"
-for call in $(sed -n 's/^bench_u32 bench_for_header_\([a-z_]*\)(.*/\1/p' include/bench.h); do
-    echo "__typeof__(judge_$call) bench_for_header_$call;" >>"$work/alike.c"
-    set -- "$@" "--defsym=bench_for_header_$call=judge_$call"
-done
-for source in "$work/alike.c" examples/incident.c conformance/judge/*.c; do object "$source" "$work/${source##*/}.o"; done
-linked "$work/judged" "$@" "$work"/*.o
+by_judge examples/incident.c "$work/judged"
 run "$work/judged" <examples/incident.plan >"$work/given"
 cmp "$work/given" tests/expected/incident.txt
 
