@@ -64,9 +64,9 @@ enum { BENCH_NAMED, BENCH_LINK_ERROR, BENCH_IGNORED, BENCH_FORWARDED, BENCH_TOLD
  * may still have to be bound. */
 enum {
     BENCH_STACK_CODE_READ = 256, BENCH_STACK_CODE_WRITE = 256, BENCH_STACK_REACT = 256, BENCH_STACK_PLAN_READ = 9216,
-    BENCH_STACK_START = 10240, BENCH_STACK_REQUEST = 11264, BENCH_STACK_ACKNOWLEDGE = 11264, BENCH_STACK_LINK_STOP = 10240,
-    BENCH_STACK_LINK_START = 10240, BENCH_STACK_RESET = 10240, BENCH_STACK_ROUND = 10240, BENCH_STACK_SETTLE = 17408,
-    BENCH_STACK_REACH = 28672, BENCH_STACK_REPORT = 41984,
+    BENCH_STACK_START = 10240, BENCH_STACK_REQUEST = 11264, BENCH_STACK_ACKNOWLEDGE = 11264, BENCH_STACK_LINK = 10240,
+    BENCH_STACK_RESET = 10240, BENCH_STACK_ROUND = 10240, BENCH_STACK_SETTLE = 17408, BENCH_STACK_REACH = 28672,
+    BENCH_STACK_REPORT = 41984,
     BENCH_STACK_PROGRAM_SETTLE = 73728, BENCH_STACK_PROGRAM_DECODE = 92160
 };
 
@@ -81,10 +81,8 @@ bench_u32 bench_for_header_request(const bench_u8 *plan, bench_size plan_length,
                                    bench_size device, bench_u32 k);
 bench_u32 bench_for_header_acknowledge(const bench_u8 *plan, bench_size plan_length, bench_u32 *state,
                                        bench_size state_length, bench_size device, bench_u32 k);
-bench_u32 bench_for_header_link_stop(const bench_u8 *plan, bench_size plan_length, bench_u32 *state, bench_size state_length,
-                                     bench_size device, bench_size port);
-bench_u32 bench_for_header_link_start(const bench_u8 *plan, bench_size plan_length, bench_u32 *state, bench_size state_length,
-                                      bench_size device, bench_size port);
+bench_u32 bench_for_header_link(const bench_u8 *plan, bench_size plan_length, bench_u32 *state, bench_size state_length,
+                                bench_size device, bench_size port, bench_u32 running);
 bench_u32 bench_for_header_reset(const bench_u8 *plan, bench_size plan_length, bench_u32 *state, bench_size state_length,
                                  bench_size device);
 bench_u32 bench_for_header_round(const bench_u8 *plan, bench_size plan_length, const bench_u32 *old, bench_size old_length,
@@ -234,19 +232,13 @@ static inline bench_u32 bench_acknowledge(const bench_u8 *plan, bench_size plan_
     return bench_for_header_acknowledge(plan, plan_length, state, state_length, device, k);
 }
 
-/* The link at a port stops, or starts. 20 to 26; 2; 4; 7; 10. */
-static inline bench_u32 bench_link_stop(const bench_u8 *plan, bench_size plan_length, bench_u32 *state,
-                                        bench_size state_length, bench_size device, bench_size port) {
+/* The link at a port: running is what it is to be, 0 stops it and any other number starts it. 20 to 26; 2; 4; 7; 10 where it is
+ * so already. */
+static inline bench_u32 bench_link(const bench_u8 *plan, bench_size plan_length, bench_u32 *state, bench_size state_length,
+                                   bench_size device, bench_size port, bench_u32 running) {
     if (!bench_two_apart(plan, plan_length, state, state_length))
         return 3;
-    return bench_for_header_link_stop(plan, plan_length, state, state_length, device, port);
-}
-
-static inline bench_u32 bench_link_start(const bench_u8 *plan, bench_size plan_length, bench_u32 *state,
-                                         bench_size state_length, bench_size device, bench_size port) {
-    if (!bench_two_apart(plan, plan_length, state, state_length))
-        return 3;
-    return bench_for_header_link_start(plan, plan_length, state, state_length, device, port);
+    return bench_for_header_link(plan, plan_length, state, state_length, device, port, running);
 }
 
 /* A device is reset. 20 to 26; 2; 4. */

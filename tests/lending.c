@@ -44,12 +44,12 @@ static bench_u32 acknowledge(places at, lengths n) {
     return bench_acknowledge(at[0], n[0], at[1], n[1], HANDLER, IDENTIFIER);
 }
 
-static bench_u32 link_stop(places at, lengths n) {
-    return bench_link_stop(at[0], n[0], at[1], n[1], ROUTER, 1);
+static bench_u32 stop(places at, lengths n) {
+    return bench_link(at[0], n[0], at[1], n[1], ROUTER, 1, 0);
 }
 
-static bench_u32 link_start(places at, lengths n) {
-    return bench_link_start(at[0], n[0], at[1], n[1], ROUTER, 1);
+static bench_u32 run(places at, lengths n) {
+    return bench_link(at[0], n[0], at[1], n[1], ROUTER, 1, 1);
 }
 
 static bench_u32 reset(places at, lengths n) {
@@ -85,8 +85,8 @@ static const struct call {
     {"start", start, {PLAN, STATE}, {0, BENCH_STATE}, 0, {20, 3}},
     {"request", request, {PLAN, STATE}, {0, BENCH_STATE}, 0, {20, 2}},
     {"acknowledge", acknowledge, {PLAN, STATE}, {0, BENCH_STATE}, 9, {20, 2}},
-    {"link stop", link_stop, {PLAN, STATE}, {0, BENCH_STATE}, 0, {20, 2}},
-    {"link start", link_start, {PLAN, STATE}, {0, BENCH_STATE}, 10, {20, 2}},
+    {"link, 0", stop, {PLAN, STATE}, {0, BENCH_STATE}, 0, {20, 2}},
+    {"link, 1", run, {PLAN, STATE}, {0, BENCH_STATE}, 10, {20, 2}},
     {"reset", reset, {PLAN, STATE}, {0, BENCH_STATE}, 0, {20, 2}},
     {"round", round, {PLAN, STATE, OUT, OUT, OUT, VALUE}, {0, BENCH_STATE, BENCH_STATE, BENCH_SENT, BENCH_TOLD}, 0,
      {20, 2, 3, 3, 3}},

@@ -79,9 +79,14 @@ static void take_plan(void) {
     close(file);
 }
 
+/* A call takes its numbers from the line; only a link has a flag. */
 static void change(enum call call) {
-    u32 device = number(), other = number();
-    printf("%s: %u\n", line, try_change(call, &plan, &state, device, other));
+    struct change change = {.call = call};
+    change.device = number();
+    change.other = number();
+    if (call == LINK)
+        change.running = number();
+    printf("%s: %u\n", line, try_change(change, &plan, &state));
 }
 
 /* Over an area that held something else. */
@@ -98,12 +103,8 @@ static void acknowledge(void) {
     change(ACKNOWLEDGES);
 }
 
-static void stop(void) {
-    change(LINK_STOP);
-}
-
-static void run(void) {
-    change(LINK_START);
+static void link(void) {
+    change(LINK);
 }
 
 static void reset(void) {
@@ -151,9 +152,9 @@ static void settle_all(void) {
 /* Areas of the wrong length, several at once, beside a state that is sound. */
 static void try_lengths(void) {
     static struct state fresh = {.length = STATE_WORDS}, less = {.length = STATE_WORDS - 1};
-    must_be("a start", 0, try_change(START, &plan, &fresh, 0, 0));
-    printf("short start 0 0: %u\n", try_change(START, &plan, &less, 0, 0));
-    printf("short state 0 5: %u\n", try_change(REQUEST, &plan, &less, 0, 5));
+    must_be("a start", 0, try_start(&plan, &fresh));
+    printf("short start 0 0: %u\n", try_start(&plan, &less));
+    printf("short state 0 5: %u\n", try_change((struct change){.call = REQUEST, .other = 5}, &plan, &less));
     printf("short next 0 0: %u\n", round_in(&fresh, STATE_WORDS - 1, SENT_WORDS + 1, TOLD_WORDS + 1));
     printf("long sent 0 0: %u\n", round_in(&fresh, STATE_WORDS, SENT_WORDS + 1, TOLD_WORDS + 1));
     printf("long told 0 0: %u\n", round_in(&fresh, STATE_WORDS, SENT_WORDS, TOLD_WORDS + 1));
@@ -173,8 +174,8 @@ static const struct word {
     void (*play)(void);
 } words[] = {
     {"--", print_title}, {"#", pass_over}, {"plan", take_plan}, {"start", start_afresh}, {"request", ask},
-    {"acknowledge", acknowledge}, {"stop", stop}, {"run", run}, {"reset", reset}, {"last", put_last},
-    {"rounds", play_rounds}, {"settle", settle_all}, {"lengths", try_lengths}, {"report", print_report},
+    {"acknowledge", acknowledge}, {"link", link}, {"reset", reset}, {"last", put_last}, {"rounds", play_rounds},
+    {"settle", settle_all}, {"lengths", try_lengths}, {"report", print_report},
 };
 
 static const struct word *word_of_line(void) {

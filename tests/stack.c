@@ -57,12 +57,12 @@ static void acknowledge(void) {
     answer = bench_acknowledge(file, length, state, BENCH_STATE, handler, k);
 }
 
-static void link_stop(void) {
-    answer = bench_link_stop(file, length, state, BENCH_STATE, device, 0);
+static void stop(void) {
+    answer = bench_link(file, length, state, BENCH_STATE, device, 0, 0);
 }
 
-static void link_start(void) {
-    answer = bench_link_start(file, length, state, BENCH_STATE, device, 0);
+static void run(void) {
+    answer = bench_link(file, length, state, BENCH_STATE, device, 0, 1);
 }
 
 static void reset(void) {
@@ -98,8 +98,8 @@ static struct call {
     {"bench_start", start, BENCH_STACK_START, 0, 0, 0, 0},
     {"bench_request", request, BENCH_STACK_REQUEST, 0, 0, 0, 0},
     {"bench_acknowledge", acknowledge, BENCH_STACK_ACKNOWLEDGE, 0, 0, 0, 0},
-    {"bench_link_stop", link_stop, BENCH_STACK_LINK_STOP, 0, 0, 0, 0},
-    {"bench_link_start", link_start, BENCH_STACK_LINK_START, 0, 0, 0, 0},
+    {"bench_link,0", stop, BENCH_STACK_LINK, 0, 0, 0, 0},
+    {"bench_link,1", run, BENCH_STACK_LINK, 0, 0, 0, 0},
     {"bench_reset", reset, BENCH_STACK_RESET, 0, 0, 0, 0},
     {"bench_round", round, BENCH_STACK_ROUND, 0, 0, 0, 0},
     {"bench_settle", settle, BENCH_STACK_SETTLE, 0, 0, 0, 0},
@@ -123,8 +123,8 @@ static void on_paint(void (*make)(void)) {
 /* The state in which a call is measured. */
 static void prepare(const struct call *call) {
     memcpy(state, before, sizeof state);
-    if (call->make == link_start)
-        bench_link_stop(file, length, state, BENCH_STATE, device, 0);
+    if (call->make == run)
+        bench_link(file, length, state, BENCH_STATE, device, 0, 0);
 }
 
 /* Makes the call, and gives the bytes that are no paint then. */

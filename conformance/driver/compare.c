@@ -20,22 +20,21 @@ static struct lent lents[LENT];
 static u32 lent_count;
 static enum call this_call;
 static size asked[5];
-static size comparisons[CALLS], hits[CALLS][27];
+static size comparisons[CALLS], hits[CALLS][2][27]; /* those of a link by its flag, of all others the first of the two */
 
 static const char *const names[CALLS] = {
-    "code read", "code write", "react", "plan read", "start", "request", "acknowledge", "link stop", "link start", "reset",
-    "round", "settle", "reach", "report"};
+    "code read", "code write", "react", "plan read", "start", "request", "acknowledge", "link", "reset", "round", "settle",
+    "reach", "report"};
 
-/* Every number that a call can answer; the run has to hit each. */
+/* Every number that a call can answer; the run has to hit each, for a link with either flag. */
 enum { END = 255 };
 #define OF_FILES 20, 21, 22, 23, 24, 25, 26
 static const u8 numbers[CALLS][17] = {
     [CODE_READ] = {0, END}, [CODE_WRITE] = {0, 5, END}, [REACT] = {0, END},
     [PLAN_READ] = {0, OF_FILES, END}, [START] = {0, OF_FILES, 3, END},
     [REQUEST] = {0, OF_FILES, 2, 4, 5, 6, 7, 8, 9, END}, [ACKNOWLEDGES] = {0, OF_FILES, 2, 4, 5, 6, 7, 8, 9, END},
-    [LINK_STOP] = {0, OF_FILES, 2, 4, 7, 10, END}, [LINK_START] = {0, OF_FILES, 2, 4, 7, 10, END},
-    [RESET] = {0, OF_FILES, 2, 4, END}, [ROUND] = {0, OF_FILES, 2, 3, END}, [SETTLE] = {0, OF_FILES, 2, 11, 12, END},
-    [REACH] = {0, OF_FILES, 2, 4, 5, 6, END}, [REPORT] = {0, 3, END}};
+    [LINK] = {0, OF_FILES, 2, 4, 7, 10, END}, [RESET] = {0, OF_FILES, 2, 4, END}, [ROUND] = {0, OF_FILES, 2, 3, END},
+    [SETTLE] = {0, OF_FILES, 2, 11, 12, END}, [REACH] = {0, OF_FILES, 2, 4, 5, 6, END}, [REPORT] = {0, 3, END}};
 
 _Noreturn void fail(const char *what, size one, size other) {
     printf("judge: %s: %lu, %lu\n", what, one, other);
@@ -125,7 +124,7 @@ static u32 finish(u32 judge, u32 bench) {
             same(lent, "which may not change", lent->before, by_bench(lent));
     }
     comparisons[this_call]++;
-    hits[this_call][answers_number ? bench : 0]++;
+    hits[this_call][this_call == LINK && asked[4]][answers_number ? bench : 0]++;
     return bench;
 }
 
@@ -165,38 +164,40 @@ u32 try_plan_read(const struct plan *plan) {
     return finish(judge, bench_plan_read(by_bench(file), plan->length, by_bench(block)));
 }
 
-/* The calls that change a state, by their name; other is an identifier or a port. */
-u32 judge_change(enum call call, const u8 *plan, size plan_length, u32 *state, size state_length, size device, size other) {
-    switch (call) {
+u32 judge_change(struct change change, const u8 *plan, size plan_length, u32 *state, size state_length) {
+    size device = change.device, other = change.other;
+    switch (change.call) {
     case START: return judge_start(plan, plan_length, state, state_length);
     case REQUEST: return judge_request(plan, plan_length, state, state_length, device, other);
     case ACKNOWLEDGES: return judge_acknowledge(plan, plan_length, state, state_length, device, other);
-    case LINK_STOP: return judge_link_stop(plan, plan_length, state, state_length, device, other);
-    case LINK_START: return judge_link_start(plan, plan_length, state, state_length, device, other);
+    case LINK: return judge_link(plan, plan_length, state, state_length, device, other, change.running);
     default: return judge_reset(plan, plan_length, state, state_length, device);
     }
 }
 
-static u32 bench_change(enum call call, const u8 *plan, size plan_length, u32 *state, size state_length, size device,
-                        size other) {
-    switch (call) {
+static u32 bench_change(struct change change, const u8 *plan, size plan_length, u32 *state, size state_length) {
+    size device = change.device, other = change.other;
+    switch (change.call) {
     case START: return bench_start(plan, plan_length, state, state_length);
     case REQUEST: return bench_request(plan, plan_length, state, state_length, device, other);
     case ACKNOWLEDGES: return bench_acknowledge(plan, plan_length, state, state_length, device, other);
-    case LINK_STOP: return bench_link_stop(plan, plan_length, state, state_length, device, other);
-    case LINK_START: return bench_link_start(plan, plan_length, state, state_length, device, other);
+    case LINK: return bench_link(plan, plan_length, state, state_length, device, other, change.running);
     default: return bench_reset(plan, plan_length, state, state_length, device);
     }
 }
 
-u32 try_change(enum call call, const struct plan *plan, struct state *state, size device, size other) {
-    begin(call, plan->length, state->length, device, other, 0);
+u32 try_change(struct change change, const struct plan *plan, struct state *state) {
+    begin(change.call, plan->length, state->length, change.device, change.other, change.running);
     struct lent *file = lend("plan", INPUT, 1, plan->bytes, plan->length);
     struct lent *area = lend("state", AREA, 4, state->words, state->length);
-    u32 judge = judge_change(call, by_judge(file), plan->length, by_judge(area), state->length, device, other);
-    finish(judge, bench_change(call, by_bench(file), plan->length, by_bench(area), state->length, device, other));
+    u32 judge = judge_change(change, by_judge(file), plan->length, by_judge(area), state->length);
+    finish(judge, bench_change(change, by_bench(file), plan->length, by_bench(area), state->length));
     memcpy(state->words, by_bench(area), area->bytes);
     return judge;
+}
+
+u32 try_start(const struct plan *plan, struct state *state) {
+    return try_change((struct change){.call = START}, plan, state);
 }
 
 /* Where the judge has the old state in its records, as the round before left them, it need not read it again. */
@@ -262,14 +263,21 @@ u32 try_report(const struct plan *plan, struct printed *printed) {
     return bench;
 }
 
-flag all_hit(void) {
+static flag hit(enum call call, flag running) {
+    const char *which = call != LINK ? "" : running ? " to run" : " to stop";
     flag all = 1;
+    for (u32 i = 0; numbers[call][i] != END; i++)
+        if (!hits[call][running][numbers[call][i]]) {
+            printf("%s%s was never answered by %u\n", names[call], which, numbers[call][i]);
+            all = 0;
+        }
+    return all;
+}
+
+flag all_hit(void) {
+    flag all = hit(LINK, 1);
     for (u32 c = 0; c < CALLS; c++)
-        for (u32 i = 0; numbers[c][i] != END; i++)
-            if (!hits[c][numbers[c][i]]) {
-                printf("%s was never answered by %u\n", names[c], numbers[c][i]);
-                all = 0;
-            }
+        all &= hit(c, 0);
     return all;
 }
 
@@ -287,7 +295,7 @@ void table(void) {
     for (u32 n = 0; n <= 26; n++) {
         size times = 0;
         for (u32 c = 0; c < CALLS; c++)
-            times += hits[c][n];
+            times += hits[c][0][n] + hits[c][1][n];
         if (times)
             printf("%6u %11lu\n", n, times);
     }

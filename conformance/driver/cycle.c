@@ -147,7 +147,7 @@ static u32 go_out(struct cycle *cycle, u32 calls) {
     struct spread *out = &cycle->out;
     u32 handler = cycle->back.start, latest = 32 * out->distance[handler];
     u32 round = 0, until = cycle->own_clock ? NOT_YET : cycle->wait;
-    must_be("T-01: the request is taken", 0, make_call(&course, REQUEST, out->start, out->k));
+    must_be("T-01: the request is taken", 0, host_calls(&course, REQUEST, out->start, out->k));
     check_held(out, &course, 0);
     while (round < until) {
         step(out, calls, ++round);
@@ -168,7 +168,7 @@ static u32 go_out(struct cycle *cycle, u32 calls) {
 /* From the acknowledge to the end. */
 static u32 come_back(struct cycle *cycle, u32 calls) {
     struct spread *back = &cycle->back;
-    must_be("T-01: the acknowledge is taken", 0, make_call(&course, ACKNOWLEDGES, back->start, back->k));
+    must_be("T-01: the acknowledge is taken", 0, host_calls(&course, ACKNOWLEDGES, back->start, back->k));
     check_cleared(back, 0);
     for (u32 round = 1; round <= back->window; round++)
         step(back, calls, round);
@@ -209,7 +209,7 @@ static void hush(u32 k, u32 handler) {
 /* Just before it acknowledges, the handler requests all others, which its port sends first. */
 static void rush(u32 k, u32 handler) {
     for (u32 i = 1; i < IDENTIFIERS; i++)
-        must_be("T-01: a request of another is taken", 0, make_call(&course, REQUEST, handler, (k + i) % IDENTIFIERS));
+        must_be("T-01: a request of another is taken", 0, host_calls(&course, REQUEST, handler, (k + i) % IDENTIFIERS));
 }
 
 static void play_cycles(struct cycle *cycles, u32 count, flag hushed, u32 *longest) {

@@ -47,7 +47,7 @@ u32 try_demand_3(const struct plan *given) {
         crowd(&course, spread.k);
     measure(&course, &spread);
     exceed(&course, spread.window);
-    must_be("demand 3: the request is taken", 0, make_call(&course, REQUEST, spread.start, spread.k));
+    must_be("demand 3: the request is taken", 0, host_calls(&course, REQUEST, spread.start, spread.k));
     check_held(&spread, &course, 0);
     u32 calls = pick(4);
     for (u32 round = 1; round <= spread.window; round++) {

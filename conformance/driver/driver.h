@@ -49,9 +49,17 @@ size wild(u32 limit);
 
 /* compare.c: a call to both. Every try_ compares all numbers and areas, counts, and gives what the bench answered. */
 enum call {
-    CODE_READ, CODE_WRITE, REACT, PLAN_READ, START, REQUEST, ACKNOWLEDGES, LINK_STOP, LINK_START, RESET, ROUND, SETTLE,
-    REACH, REPORT, CALLS
+    CODE_READ, CODE_WRITE, REACT, PLAN_READ, START, REQUEST, ACKNOWLEDGES, LINK, RESET, ROUND, SETTLE, REACH, REPORT, CALLS
 };
+
+/* A call that changes a state, and what it takes beside plan and state: other is an identifier or a port, and running is what
+ * a link is to be, 0 where it is to stop. */
+struct change {
+    enum call call;
+    size device, other;
+    u32 running;
+};
+
 _Noreturn void fail(const char *what, size one, size other);
 void must_be(const char *what, size wanted, size given);
 u32 value_given(void); /* by the call just tried: plan read its block, settle its rounds */
@@ -62,8 +70,9 @@ u32 try_code_read(u8 byte);
 u32 try_code_write(u32 kind, u32 value);
 u32 try_react(u32 role, u32 running, u32 permissions, u32 device_register, u8 byte);
 u32 try_plan_read(const struct plan *plan);
-u32 judge_change(enum call call, const u8 *plan, size plan_length, u32 *state, size state_length, size device, size other);
-u32 try_change(enum call call, const struct plan *plan, struct state *state, size device, size other);
+u32 judge_change(struct change change, const u8 *plan, size plan_length, u32 *state, size state_length);
+u32 try_change(struct change change, const struct plan *plan, struct state *state);
+u32 try_start(const struct plan *plan, struct state *state);
 u32 try_round(const struct plan *plan, const struct state *old, struct played *played);
 u32 try_round_of(struct network *known, const struct plan *plan, const struct state *old, struct played *played);
 u32 try_settle(const struct plan *plan, struct state *state, u32 allowance);
@@ -124,7 +133,7 @@ void crowd(struct course *course, u32 k); /* the most in its way: all others wai
 void read_records(struct course *course);
 void measure(struct course *course, struct spread *spread); /* by kind, k and start: distances and window */
 void exceed(struct course *course, u32 rounds); /* loads that are longer, by one in half of the trials */
-u32 make_call(struct course *course, enum call call, size device, size other);
+u32 host_calls(struct course *course, enum call call, u32 device, u32 k); /* a request or an acknowledge */
 void play_on(struct course *course, u32 k, u32 calls); /* a round, and calls before it: on others, or refused */
 flag holds(struct course *course, u32 device, u32 k);
 _Noreturn void broken(const struct spread *spread, const char *what, u32 one, u32 other);
@@ -141,7 +150,7 @@ void try_run(struct plan *plan, u32 rounds);
 void try_settling(struct plan *plan);
 void try_reports(struct plan *plan);
 void right_lengths(struct played *played);
-void likely_call(struct plan *plan, enum call *call, size *device, size *other);
+struct change likely_change(struct plan *plan);
 u32 try_demand_3(const struct plan *plan); /* the rounds in its window; 0 where nobody can send */
 u32 try_cycles(const struct plan *plan, u32 *longest); /* how many; 0 where no node can reach another */
 

@@ -42,7 +42,7 @@ static void fullest_report(void) {
 static void known_choice(u32 waiting, u32 next, u32 sent, u32 then) {
     state.length = STATE_WORDS;
     right_lengths(&played);
-    must_be("the start", 0, try_change(START, &plan, &state, 0, 0));
+    must_be("the start", 0, try_start(&plan, &state));
     port_words(&state, 0, 0)[AT_INTERRUPTS] = waiting;
     port_words(&state, 0, 0)[AT_NEXT] = next;
     must_be("a round", 0, try_round(&plan, &state, &played));
@@ -83,7 +83,8 @@ static const struct fault {
 static void refused_by_all(u32 number) {
     must_be("a file with a fault", number, try_plan_read(&plan));
     for (enum call call = START; call <= RESET; call++)
-        must_be("a call over it", number, try_change(call, &plan, &state, 0, 0));
+        must_be("a call over it", number, try_change((struct change){.call = call}, &plan, &state));
+    must_be("a link that is to run", number, try_change((struct change){.call = LINK, .running = 1}, &plan, &state));
     must_be("a round over it", number, try_round(&plan, &state, &played));
     must_be("settling over it", number, try_settle(&plan, &state, MOST_ALLOWED));
     must_be("reach over it", number, try_reach(&plan, &state, 0, 5));

@@ -54,25 +54,27 @@ void exceed(struct course *course, u32 rounds) {
     set_loads(&course->plan, router, router + (once_in(2) ? 0 : pick(30000)));
 }
 
-u32 make_call(struct course *course, enum call call, size device, size other) {
-    u32 number = try_change(call, &course->plan, &course->state, device, other);
+static u32 make_call(struct course *course, struct change change) {
+    u32 number = try_change(change, &course->plan, &course->state);
     course->known &= number != 0;
     return number;
+}
+
+u32 host_calls(struct course *course, enum call call, u32 device, u32 k) {
+    return make_call(course, (struct change){.call = call, .device = device, .other = k});
 }
 
 /* A call on another identifier, or one that is refused: no other call is made in the window. */
 static void other_call(struct course *course, u32 k) {
     static struct state scratch;
     struct plan *plan = &course->plan;
-    enum call call;
-    size device, other;
-    likely_call(plan, &call, &device, &other);
-    flag of_host = call == REQUEST || call == ACKNOWLEDGES;
+    struct change change = likely_change(plan);
+    flag of_host = change.call == REQUEST || change.call == ACKNOWLEDGES;
     scratch = course->state;
-    if ((!of_host || (u32)other == k) &&
-        judge_change(call, plan->bytes, plan->length, scratch.words, scratch.length, device, other) == 0)
+    if ((!of_host || (u32)change.other == k) &&
+        judge_change(change, plan->bytes, plan->length, scratch.words, scratch.length) == 0)
         return;
-    make_call(course, call, device, other);
+    make_call(course, change);
 }
 
 void play_on(struct course *course, u32 k, u32 calls) {

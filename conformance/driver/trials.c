@@ -44,17 +44,20 @@ static void likely_host(struct plan *plan, enum call call, size *device, size *o
     }
 }
 
-/* A call that changes a state, mostly one that can be taken. */
-void likely_call(struct plan *plan, enum call *call, size *device, size *other) {
-    const enum call calls[] = {REQUEST, REQUEST, REQUEST, REQUEST, ACKNOWLEDGES, ACKNOWLEDGES, ACKNOWLEDGES,
-                               LINK_START, LINK_START, LINK_STOP, RESET};
-    *call = calls[pick(sizeof calls / sizeof *calls)];
-    *device = wild(plan->bytes[1]);
-    *other = wild(*call == LINK_START || *call == LINK_STOP ? PORTS : IDENTIFIERS);
-    if ((*call == REQUEST || *call == ACKNOWLEDGES) && !once_in(6))
-        likely_host(plan, *call, device, other);
-    if ((*call == LINK_START || *call == LINK_STOP) && *device < plan->bytes[1] && !once_in(6))
-        *other = pick(device_block(plan, *device)[3] % (PORTS + 1) + 1);
+/* A call that changes a state, mostly one that can be taken. Any number but 0 starts a link. */
+struct change likely_change(struct plan *plan) {
+    static const struct change changes[] = {
+        {.call = REQUEST}, {.call = REQUEST}, {.call = REQUEST}, {.call = REQUEST}, {.call = ACKNOWLEDGES},
+        {.call = ACKNOWLEDGES}, {.call = ACKNOWLEDGES}, {.call = LINK, .running = 1},
+        {.call = LINK, .running = 0x80000000}, {.call = LINK}, {.call = RESET}};
+    struct change change = changes[pick(sizeof changes / sizeof *changes)];
+    change.device = wild(plan->bytes[1]);
+    change.other = wild(change.call == LINK ? PORTS : IDENTIFIERS);
+    if ((change.call == REQUEST || change.call == ACKNOWLEDGES) && !once_in(6))
+        likely_host(plan, change.call, &change.device, &change.other);
+    if (change.call == LINK && change.device < plan->bytes[1] && !once_in(6))
+        change.other = pick(device_block(plan, change.device)[3] % (PORTS + 1) + 1);
+    return change;
 }
 
 void right_lengths(struct played *played) {
@@ -71,9 +74,7 @@ static u32 any_allowance(void) {
 /* One call of those that take a state. Its numbers are likely ones for a plan; the plan that it is given may be another. */
 static u32 any_call(struct plan *likely, const struct plan *plan, struct state *state) {
     static struct played played;
-    enum call call;
-    size device, other;
-    likely_call(likely, &call, &device, &other);
+    struct change change = likely_change(likely);
     switch (pick(8)) {
     case 0:
         played.next.length = length_near(STATE_WORDS);
@@ -83,9 +84,9 @@ static u32 any_call(struct plan *likely, const struct plan *plan, struct state *
     case 1: return try_settle(plan, state, any_allowance());
     case 2:
         if (once_in(2))
-            likely_host(likely, REQUEST, &device, &other);
-        return try_reach(plan, state, device, other);
-    default: return try_change(call, plan, state, device, other);
+            likely_host(likely, REQUEST, &change.device, &change.other);
+        return try_reach(plan, state, change.device, change.other);
+    default: return try_change(change, plan, state);
     }
 }
 
@@ -103,7 +104,7 @@ void try_files(struct plan *plan) {
         if (once_in(4))
             state.length = wrong_length(STATE_WORDS);
         must_be("a call with a damaged file", number,
-                once_in(8) ? try_change(START, &damaged, &state, 0, 0) : any_call(plan, &damaged, &state));
+                once_in(8) ? try_start(&damaged, &state) : any_call(plan, &damaged, &state));
     }
 }
 
@@ -111,9 +112,9 @@ void try_files(struct plan *plan) {
 void try_calls(struct plan *plan) {
     static struct state state;
     state.length = STATE_WORDS;
-    must_be("a start", 0, try_change(START, plan, &state, 0, 0));
+    must_be("a start", 0, try_start(plan, &state));
     state.length = wrong_length(STATE_WORDS);
-    must_be("a start in this length", state.length == STATE_WORDS ? 0 : 3, try_change(START, plan, &state, 0, 0));
+    must_be("a start in this length", state.length == STATE_WORDS ? 0 : 3, try_start(plan, &state));
     for (u32 i = 0; i < 40; i++) {
         sound_state(plan, &state);
         any_call(plan, plan, &state);
@@ -139,17 +140,13 @@ void try_calls(struct plan *plan) {
 void try_run(struct plan *plan, u32 rounds) {
     static struct state state;
     static struct played played;
-    enum call call;
-    size device, other;
     sound_state(plan, &state);
     if (once_in(2))
-        must_be("a start", 0, try_change(START, plan, &state, 0, 0));
+        must_be("a start", 0, try_start(plan, &state));
     right_lengths(&played);
     for (u32 calls = pick(5); rounds; rounds--) {
-        for (u32 i = pick(1 + calls); i; i--) {
-            likely_call(plan, &call, &device, &other);
-            try_change(call, plan, &state, device, other);
-        }
+        for (u32 i = pick(1 + calls); i; i--)
+            try_change(likely_change(plan), plan, &state);
         must_be("a round", 0, try_round(plan, &state, &played));
         state = played.next;
     }

@@ -49,8 +49,10 @@ static void stop_end(struct port *port) {
         clear_device(port->device);
 }
 
-static u32 link_call(const u8 *plan, size plan_length, u32 *state, size state_length, size device, size port, flag run) {
+/* Running is the flag that is wanted: 0 stops the link, and any other number starts it. */
+u32 judge_link(const u8 *plan, size plan_length, u32 *state, size state_length, size device, size port, u32 running) {
     struct network net;
+    flag run = running != 0;
     u32 number = network_read(&net, plan, plan_length, state, state_length);
     if (number)
         return number;
@@ -69,14 +71,6 @@ static u32 link_call(const u8 *plan, size plan_length, u32 *state, size state_le
     }
     state_write(&net, state);
     return 0;
-}
-
-u32 judge_link_stop(const u8 *plan, size plan_length, u32 *state, size state_length, size device, size port) {
-    return link_call(plan, plan_length, state, state_length, device, port, 0);
-}
-
-u32 judge_link_start(const u8 *plan, size plan_length, u32 *state, size state_length, size device, size port) {
-    return link_call(plan, plan_length, state, state_length, device, port, 1);
 }
 
 u32 judge_start(const u8 *plan, size plan_length, u32 *state, size state_length) {

@@ -97,8 +97,7 @@ u32 judge_plan_read(const u8 *file, size length, u32 *block);
 u32 judge_start(const u8 *plan, size plan_length, u32 *state, size state_length);
 u32 judge_request(const u8 *plan, size plan_length, u32 *state, size state_length, size device, u32 k);
 u32 judge_acknowledge(const u8 *plan, size plan_length, u32 *state, size state_length, size device, u32 k);
-u32 judge_link_stop(const u8 *plan, size plan_length, u32 *state, size state_length, size device, size port);
-u32 judge_link_start(const u8 *plan, size plan_length, u32 *state, size state_length, size device, size port);
+u32 judge_link(const u8 *plan, size plan_length, u32 *state, size state_length, size device, size port, u32 running);
 u32 judge_reset(const u8 *plan, size plan_length, u32 *state, size state_length, size device);
 u32 judge_round(const u8 *plan, size plan_length, const u32 *old, size old_length, u32 *next, size next_length, u32 *sent,
                 size sent_length, u32 *told, size told_length, u32 *count);

@@ -5,8 +5,7 @@ mod settling;
 mod trial;
 
 pub use calls::acknowledge;
-pub use calls::link_start;
-pub use calls::link_stop;
+pub use calls::link;
 pub use calls::request;
 pub use calls::reset;
 pub use rounds::round;

@@ -66,14 +66,14 @@ module _ (plan : Plan) (d : ℕ) (s : State) where
         known (held, (sound, (there, (small, rest)))) = let r = ready (held, (sound, (there, tt))) in (r .0, r .1, small)
 
   -- a link
-  module _ (flag p : ℕ) where
+  module _ (p : ℕ) where
     pub port-below : Holds (deviceAsks plan d s) → p < portsOf plan d → 8 * d + p < 256
     port-below h l = omega (arith, ready h .1, held-few plan (h .0) d (ready h .1) .1)
 
-    pub link-ready : {n : ℕ} → Ordered (linkAsks plan flag d p s) n → n ≡ 0 → (length s ≡ words) × (8 * d + p < 256) × (peer plan (8 * d + p) < nobody)
-    link-ready o z = known (holds (linkAsks plan flag d p s) refl o z)
+    pub link-ready : (runs : Bool) {n : ℕ} → Ordered (linkAsks plan runs d p s) n → n ≡ 0 → (length s ≡ words) × (8 * d + p < 256) × (peer plan (8 * d + p) < nobody)
+    link-ready runs o z = known (holds (linkAsks plan runs d p s) refl o z)
       where
-        known : Holds (linkAsks plan flag d p s) → (length s ≡ words) × (8 * d + p < 256) × (peer plan (8 * d + p) < nobody)
+        known : Holds (linkAsks plan runs d p s) → (length s ≡ words) × (8 * d + p < 256) × (peer plan (8 * d + p) < nobody)
         known (held, (sound, (there, (has, (joined, rest))))) =
             let h : Holds (deviceAsks plan d s) = (held, (sound, (there, tt))) in (ready h .0, port-below h has, joined)
 

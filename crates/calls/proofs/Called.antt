@@ -16,26 +16,23 @@ use Rattle.state.specs.State.{State, words, word, put, portAt, waiting, running
 use Rattle.state.specs.Network.{devices, portsOf, router, exists, peer}
 use Rattle.state.specs.Sound.{Sound}
 use Rattle.state.specs.Mark.{mark}
-use Rattle.state.proofs.Words.{length-put, word-same, word-other, put-comm}
+use Rattle.state.proofs.Words.{length-put, word-same, word-other}
 use Rattle.state.proofs.Plans.{FarEnd, few, owned, port-there, far-end}
 use Rattle.state.proofs.Keeping.{both-kinds, device-step, empty-step, sets-step, flags-step}
 use Rattle.state.proofs.Marks.{mark-step}
 use Rattle.state.proofs.Waits.{queue-all-sound}
-use Rattle.calls.specs.Calls.{called, halted, cleared, forgotten, unlinked, linked, reset}
+use Rattle.calls.specs.Calls.{called, cleared, drained, halted, switched, reset}
 use Rattle.calls.proofs.Zeros.{cleared-register, cleared-timer, cleared-left, cleared-fits, emptied-left, emptied-port, emptied-flag, emptied-fits}
 
 -- ---- a port's two sets are emptied
 
 module _ (s : State) (q : ℕ) where
-  abbrev without : State
-  without = put (put s (portAt q 0) 0) (portAt q 1) 0
+  drained-other : (i : ℕ) → i ≢ portAt q 0 → i ≢ portAt q 1 → word (drained q s) i ≡ word s i
+  drained-other i a b = word-other (put s (portAt q 0) 0) (portAt q 1) 0 i b ∙ word-other s (portAt q 0) 0 i a
 
-  without-other : (i : ℕ) → i ≢ portAt q 0 → i ≢ portAt q 1 → word without i ≡ word s i
-  without-other i a b = word-other (put s (portAt q 0) 0) (portAt q 1) 0 i b ∙ word-other s (portAt q 0) 0 i a
-
-  without-there : length s ≡ words → q < 256 → (kind : ℕ) → kind < 2 → waiting without kind q ≡ 0
-  without-there long h =
-      both-kinds (λ kind. waiting without kind q ≡ 0)
+  drained-there : length s ≡ words → q < 256 → (kind : ℕ) → kind < 2 → waiting (drained q s) kind q ≡ 0
+  drained-there long h =
+      both-kinds (λ kind. waiting (drained q s) kind q ≡ 0)
       (word-other (put s (portAt q 0) 0) (portAt q 1) 0 (portAt q 0) (omega arith) ∙ word-same s (portAt q 0) 0 (omega arith))
       (word-same (put s (portAt q 0) 0) (portAt q 1) 0 (omega (arith, length-put s (portAt q 0) 0)))
 
@@ -52,13 +49,10 @@ module _ (plan : Plan) (held : Held plan) where
           off = λ b. cleared-timer d s (x .size) k small l;
         })
 
-    -- if it is a node
-    forgotten-sound : Sound plan (forgotten plan d s)
-    forgotten-sound = by-role (router plan d)
-      where
-        by-role : (t : Bool) → Sound plan (cond t s (cleared d s))
-        by-role true = x
-        by-role false = cleared-sound
+    -- if it is a node; its ports keep what they have
+    forgets : (t : Bool) → Sound plan (cond t s (cleared d s)) × ((q i : ℕ) → word (cond t s (cleared d s)) (portAt q i) ≡ word s (portAt q i))
+    forgets true = (x, λ q i. refl)
+    forgets false = (cleared-sound, λ q i. cleared-left d s (x .size) (portAt q i) (omega (arith, few plan held)))
 
   module _ (s : State) (x : Sound plan s) where
     -- a request (kind 0) or an acknowledge (kind 1) by the host of a node
@@ -74,46 +68,47 @@ module _ (plan : Plan) (held : Held plan) where
         (λ q. dite (decLt q 256) (emptied-flag d t (y .size) q) (λ n. emptied-left d t (y .size) (portAt q runningAt) (λ a b. omega arith)))
         (λ q i l m. emptied-port d t (y .size) q i l (omega arith))
 
-    -- ---- the link at a connected port
+    -- ---- a port is halted: nothing waits there any more, and at every other port what did
 
-    module _ (q : ℕ) (small : q < 256) (there : exists plan q ≡ true) (link : peer plan q < nobody) where
-      start-sound : Sound plan (linked plan q s)
-      unfolding linked
-      start-sound = flags-step plan held x q small there link 1 (omega arith) (λ kind h z. absurd (omega arith))
+    module _ (q : ℕ) (small : q < 256) (there : exists plan q ≡ true) where
+      abbrev forgotten : State
+      forgotten = cond (router plan (q / 8)) s (cleared (q / 8) s)
 
-      end : FarEnd plan q
-      end = far-end plan held q small there link
+      forgot : Sound plan forgotten × ((p i : ℕ) → word forgotten (portAt p i) ≡ word s (portAt p i))
+      forgot = forgets (q / 8) (owned plan held q small there) s x (router plan (q / 8))
 
-      -- nothing waits at a port any more
-      without-sound : (t : State) → Sound plan t → (p : ℕ) → p < 256 → exists plan p ≡ true → Sound plan (without t p)
-      without-sound t y p l e =
-          sets-step plan held y p l e (λ _. 0)
+      halted-sound : Sound plan (halted plan q s)
+      halted-sound =
+          sets-step plan held (forgot .0) q small there (λ _. 0)
           (record { fits = λ kind h. omega arith; apart = and-zero-l 0; stopped = λ z kind h. refl; mute = λ kind h z. refl })
 
-      -- both ends are cleared and stopped
-      halted-sound : Sound plan (halted (peer plan q) (halted q s))
-      halted-sound =
-          let r = peer plan q in
-          let ne = end .other in
-          let t : State = without s q in
-          let u : State = without t r in
-          let y : Sound plan t = without-sound s x q small there in
-          let z : Sound plan u = without-sound t y r link (end .far) in
-          rw (put-comm t (portAt q runningAt) (portAt r 0) 0 0 (omega arith), put-comm (put t (portAt r 0) 0) (portAt q runningAt) (portAt r 1) 0 0 (omega arith))
-          (flags-step plan held z q small there link 0 (omega arith)
-          (λ kind h e.
-          (without-other t r (portAt q kind) (omega arith) (omega arith) ∙ without-there s q (x .size) small kind h, without-there t r (y .size) link kind h)))
+      halted-there : (kind : ℕ) → kind < 2 → waiting (halted plan q s) kind q ≡ 0
+      halted-there = drained-there forgotten q (forgot .0 .size) small
 
-      stop-sound : Sound plan (unlinked plan q s)
-      unfolding unlinked
-      stop-sound =
-          forgotten-sound (peer plan q / 8) (owned plan held (peer plan q) link (end .far)) _
-          (forgotten-sound (q / 8) (owned plan held q small there) _ halted-sound)
+      halted-elsewhere : (p kind : ℕ) → q ≢ p → kind < 2 → waiting (halted plan q s) kind p ≡ waiting s kind p
+      halted-elsewhere p kind ne h = drained-other forgotten q (portAt p kind) (omega arith) (omega arith) ∙ forgot .1 p kind
 
-    -- port p of device d
-    module _ (d p : ℕ) (h : d < devices plan) (l : p < portsOf plan d) (link : peer plan (8 * d + p) < nobody) where
-      pub link-sound : Sound plan (linked plan (8 * d + p) s)
-      link-sound = let t = port-there plan held d p h l in start-sound (8 * d + p) (t .0) (t .1) link
+  -- ---- the link at port p of device d
 
-      pub unlink-sound : Sound plan (unlinked plan (8 * d + p) s)
-      unlink-sound = let t = port-there plan held d p h l in stop-sound (8 * d + p) (t .0) (t .1) link
+  module _ (s : State) (x : Sound plan s) (d p : ℕ) (h : d < devices plan) (l : p < portsOf plan d) (link : peer plan (8 * d + p) < nobody) where
+    abbrev q : ℕ
+    q = 8 * d + p
+
+    there : (q < 256) × (exists plan q ≡ true)
+    there = port-there plan held d p h l
+
+    end : FarEnd plan q
+    end = far-end plan held q (there .0) (there .1) link
+
+    near : Sound plan (halted plan q s)
+    near = halted-sound s x q (there .0) (there .1)
+
+    pub link-sound : (runs : Bool) → Sound plan (switched plan runs q s)
+    unfolding switched
+    link-sound true = flags-step plan held x q (there .0) (there .1) link 1 (omega arith) (λ kind g z. absurd (omega arith))
+    link-sound false =
+        flags-step plan held (halted-sound _ near (peer plan q) link (end .far)) q (there .0) (there .1) link 0 (omega arith)
+        (λ kind g z. (
+          halted-elsewhere _ near (peer plan q) link (end .far) q kind (end .other) g ∙ halted-there s x q (there .0) (there .1) kind g,
+          halted-there _ near (peer plan q) link (end .far) kind g,
+        ))

@@ -1,5 +1,6 @@
 -- Each public function's promise allows one answer and one exit of the areas.
 use mathlib.Core.Path.{_≡_, sym, _∙_}
+use mathlib.Core.Bool.{Bool}
 use mathlib.Core.List.{List, [], _∷_}
 use Prim.Native.Nat.{ℕ, _+_, _*_, _<_}
 use Rattle.answers.specs.Ordered.{ask, Ordered}
@@ -7,7 +8,7 @@ use Rattle.answers.proofs.Unique.{ordered-once, outcome-once}
 use Rattle.plan.specs.declared.Core.{Core}
 use Rattle.plan.specs.declared.Plan.{Plan}
 use Rattle.state.specs.State.{State}
-use Rattle.calls.specs.Calls.{deviceAsks, ownAsks, sendAsks, callAsks, linkAsks, called, calledIn, Takes, unlinked, Stops, linked, Links, reset, Resets}
+use Rattle.calls.specs.Calls.{deviceAsks, ownAsks, sendAsks, callAsks, linkAsks, called, calledIn, Takes, switched, Links, reset, Resets}
 
 -- one number, and one state after the call
 abbrev pub Once : (State → ℕ → State → Type 0) → Type 0
@@ -18,11 +19,8 @@ module _ (plan : Plan) (d : ℕ) where
   pub call-unique : (kind k : ℕ) → Once (Takes plan kind d k)
   call-unique kind k s = outcome-once (callAsks plan kind d k s) s (called plan kind d k s)
 
-  pub link-stop-unique : (p : ℕ) → Once (Stops plan d p)
-  link-stop-unique p s = outcome-once (linkAsks plan 1 d p s) s (unlinked plan (8 * d + p) s)
-
-  pub link-start-unique : (p : ℕ) → Once (Links plan d p)
-  link-start-unique p s = outcome-once (linkAsks plan 0 d p s) s (linked plan (8 * d + p) s)
+  pub link-unique : (p : ℕ) (runs : Bool) → Once (Links plan d p runs)
+  link-unique p runs s = outcome-once (linkAsks plan runs d p s) s (switched plan runs (8 * d + p) s)
 
   pub reset-unique : Once (Resets plan d)
   reset-unique s = outcome-once (deviceAsks plan d s) s (reset d s)

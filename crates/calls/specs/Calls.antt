@@ -1,7 +1,8 @@
 -- RULES, "Between rounds": what hosts and links may do; each with its refusals in their order.
 use mathlib.Core.Path.{_≡_}
-use mathlib.Core.Bool.{true, cond, not, _&&_}
+use mathlib.Core.Bool.{Bool, true, false, cond, not, _&&_}
 use mathlib.Core.List.{List, [], _∷_, _++_}
+use mathlib.Core.Logic.{_≢_}
 use Prim.Native.Nat.{ℕ, _+_, _*_, _/_, _<_}
 use lib.Dec.{eqb, ltb}
 use lib.ListN.{length, getD}
@@ -39,9 +40,18 @@ emptied d s =
       others = λ i. word s (portsEnd + i);
     })
 
--- the waiting sets and the flag of port q
-abbrev pub halted : ℕ → State → State
-halted q s = put (put (put s (portAt q 0) 0) (portAt q 1) 0) (portAt q runningAt) 0
+-- the waiting sets of port q
+abbrev pub drained : ℕ → State → State
+drained q s = put (put s (portAt q 0) 0) (portAt q 1) 0
+
+-- ---- the flag that says whether a port runs
+
+unfoldable pub flagOf : Bool → ℕ
+flagOf runs = cond runs 1 0
+
+-- it is put at both ends of a link
+abbrev pub flagged : ℕ → ℕ → ℕ → State → State
+flagged flag q far s = put (put s (portAt q runningAt) flag) (portAt far runningAt) flag
 
 -- ---- request (kind 0) and acknowledge (kind 1) of identifier k by the host of node d
 
@@ -82,29 +92,26 @@ module _ (plan : Plan) where
   abbrev pub Takes : ℕ → ℕ → ℕ → State → ℕ → State → Type 0
   Takes kind d k before number after = Outcome (callAsks kind d k before) before (called kind d k before) number after
 
-  -- ---- the link at port p of device d stops or starts
+  -- ---- the link at port p of device d, which is to run or to stop
 
-  -- 1 asks that the link runs, and 0 that it does not
-  abbrev pub linkAsks : ℕ → ℕ → ℕ → State → List Condition
-  linkAsks flag d p s =
+  -- the port is there and joined to another, and its flag does not stand so already
+  abbrev pub linkAsks : Bool → ℕ → ℕ → State → List Condition
+  linkAsks runs d p s =
       deviceAsks d s
-      ++ (ask 4 (p < portsOf plan d) ∷ ask 7 (peer plan (8 * d + p) < nobody) ∷ ask 10 (running s (8 * d + p) ≡ flag) ∷ [])
+      ++ (ask 4 (p < portsOf plan d) ∷ ask 7 (peer plan (8 * d + p) < nobody) ∷ ask 10 (running s (8 * d + p) ≢ flagOf runs) ∷ [])
 
-  -- a node at an end forgets all
-  abbrev pub forgotten : ℕ → State → State
-  forgotten d s = cond (router plan d) s (cleared d s)
+  -- nothing waits at port q any more; its device, if it is a node, forgets all
+  abbrev pub halted : ℕ → State → State
+  halted q s = drained q (cond (router plan (q / 8)) s (cleared (q / 8) s))
 
-  unfoldable pub unlinked : ℕ → State → State
-  unlinked q s = forgotten (peer plan q / 8) (forgotten (q / 8) (halted (peer plan q) (halted q s)))
+  -- a link that stops is halted at both ends
+  unfoldable pub switched : Bool → ℕ → State → State
+  switched true q s = flagged 1 q (peer plan q) s
+  switched false q s = flagged 0 q (peer plan q) (halted (peer plan q) (halted q s))
 
-  unfoldable pub linked : ℕ → State → State
-  linked q s = put (put s (portAt q runningAt) 1) (portAt (peer plan q) runningAt) 1
-
-  abbrev pub Stops : ℕ → ℕ → State → ℕ → State → Type 0
-  Stops d p before number after = Outcome (linkAsks 1 d p before) before (unlinked (8 * d + p) before) number after
-
-  abbrev pub Links : ℕ → ℕ → State → ℕ → State → Type 0
-  Links d p before number after = Outcome (linkAsks 0 d p before) before (linked (8 * d + p) before) number after
+  -- the promise
+  abbrev pub Links : ℕ → ℕ → Bool → State → ℕ → State → Type 0
+  Links d p runs before number after = Outcome (linkAsks runs d p before) before (switched runs (8 * d + p) before) number after
 
 -- ---- device d is reset: register, timers, and its ports' waiting sets and next become 0
 

@@ -3,7 +3,7 @@
 ghost use mathlib.Core.Path.{_≡_};
 ghost use mathlib.Core.Bool.{true, cond};
 ghost use mathlib.Core.List.{List, _∷_};
-ghost use Prim.Native.Nat.{ℕ, _+_, _*_, _<_};
+ghost use Prim.Native.Nat.{ℕ, _+_, _*_, _/_, _<_};
 ghost use lib.Dec.{eqb};
 ghost use lib.ListN.{length, getD};
 ghost use Rattle.answers.specs.Decides.{Decides};
@@ -13,7 +13,7 @@ ghost use Rattle.state.specs.State.{words, running};
 ghost use Rattle.state.specs.Network.{peer};
 ghost use Rattle.state.specs.Queue.{sendsAt};
 ghost use Rattle.state.specs.Mark.{loaded, mark as Mark·mark};
-ghost use Rattle.calls.specs.Calls.{deviceAsks, ownAsks, sendAsks, callAsks, linkAsks, calledIn, Takes, halted, cleared, emptied, unlinked, linked, Stops, Links, Resets};
+ghost use Rattle.calls.specs.Calls.{deviceAsks, ownAsks, sendAsks, callAsks, linkAsks, calledIn, Takes, cleared, emptied, drained, flagged, switched, Links, Resets};
 use plan::Core;
 use plan::NOBODY;
 use plan::Plan;
@@ -43,27 +43,15 @@ pub fn acknowledge(plan: Plan, state: &mut [u32], device: usize, k: u32) -> u32
     call(plan, 1, state, device, k)
 }
 
-// The link at a port stops.
-pub fn link_stop(plan: Plan, state: &mut [u32], device: usize, port: usize) -> u32
-    ensures { λ r. ⌜ Stops plan device port (now (state .entry)) r (now (state .exit)) ⌝ }
+// The link at a port is to run, or to stop.
+pub fn link(plan: Plan, state: &mut [u32], device: usize, port: usize, running: bool) -> u32
+    ensures { λ r. ⌜ Links plan device port running (now (state .entry)) r (now (state .exit)) ⌝ }
 {
-    let number = link_refusal(plan, 1, state, device, port);
+    let number = link_refusal(plan, state, device, port, running);
     if number != 0 {
         return number;
     }
-    unlink(plan, state, 8 * device + port);
-    0
-}
-
-// The link at a port starts.
-pub fn link_start(plan: Plan, state: &mut [u32], device: usize, port: usize) -> u32
-    ensures { λ r. ⌜ Links plan device port (now (state .entry)) r (now (state .exit)) ⌝ }
-{
-    let number = link_refusal(plan, 0, state, device, port);
-    if number != 0 {
-        return number;
-    }
-    link(plan, state, 8 * device + port);
+    switch(plan, state, 8 * device + port, running);
     0
 }
 
@@ -257,10 +245,9 @@ fn sends(state: &[u32], q: usize, kind: u8, permissions: u8) -> bool
     device::may_send(kind, permissions as u32)
 }
 
-// What stopping a link (flag 1) or starting one (flag 0) is refused with, or 0: the flag is what the
-// link has to be before.
-fn link_refusal(plan: Plan, flag: u32, state: &[u32], device: usize, port: usize) -> u32
-    ensures { λ r. ⌜ Ordered (linkAsks plan flag device port (now (state .entry))) r ⌝ }
+// What a link is refused with, or 0 where it can become what is wanted.
+fn link_refusal(plan: Plan, state: &[u32], device: usize, port: usize, running: bool) -> u32
+    ensures { λ r. ⌜ Ordered (linkAsks plan running device port (now (state .entry))) r ⌝ }
 {
     let number = refusal(plan, state, device);
     if number != 0 {
@@ -274,7 +261,7 @@ fn link_refusal(plan: Plan, flag: u32, state: &[u32], device: usize, port: usize
     if NOBODY <= far_end(plan, q) {
         return 7;
     }
-    if state::word(state, PORTS + PORT * q + RUNNING) != flag {
+    if state::word(state, PORTS + PORT * q + RUNNING) == running as u32 {
         return 10;
     }
     0
@@ -289,38 +276,41 @@ fn far_end(plan: Plan, q: usize) -> u16
     peers[q / 8][q % 8]
 }
 
-// The link at port q stops, at both ends. A node at an end forgets all.
-fn unlink(plan: Plan, state: &mut [u32], q: usize)
+// The link at port q runs from now on, or stops, at both ends.
+fn switch(plan: Plan, state: &mut [u32], q: usize, running: bool)
     requires { ⌜ (length (now state) ≡ words) × (q < 256) × (peer plan q < nobody) ⌝ }
-    ensures { λ _. ⌜ now (state .exit) ≡ unlinked plan q (now (state .entry)) ⌝ }
+    ensures { λ _. ⌜ now (state .exit) ≡ switched plan running q (now (state .entry)) ⌝ }
 {
     let far = far_end(plan, q) as usize;
-    halt(state, q);
-    halt(state, far);
+    if running {
+        flag(state, q, far, 1);
+        return;
+    }
     let core = plan.core;
-    forget(state, q / 8, core.role[q / 8]);
-    forget(state, far / 8, core.role[far / 8]);
+    halt(state, q, core.role[q / 8]);
+    halt(state, far, core.role[far / 8]);
+    flag(state, q, far, 0);
 }
 
-// The link at port q starts, at both ends.
-fn link(plan: Plan, state: &mut [u32], q: usize)
-    requires { ⌜ (length (now state) ≡ words) × (q < 256) × (peer plan q < nobody) ⌝ }
-    ensures { λ _. ⌜ now (state .exit) ≡ linked plan q (now (state .entry)) ⌝ }
+// The ends of a link get their flag.
+fn flag(state: &mut [u32], q: usize, far: usize, running: u32)
+    requires { ⌜ (length (now state) ≡ words) × (q < 256) × (far < 256) ⌝ }
+    ensures { λ _. ⌜ now (state .exit) ≡ flagged running q far (now (state .entry)) ⌝ }
 {
-    let far = far_end(plan, q) as usize;
-    state[PORTS + PORT * q + RUNNING] = 1;
-    state[PORTS + PORT * far + RUNNING] = 1;
+    state[PORTS + PORT * q + RUNNING] = running;
+    state[PORTS + PORT * far + RUNNING] = running;
 }
 
-// Port q is cleared and stopped; where its search starts stays.
-fn halt(state: &mut [u32], q: usize)
+// Nothing waits at port q any more, and its device, if it is a node, forgets all. Where the port's
+// search starts stays.
+fn halt(state: &mut [u32], q: usize, role: u8)
     requires { ⌜ (length (now state) ≡ words) × (q < 256) ⌝ }
-    ensures { λ _. ⌜ now (state .exit) ≡ halted q (now (state .entry)) ⌝ }
+    ensures { λ _. ⌜ now (state .exit) ≡ drained q (cond (eqb role 1) (now (state .entry)) (cleared (q / 8) (now (state .entry)))) ⌝ }
 {
+    forget(state, q / 8, role);
     let at = PORTS + PORT * q;
     state[at + INTERRUPTS] = 0;
     state[at + ACKNOWLEDGES] = 0;
-    state[at + RUNNING] = 0;
 }
 
 // Device d, if it is a node, forgets all; a router keeps what it has.

@@ -15,8 +15,8 @@ use Rattle.plan.specs.declared.Plan.{Plan}
 use Rattle.state.specs.State.{State}
 use Rattle.state.specs.Start.{Starts}
 use Rattle.state.proofs.Unique.{start-unique}
-use Rattle.calls.specs.Calls.{Takes, Stops, Links, Resets}
-use Rattle.calls.proofs.Unique.{Once, call-unique, link-stop-unique, link-start-unique, reset-unique}
+use Rattle.calls.specs.Calls.{Takes, Links, Resets}
+use Rattle.calls.proofs.Unique.{Once, call-unique, link-unique, reset-unique}
 use Rattle.bench.specs.Round.{Areas}
 use Rattle.bench.specs.RoundCall.{Plays}
 use Rattle.bench.specs.Settling.{Pair, pair}
@@ -25,7 +25,7 @@ use Rattle.reach.specs.Reach.{Reaches}
 use Rattle.reach.proofs.Unique.{reach-unique}
 use Rattle.report.specs.Report.{Areas as Texts, lent}
 use Rattle.report.proofs.Unique.{report-unique}
-use Rattle.door.specs.Numbers.{sideOf}
+use Rattle.door.specs.Numbers.{nonzero, sideOf}
 use Rattle.door.specs.OnFile.{OnFile, Changes, Gives}
 use Rattle.door.specs.Own.{own, SettlesOwn, ReportsOwn}
 
@@ -91,11 +91,9 @@ module _ (file : List ℕ) where
     pub bench-for-header-acknowledge-unique : (k : ℕ) → Once (Changes file (λ plan. Takes plan 1 device k))
     bench-for-header-acknowledge-unique k = changes-once (λ plan. Takes plan 1 device k) (call-unique (planOf file) device 1 k)
 
-    pub bench-for-header-link-stop-unique : (port : ℕ) → Once (Changes file (λ plan. Stops plan device port))
-    bench-for-header-link-stop-unique port = changes-once (λ plan. Stops plan device port) (link-stop-unique (planOf file) device port)
-
-    pub bench-for-header-link-start-unique : (port : ℕ) → Once (Changes file (λ plan. Links plan device port))
-    bench-for-header-link-start-unique port = changes-once (λ plan. Links plan device port) (link-start-unique (planOf file) device port)
+    pub bench-for-header-link-unique : (port running : ℕ) → Once (Changes file (λ plan. Links plan device port (nonzero running)))
+    bench-for-header-link-unique port running =
+        changes-once (λ plan. Links plan device port (nonzero running)) (link-unique (planOf file) device port (nonzero running))
 
     pub bench-for-header-reset-unique : Once (Changes file (λ plan. Resets plan device))
     bench-for-header-reset-unique = changes-once (λ plan. Resets plan device) (reset-unique (planOf file) device)

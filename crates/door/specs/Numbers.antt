@@ -5,9 +5,9 @@ use lib.Dec.{eqb}
 use Rattle.device.specs.declared.Side.{Side}
 
 -- 0 is no, and any other number yes
-abbrev pub yes : ℕ → Bool
-yes n = not (eqb n 0)
+abbrev pub nonzero : ℕ → Bool
+nonzero n = not (eqb n 0)
 
 -- the port's side of a reaction
 abbrev pub sideOf : ℕ → ℕ → ℕ → Side
-sideOf role running permissions = record { router = yes role; running = yes running; permissions = permissions }
+sideOf role running permissions = record { router = nonzero role; running = nonzero running; permissions = permissions }

@@ -8,11 +8,11 @@ ghost use Rattle.codes.specs.Numbers.{kindOf, valueOf, codeOf};
 ghost use Rattle.device.specs.Reaction.{reacts, actionOf};
 ghost use Rattle.plan.specs.Refusals.{verdict};
 ghost use Rattle.state.specs.Start.{Starts};
-ghost use Rattle.calls.specs.Calls.{Takes, Stops, Links, Resets};
+ghost use Rattle.calls.specs.Calls.{Takes, Links, Resets};
 ghost use Rattle.bench.specs.RoundCall.{Plays};
 ghost use Rattle.bench.specs.Round.{areas};
 ghost use Rattle.reach.specs.Reach.{Reaches};
-ghost use Rattle.door.specs.Numbers.{sideOf};
+ghost use Rattle.door.specs.Numbers.{nonzero, sideOf};
 ghost use Rattle.door.specs.OnFile.{OnFile, Changes, Gives};
 ghost use Rattle.door.specs.Own.{SettlesOwn, ReportsOwn};
 use codes::Code;
@@ -175,36 +175,22 @@ pub extern "C" fn bench_for_header_acknowledge(
     bench::acknowledge(read.plan, state, device, k)
 }
 
+// A flag of 0 stops the link, and any other starts it.
 #[no_mangle]
-pub extern "C" fn bench_for_header_link_stop(
+pub extern "C" fn bench_for_header_link(
     plan: &[u8],
     state: &mut [u32],
     device: usize,
     port: usize,
+    running: u32,
 ) -> u32
-    ensures { λ r. ⌜ Changes (now (plan .entry)) (λ p. Stops p device port) (now (state .entry)) r (now (state .exit)) ⌝ }
+    ensures { λ r. ⌜ Changes (now (plan .entry)) (λ p. Links p device port (nonzero running)) (now (state .entry)) r (now (state .exit)) ⌝ }
 {
     let read = planfile::read(plan);
     if read.number != 0 {
         return read.number;
     }
-    bench::link_stop(read.plan, state, device, port)
-}
-
-#[no_mangle]
-pub extern "C" fn bench_for_header_link_start(
-    plan: &[u8],
-    state: &mut [u32],
-    device: usize,
-    port: usize,
-) -> u32
-    ensures { λ r. ⌜ Changes (now (plan .entry)) (λ p. Links p device port) (now (state .entry)) r (now (state .exit)) ⌝ }
-{
-    let read = planfile::read(plan);
-    if read.number != 0 {
-        return read.number;
-    }
-    bench::link_start(read.plan, state, device, port)
+    bench::link(read.plan, state, device, port, running != 0)
 }
 
 #[no_mangle]

@@ -1,4 +1,4 @@
--- `calls::halt` meets its contract: what was stored is what is said. Assumes nothing.
+-- `calls::halt` meets its contract: the device forgets, and then two words are stored. Assumes nothing.
 use native.Mathlib.Nat.{add-zero}
 use native.Mathlib.Omega.{arith}
 use lib.ListN.{length-set}
@@ -10,17 +10,18 @@ use Rattle.calls.proofs.halt.Tie as tie
 slice-write-state-2 : tie.Need-slice-write-state-2
 slice-write-state-2 c = simp length-set (omega arith)
 
-slice-write-state-3 : tie.Need-slice-write-state-3
-slice-write-state-3 c = simp length-set (omega arith)
-
 returns : tie.Need-returns
 unfolding put
-returns c = rw add-zero
+returns c = rw (add-zero, ← c .before .before .forget .ensures)
+
+forget-requires : tie.Need-forget-requires
+forget-requires c κs = search needs
 
 pub halt-spec : {M : Type 1} → statement M
 halt-spec =
     tie.close
     (tie.spec
+    forget-requires
     (λ c. search needs)
     (λ c. search needs)
     (λ c. search needs)
@@ -29,8 +30,5 @@ halt-spec =
     (λ c. search needs)
     (λ c. search needs)
     slice-write-state-2
-    (λ c. search needs)
-    (λ c. search needs)
-    slice-write-state-3
     (λ c. search needs)
     returns)

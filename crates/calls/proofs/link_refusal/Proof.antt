@@ -1,5 +1,6 @@
 -- `calls::link_refusal` meets its contract: each test that is passed answers one condition more. Assumes nothing.
-use mathlib.Core.Path.{refl, sym, _∙_}
+use mathlib.Core.Path.{_≡_, refl, sym, _∙_}
+use mathlib.Core.Bool.{Bool, true, false}
 use mathlib.Core.List.{List}
 use mathlib.Core.Logic.{inl, inr}
 use Prim.Native.Nat.{_+_, _*_, _<_}
@@ -7,15 +8,16 @@ use native.Mathlib.Omega.{arith}
 use lib.ListN.{drop}
 use borrow.Author.Needs.{needs}
 use denote.Ref.{now}
+use mir.Val.{boolByte}
 use Rattle.answers.specs.Ordered.{Condition}
 use Rattle.answers.proofs.Outcomes.{Holds, Past}
-use Rattle.calls.specs.Calls.{linkAsks, deviceAsks}
+use Rattle.calls.specs.Calls.{deviceAsks, flagOf, linkAsks}
 use Rattle.calls.proofs.Asked.{asked, ready, call-stopped, call-passed, port-below}
 use Rattle.calls.proofs.link_refusal.Statement.{statement}
 use Rattle.calls.proofs.link_refusal.Tie as tie
 
 abbrev asks : tie.Start → List Condition
-asks c = linkAsks (c .args .plan) (c .args .flag) (c .args .device) (c .args .port) (now (c .args .state))
+asks c = linkAsks (c .args .plan) (c .args .running) (c .args .device) (c .args .port) (now (c .args .state))
 
 -- ---- behind each test
 
@@ -28,9 +30,15 @@ past-port c n o = call-passed _ _ _ (drop 3 (asks (c .before .before .before .be
 past-far : (c : tie.Else3) → Past (asks (c .before .before .before .before .before .before .before .before)) 5
 past-far c n o = past-port (c .before .before) n (inr (omega (arith, c .before .far-end .ensures), o))
 
+-- the flag as a number
+as-flag : (runs : Bool) → boolByte runs ≡ flagOf runs
+unfolding flagOf
+as-flag true = refl
+as-flag false = refl
+
 -- the port is one of 256
 port : (c : tie.Else2) → 8 * c .before .before .before .before .before .before .args .device + c .before .before .before .before .before .before .args .port < 256
-port c = port-below _ _ _ 0 _ (first (c .before .before .before)) (c .if2 .left)
+port c = port-below _ _ _ _ (first (c .before .before .before)) (c .if2 .left)
 
 -- ---- the needs
 
@@ -66,10 +74,10 @@ add-word-2 : tie.Need-add-word-2
 add-word-2 c = let l = port (c .before .before) in search needs
 
 returns-4 : tie.Need-returns-4
-returns-4 c = past-far (c .before .before) 10 (inl (λ h. c .if4 .taken (c .before .word .ensures ∙ h), refl))
+returns-4 c = past-far (c .before .before) 10 (inl (λ h. h (sym (c .before .word .ensures) ∙ c .if4 .taken ∙ as-flag _), refl))
 
 returns-5 : tie.Need-returns-5
-returns-5 c = past-far (c .before .before) 0 (inr (sym (c .before .word .ensures) ∙ c .if4 .left, refl))
+returns-5 c = past-far (c .before .before) 0 (inr (λ h. c .if4 .left (c .before .word .ensures ∙ h ∙ sym (as-flag _)), refl))
 
 refusal-requires : tie.Need-refusal-requires
 refusal-requires c κs = search needs
@@ -94,5 +102,6 @@ link-refusal-spec =
     add-word
     add-word-2
     word-requires
+    (λ c. search needs)
     returns-4
     returns-5)
