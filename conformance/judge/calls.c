@@ -42,14 +42,8 @@ u32 judge_acknowledge(const u8 *plan, size plan_length, u32 *state, size state_l
     return host_call(plan, plan_length, state, state_length, device, ACKNOWLEDGE, k);
 }
 
-/* A stop clears what waits at this end, and a node forgets; next stays, and so does a router's register. */
-static void stop_end(struct port *port) {
-    clear_waiting(port);
-    if (!port->device->router)
-        clear_device(port->device);
-}
-
-/* Running is the flag that is wanted: 0 stops the link, and any other number starts it. */
+/* Running is the flag that is wanted: 0 stops the link, and any other number starts it. A stop clears what waits at both ends,
+ * and beside the flags nothing else: registers and timers outlast it. */
 u32 judge_link(const u8 *plan, size plan_length, u32 *state, size state_length, size device, size port, u32 running) {
     struct network net;
     flag run = running != 0;
@@ -66,8 +60,8 @@ u32 judge_link(const u8 *plan, size plan_length, u32 *state, size state_length, 
     end->running = run;
     end->peer->running = run;
     if (!run) {
-        stop_end(end);
-        stop_end(end->peer);
+        clear_waiting(end);
+        clear_waiting(end->peer);
     }
     state_write(&net, state);
     return 0;
