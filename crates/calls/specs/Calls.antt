@@ -11,7 +11,7 @@ use Rattle.bits.specs.Set.{bit}
 use Rattle.plan.specs.Fields.{nobody}
 use Rattle.plan.specs.declared.Plan.{Plan}
 use Rattle.state.specs.State.{State, words, word, put, portsEnd, portAt, register, timer, runningAt, running, stateOf}
-use Rattle.state.specs.Network.{devices, portsOf, router, peer, source, handler}
+use Rattle.state.specs.Network.{devices, portsOf, peer, source, handler}
 use Rattle.state.specs.Sound.{stateAsks}
 use Rattle.state.specs.Queue.{sendsAt, queueAll}
 use Rattle.state.specs.Mark.{mark}
@@ -100,14 +100,10 @@ module _ (plan : Plan) where
       deviceAsks d s
       ++ (ask 4 (p < portsOf plan d) ∷ ask 7 (peer plan (8 * d + p) < nobody) ∷ ask 10 (running s (8 * d + p) ≢ flagOf runs) ∷ [])
 
-  -- nothing waits at port q any more; its device, if it is a node, forgets all
-  abbrev pub halted : ℕ → State → State
-  halted q s = drained q (cond (router plan (q / 8)) s (cleared (q / 8) s))
-
-  -- a link that stops is halted at both ends
+  -- where it stops, nothing waits at either end any more
   unfoldable pub switched : Bool → ℕ → State → State
   switched true q s = flagged 1 q (peer plan q) s
-  switched false q s = flagged 0 q (peer plan q) (halted (peer plan q) (halted q s))
+  switched false q s = flagged 0 q (peer plan q) (drained (peer plan q) (drained q s))
 
   -- the promise
   abbrev pub Links : ℕ → ℕ → Bool → State → ℕ → State → Type 0

@@ -3,7 +3,7 @@
 ghost use mathlib.Core.Path.{_≡_};
 ghost use mathlib.Core.Bool.{true, cond};
 ghost use mathlib.Core.List.{List, _∷_};
-ghost use Prim.Native.Nat.{ℕ, _+_, _*_, _/_, _<_};
+ghost use Prim.Native.Nat.{ℕ, _+_, _*_, _<_};
 ghost use lib.Dec.{eqb};
 ghost use lib.ListN.{length, getD};
 ghost use Rattle.answers.specs.Decides.{Decides};
@@ -276,7 +276,8 @@ fn far_end(plan: Plan, q: usize) -> u16
     peers[q / 8][q % 8]
 }
 
-// The link at port q runs from now on, or stops, at both ends.
+// The link at port q runs from now on, or stops, at both ends. A stop loses what waits there, and
+// nothing else: the registers and timers of the two devices outlast it.
 fn switch(plan: Plan, state: &mut [u32], q: usize, running: bool)
     requires { ⌜ (length (now state) ≡ words) × (q < 256) × (peer plan q < nobody) ⌝ }
     ensures { λ _. ⌜ now (state .exit) ≡ switched plan running q (now (state .entry)) ⌝ }
@@ -286,9 +287,8 @@ fn switch(plan: Plan, state: &mut [u32], q: usize, running: bool)
         flag(state, q, far, 1);
         return;
     }
-    let core = plan.core;
-    halt(state, q, core.role[q / 8]);
-    halt(state, far, core.role[far / 8]);
+    drain(state, q);
+    drain(state, far);
     flag(state, q, far, 0);
 }
 
@@ -301,27 +301,14 @@ fn flag(state: &mut [u32], q: usize, far: usize, running: u32)
     state[PORTS + PORT * far + RUNNING] = running;
 }
 
-// Nothing waits at port q any more, and its device, if it is a node, forgets all. Where the port's
-// search starts stays.
-fn halt(state: &mut [u32], q: usize, role: u8)
+// Nothing waits at port q any more. Where its search starts stays.
+fn drain(state: &mut [u32], q: usize)
     requires { ⌜ (length (now state) ≡ words) × (q < 256) ⌝ }
-    ensures { λ _. ⌜ now (state .exit) ≡ drained q (cond (eqb role 1) (now (state .entry)) (cleared (q / 8) (now (state .entry)))) ⌝ }
+    ensures { λ _. ⌜ now (state .exit) ≡ drained q (now (state .entry)) ⌝ }
 {
-    forget(state, q / 8, role);
     let at = PORTS + PORT * q;
     state[at + INTERRUPTS] = 0;
     state[at + ACKNOWLEDGES] = 0;
-}
-
-// Device d, if it is a node, forgets all; a router keeps what it has.
-fn forget(state: &mut [u32], d: usize, role: u8)
-    requires { ⌜ (length (now state) ≡ words) × (d < 32) ⌝ }
-    ensures { λ _. ⌜ now (state .exit) ≡ cond (eqb role 1) (now (state .entry)) (cleared d (now (state .entry))) ⌝ }
-{
-    if role == 1 {
-        return;
-    }
-    clear(state, d);
 }
 
 // The register and the timers of device d become 0.

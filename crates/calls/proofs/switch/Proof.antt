@@ -6,7 +6,7 @@ use borrow.Author.Needs.{needs}
 use Rattle.plan.specs.declared.Plan.{Plan}
 use Rattle.state.specs.State.{State}
 use Rattle.state.specs.Network.{peer}
-use Rattle.calls.specs.Calls.{flagged, halted, switched}
+use Rattle.calls.specs.Calls.{drained, flagged, switched}
 use Rattle.calls.proofs.switch.Statement.{statement}
 use Rattle.calls.proofs.switch.Tie as tie
 
@@ -15,7 +15,7 @@ module _ (plan : Plan) (q far : ℕ) (end : far ≡ peer plan q) where
   unfolding switched
   to-run runs s t r a = rw (r, a, end)
 
-  to-stop : (runs : Bool) (s t u v : State) → runs ≡ false → t ≡ halted plan q s → u ≡ halted plan far t → v ≡ flagged 0 q far u → v ≡ switched plan runs q s
+  to-stop : (runs : Bool) (s t u v : State) → runs ≡ false → t ≡ drained q s → u ≡ drained far t → v ≡ flagged 0 q far u → v ≡ switched plan runs q s
   unfolding switched
   to-stop runs s t u v r a b c = rw (r, c, b, a, end)
 
@@ -27,9 +27,9 @@ returns c =
 returns-2 : tie.Need-returns-2
 returns-2 c =
     let g = c .before .before .before .before .before .before in
-    let f = g .before .before .before .before .before in
-    let e = f .before .before .before .before in
-    to-stop _ _ _ (e .before .far-end .ensures) (e .before .before .before .args .running) _ _ _ _ (e .if1 .left) (f .halt .ensures) (g .halt2 .ensures) (c .before .before .flag2 .ensures)
+    let f = g .before .before .before .before in
+    let e = f .before .before in
+    to-stop _ _ _ (e .before .far-end .ensures) (e .before .before .before .args .running) _ _ _ _ (e .if1 .left) (f .drain .ensures) (g .drain2 .ensures) (c .before .before .flag2 .ensures)
 
 far-end-requires : tie.Need-far-end-requires
 far-end-requires c κs = search needs
@@ -40,11 +40,11 @@ flag-requires c κs = search needs
 flag-requires-2 : tie.Need-flag-requires-2
 flag-requires-2 c κs = search needs
 
-halt-requires : tie.Need-halt-requires
-halt-requires c κs = search needs
+drain-requires : tie.Need-drain-requires
+drain-requires c κs = search needs
 
-halt-requires-2 : tie.Need-halt-requires-2
-halt-requires-2 c κs = search needs
+drain-requires-2 : tie.Need-drain-requires-2
+drain-requires-2 c κs = search needs
 
 pub switch-spec : {M : Type 1} → statement M
 switch-spec =
@@ -55,10 +55,8 @@ switch-spec =
     flag-requires
     (λ c. search needs)
     returns
-    (λ c. search needs)
-    halt-requires
-    (λ c. search needs)
-    halt-requires-2
+    drain-requires
+    drain-requires-2
     flag-requires-2
     (λ c. search needs)
     returns-2)

@@ -1,27 +1,23 @@
--- `calls::halt` meets its contract: the device forgets, and then two words are stored. Assumes nothing.
-use native.Mathlib.Nat.{add-zero}
+-- `calls::drain` meets its contract: two words are stored. Assumes nothing.
+use mathlib.Core.Path.{refl}
 use native.Mathlib.Omega.{arith}
 use lib.ListN.{length-set}
 use borrow.Author.Needs.{needs}
 use Rattle.state.specs.State.{put}
-use Rattle.calls.proofs.halt.Statement.{statement}
-use Rattle.calls.proofs.halt.Tie as tie
+use Rattle.calls.proofs.drain.Statement.{statement}
+use Rattle.calls.proofs.drain.Tie as tie
 
 slice-write-state-2 : tie.Need-slice-write-state-2
 slice-write-state-2 c = simp length-set (omega arith)
 
 returns : tie.Need-returns
 unfolding put
-returns c = rw (add-zero, ← c .before .before .forget .ensures)
+returns c = refl
 
-forget-requires : tie.Need-forget-requires
-forget-requires c κs = search needs
-
-pub halt-spec : {M : Type 1} → statement M
-halt-spec =
+pub drain-spec : {M : Type 1} → statement M
+drain-spec =
     tie.close
     (tie.spec
-    forget-requires
     (λ c. search needs)
     (λ c. search needs)
     (λ c. search needs)
