@@ -3,65 +3,37 @@ use mathlib.Core.Path.{_≡_, refl, sym, ap, _∙_}
 use mathlib.Core.Bool.{true, false}
 use mathlib.Core.Logic.{_⊎_, inl, inr, _≢_}
 use Prim.Native.Nat.{ℕ, suc, _+_, _*_, _/_, _%_, _≤_, _<_}
-use native.Mathlib.Decide.{ℕ-discrete}
 use native.Mathlib.Omega.{arith}
-use lib.Bits.{bitAnd}
-use borrow.Author.Tests.{lt-ltb, ltb-true, eqb-true, eq-eqb, ne-eqb}
-use Rattle.lists.proofs.Facts.{facts}
+use borrow.Author.Tests.{ltb-true, eqb-true}
 use Rattle.bits.specs.Set.{bit, size}
-use Rattle.bits.proofs.Sets.{bit-two, bit-and, bit-zero}
-use Rattle.plan.specs.Fields.{nobody, portsFit, masksFit}
+use Rattle.plan.specs.Fields.{nobody, portsFit}
 use Rattle.plan.specs.Reading.{Held}
 use Rattle.plan.specs.declared.Plan.{Plan}
-use Rattle.plan.specs.inner.Memory.{deviceRight, rowRight}
-use Rattle.plan.proofs.There.{right-says}
-use Rattle.plan.proofs.BothWays.{held-right, held-peers}
 use Rattle.state.specs.State.{State, running}
-use Rattle.state.specs.Network.{devices, role, router, portsOf, exists, peer, source, handler}
+use Rattle.state.specs.Network.{devices, router, portsOf, exists, peer, source, handler}
 use Rattle.state.specs.Sound.{Kept, Sound}
-use Rattle.state.proofs.Plans.{few, far-end}
+use Rattle.state.proofs.Plans.{few, device-fits, masked, far-end}
 use Rattle.reach.specs.Walk.{Leads, Walk, stay, cross}
 use Rattle.reach.specs.Away.{Farthest}
 use Rattle.reach.specs.Reach.{Reached}
 use Rattle.reach.proofs.Found.{none-away}
 use Rattle.reach.proofs.Distances.{walk-device, walk-port, farthest, farthest-once, crossings-below}
 use Rattle.assurance.specs.Return.{Permits, Gets, FarthestBack}
-use Rattle.assurance.proofs.Choices.{runs-there}
+use Rattle.assurance.proofs.Choices.{runs-there, runs-joined}
 
 -- ---- devices with a mask
 
--- a device with k in one of its masks is a node, and has k in just one
-mask-says : (role source handler k : ℕ) → masksFit role source handler ≡ true → 1 ≤ bit source k + bit handler k
-    → (role ≡ 0) × (bit source k + bit handler k ≡ 1)
-unfolding masksFit
-mask-says role source handler k fits some =
-    elim (ℕ-discrete role 0) [
-      | yes z ↦
-          let none = eqb-true (bitAnd source handler) 0 (rw (eq-eqb role 0 z) at fits) in
-          (z, omega (arith, bit-and k source handler, ap (λ v. bit v k) none, bit-zero k, bit-two source k, bit-two handler k))
-      | no n ↦
-          let none = simp facts at (rw (ne-eqb role 0 n) at fits) in
-          absurd (omega (arith, ap (λ v. bit v k) (none .0), ap (λ v. bit v k) (none .1), bit-zero k))
-    ]
-
 module _ (plan : Plan) (held : Held plan) (d k : ℕ) (h : d < devices plan) (some : 1 ≤ bit (source plan d) k + bit (handler plan d) k) where
-  fits : (portsFit (role plan d) (portsOf plan d) ≡ true) × (masksFit (role plan d) (source plan d) (handler plan d) ≡ true)
-  unfolding rowRight deviceRight
-  fits = (simp facts at (rw (lt-ltb d (devices plan) h) at (right-says plan (held-right plan held) .rows d (omega (arith, few plan held))))) .0
-
-  says : (role plan d ≡ 0) × (bit (source plan d) k + bit (handler plan d) k ≡ 1)
-  says = mask-says (role plan d) (source plan d) (handler plan d) k (fits .1) some
-
   pub node : router plan d ≡ false
-  node = rw (says .0)
+  node = rw (masked plan held d k h some .0)
 
   one-port : portsOf plan d ≡ 1
   unfolding portsFit
-  one-port = eqb-true (portsOf plan d) 1 (rw (says .0) at (fits .0))
+  one-port = eqb-true (portsOf plan d) 1 (rw (masked plan held d k h some .0) at (device-fits plan held d h .0))
 
 -- no node is a source and a handler of k
 pub apart : (plan : Plan) → Held plan → (k from to : ℕ) → from < devices plan → bit (source plan from) k ≡ 1 → bit (handler plan to) k ≡ 1 → from ≢ to
-apart plan held k from to there requests handles e = omega (arith, says plan held from k there (omega arith) .1, ap (λ d. bit (handler plan d) k) e)
+apart plan held k from to there requests handles e = omega (arith, masked plan held from k there (omega arith) .1, ap (λ d. bit (handler plan d) k) e)
 
 -- what is so of a source, and of a handler that its interrupt gets to
 pub record TwoWays (plan : Plan) (k from to : ℕ) (s : State) : Type 0 where
@@ -94,11 +66,7 @@ module _ (plan : Plan) (held : Held plan) {s : State} (x : Sound plan s) (permit
     kept = x .ports (link .port) (link .small) link-there
 
     joined : peer plan (link .port) < nobody
-    joined =
-        elim (ℕ-discrete (peer plan (link .port)) nobody) [
-          | yes z ↦ absurd (omega (arith, link .runs, kept .loose z))
-          | no n ↦ omega (arith, held-peers plan held (link .port / 8) (link .port % 8))
-        ]
+    joined = runs-joined plan held x (link .port) (link .small) (link .runs)
 
     -- it is a link from its other end too
     link-back : Link plan s e d

@@ -16,10 +16,12 @@ use Rattle.bits.specs.declared.Found.the-variants.{At, Nowhere}
 use Rattle.bits.proofs.Sets.{bit-two, bit-or, bit-zero}
 use Rattle.bits.proofs.Firsts.{firstFrom-finds}
 use Rattle.device.specs.Permissions.{maySend}
+use Rattle.plan.specs.Fields.{nobody}
 use Rattle.plan.specs.Reading.{Held}
 use Rattle.plan.specs.declared.Plan.{Plan}
+use Rattle.plan.proofs.BothWays.{held-peers}
 use Rattle.state.specs.State.{State, word, portWords, portAt, waiting, next, runningAt, running}
-use Rattle.state.specs.Network.{devices, exists, permissions}
+use Rattle.state.specs.Network.{devices, exists, peer, permissions}
 use Rattle.state.specs.Sound.{Kept, Sound}
 use Rattle.state.proofs.Plans.{owned}
 use Rattle.bench.specs.Round.{nothing, chosen, sentWords, sentBytes}
@@ -38,6 +40,14 @@ module _ (plan : Plan) (held : Held plan) {s : State} (x : Sound plan s) (q : �
   -- a port that runs exists, and belongs to a device of the plan
   pub runs-there : running s q ≡ 1 → exists plan q ≡ true
   runs-there r = there runningAt (omega arith) (λ e. omega arith)
+
+  -- and is joined to another
+  pub runs-joined : running s q ≡ 1 → peer plan q < nobody
+  runs-joined r =
+      elim (ℕ-discrete (peer plan q) nobody) [
+        | yes z ↦ absurd (omega (arith, x .ports q small (runs-there r) .loose z))
+        | no n ↦ omega (arith, held-peers plan held (q / 8) (q % 8))
+      ]
 
   -- a code waits only where the port runs and may send it
   module _ (kind k : ℕ) (g : kind < 2) (b : bit (waiting s kind q) k ≡ 1) where

@@ -29,7 +29,7 @@ module _ (plan : Plan) (held : Held plan) (q : ℕ) where
               (λ kind k g l e o. took plan kind k g l (p / 8) p (omega arith) (w .state) (y .0 .size) (router plan (p / 8)) .runs q ∙ y .1),
         )
 
-    round-runs : running (round plan s .next) q ≡ running s q
+    pub round-runs : running (round plan s .next) q ≡ running s q
     unfolding round reached
     round-runs =
         keeps (arrives plan (sentBytes plan s)) Same (8 * devices plan) arrives-same (afterSending plan s) (posts-sound plan held x, posts-runs plan held x q) .1

@@ -9,3 +9,4 @@ pub mod Early
 pub mod LateBack
 pub mod Twice
 pub mod Clocks
+pub mod Cable

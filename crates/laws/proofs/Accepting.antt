@@ -1,4 +1,4 @@
--- A code that is not accepted changes nothing. An interrupt that is accepted found its bit clear, and loads its timer.
+-- A code that is not accepted changes nothing. One that is accepted came by an open port and found its bit ready for it; an interrupt then loads its timer.
 use mathlib.Core.Path.{_≡_, refl, sym, ap, _∙_}
 use mathlib.Core.Bool.{Bool, true, false, cond, false≢true}
 use mathlib.Core.List.{List}
@@ -6,7 +6,7 @@ use Prim.Native.Nat.{ℕ, _/_, _<_}
 use native.Mathlib.Omega.{arith}
 use lib.Dec.{ltb}
 use lib.ListN.{length, getD}
-use borrow.Author.Tests.{lt-ltb}
+use borrow.Author.Tests.{eqb-true, lt-ltb}
 use Rattle.bits.specs.Set.{bit}
 use Rattle.codes.specs.Codes.{byteOf, reads}
 use Rattle.codes.specs.declared.Code.{Code}
@@ -15,16 +15,15 @@ use Rattle.codes.proofs.BothWays.{Stands, stands, interrupt, acknowledge}
 use Rattle.device.specs.Reaction.{marked, accepted, ruled, reactsTo, reacts}
 use Rattle.device.specs.declared.Action.{Action}
 use Rattle.device.specs.declared.Action.the-variants.{Named, LinkError, Ignored, Forwarded, Told}
-use Rattle.device.specs.declared.Reaction.{Reaction}
 use Rattle.device.specs.declared.Side.{Side}
-use Rattle.device.proofs.Rule.{ruled-cases}
+use Rattle.device.proofs.Rule.{Accepts, ruled-cases}
 use Rattle.plan.specs.declared.Plan.{Plan}
-use Rattle.state.specs.State.{words, put, registerAt, timerAt, register, timer}
+use Rattle.state.specs.State.{words, put, registerAt, timerAt, register, timer, running}
 use Rattle.state.specs.Network.{router, peer, loadOf}
 use Rattle.state.proofs.Words.{length-put, word-same, put-word}
 use Rattle.state.proofs.Waits.{queue-all-left}
 use Rattle.bench.specs.Round.{World, nothing, timed, forwarded, acted, arrived, sideAt, arrives}
-use Rattle.bench.proofs.RoundSound.{after}
+use Rattle.bench.proofs.RoundSound.{after, Opens}
 use Rattle.laws.specs.Timing.{accepts, action}
 
 -- ---- a reaction that does not accept, and one that does
@@ -47,21 +46,32 @@ module _ (side : Side) (bits : ℕ) where
   bits-left (Interrupt k) e = ruled-left 0 k (Interrupt k) e
   bits-left (Acknowledge k) e = ruled-left 1 k (Acknowledge k) e
 
-  -- an interrupt that is accepted found its bit clear
-  record Taken (k : ℕ) (r : Reaction) : Type 0 where
-    is : r ≡ accepted side bits 0 k (Interrupt k)
-    found : bit bits k ≡ 0
+  opened-by : (kind k c j : ℕ) → c ≡ kind → j ≡ k → (code : Code) → accepts (ruled side bits c j code .action) ≡ true → Accepts side bits kind k
+  unfolding accepts
+  opened-by kind k c j same place code =
+      rw (← same, ← place)
+      (ruled-cases (λ r. accepts (r .action) ≡ true → Accepts side bits c j) side bits c j code (λ n x. absurd (false≢true x)) (λ n x. absurd (false≢true x)) (λ y x. y))
 
+  -- a code that is accepted came by an open port, and found its bit as its kind wants it
+  opened : (byte kind k : ℕ) → byte ≡ byteOf kind k → kind < 2 → k < 32 → (code : Code) → Stands byte code → accepts (reactsTo side bits code .action) ≡ true
+      → Accepts side bits kind k
+  unfolding reactsTo accepts
+  opened byte kind k e g l (Time v) s a = absurd (false≢true a)
+  opened byte kind k e g l Reserved s a = absurd (false≢true a)
+  opened byte kind k e g l (Interrupt j) (interrupt m o) a = opened-by kind k 0 j (omega arith) (omega arith) (Interrupt j) a
+  opened byte kind k e g l (Acknowledge j) (acknowledge m o) a = opened-by kind k 1 j (omega arith) (omega arith) (Acknowledge j) a
+
+  -- an interrupt that is accepted is all that is taken
   taken : (byte k : ℕ) → byte ≡ byteOf 0 k → k < 32 → (code : Code) → Stands byte code → accepts (reactsTo side bits code .action) ≡ true
-      → Taken k (reactsTo side bits code)
+      → reactsTo side bits code ≡ accepted side bits 0 k (Interrupt k)
   unfolding reactsTo accepts
   taken byte k e l (Time v) s a = absurd (false≢true a)
   taken byte k e l Reserved s a = absurd (false≢true a)
   taken byte k e l (Acknowledge j) (acknowledge m o) a = absurd (omega arith)
   taken byte k e l (Interrupt j) (interrupt m o) a =
       let here : j ≡ k = omega arith in
-      ruled-cases (λ r. accepts (r .action) ≡ true → Taken k r) side bits 0 j (Interrupt j) (λ n x. absurd (false≢true x)) (λ n x. absurd (false≢true x))
-      (λ y x. record { is = ap (λ i. accepted side bits 0 i (Interrupt i)) here; found = rw (← here) (y .stood) }) a
+      ruled-cases (λ r. accepts (r .action) ≡ true → r ≡ accepted side bits 0 k (Interrupt k)) side bits 0 j (Interrupt j) (λ n x. absurd (false≢true x))
+      (λ n x. absurd (false≢true x)) (λ y x. ap (λ i. accepted side bits 0 i (Interrupt i)) here) a
 
 -- ---- a byte arrives at port q
 
@@ -95,16 +105,22 @@ module _ (plan : Plan) (sent : List ℕ) (q : ℕ) (w : World) where
           ∙ ap (λ r. record { state = put (w .state) (registerAt (q / 8)) r; told = w .told }) (bits-left side bits (reads byte) e)
           ∙ ap (λ t. record { state = t; told = w .told }) (put-word (w .state) (registerAt (q / 8)))
 
+  -- accepted, its port is open and its bit stands ready for it
+  pub arrives-opens : (kind k : ℕ) → kind < 2 → k < 32 → byte ≡ byteOf kind k → accepts (action plan q byte (w .state)) ≡ true → Opens plan kind k q (w .state)
+  unfolding reacts
+  arrives-opens kind k g l e a =
+      let o = opened side bits byte kind k e g l (reads byte) (stands byte) a in
+      record { runs = eqb-true (running (w .state) q) 1 (o .runs); may = o .may; stood = o .stood }
+
   -- an accepted interrupt
   module _ (k : ℕ) (l : k < 32) (e : byte ≡ byteOf 0 k) (a : accepts (action plan q byte (w .state)) ≡ true) where
     pub arrives-found : bit bits k ≡ 0
-    unfolding reacts
-    arrives-found = taken side bits byte k e l (reads byte) (stands byte) a .found
+    arrives-found = arrives-opens 0 k (omega arith) l e a .stood
 
     pub arrives-loads : length (w .state) ≡ words → q / 8 < 32 → timer (arrives plan sent q w .state) (q / 8) k ≡ loadOf plan (q / 8) k
     unfolding arrives arrived reacts acted timed forwarded
     arrives-loads size small =
-        rw (lt-ltb byte nothing (omega arith), taken side bits byte k e l (reads byte) (stands byte) a .is) (by-side (side .router))
+        rw (lt-ltb byte nothing (omega arith), taken side bits byte k e l (reads byte) (stands byte) a) (by-side (side .router))
       where
         loads : timer (put (put (w .state) (registerAt (q / 8)) (marked 0 bits k)) (timerAt (q / 8) k) (loadOf plan (q / 8) k)) (q / 8) k ≡ loadOf plan (q / 8) k
         loads = word-same _ (timerAt (q / 8) k) (loadOf plan (q / 8) k) (omega (arith, size, length-put (w .state) (registerAt (q / 8)) (marked 0 bits k)))

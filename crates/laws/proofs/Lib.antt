@@ -2,3 +2,4 @@ pub mod Accepting
 pub mod Apart
 pub mod Timers
 pub mod Telling
+pub mod Requested

@@ -1,17 +1,19 @@
 -- What a host is told in a round: a node's bit is what its host was told, a code is told that a port sent, and a timeout where a timer stood at 1.
 use mathlib.Core.Path.{_≡_, refl, sym, ap, _∙_}
 use mathlib.Core.Bool.{Bool, true, false, cond}
-use mathlib.Core.List.{List, [], _∷_, _++_, List·Memᴰ, List·Memᴰ·head, List·Memᴰ·tail, List·Memᴰ·not-nil}
-use mathlib.Core.Logic.{inl, inr, _≢_}
+use mathlib.Core.List.{List, [], _∷_, _++_, List·Memᴰ, List·Memᴰ·head, List·Memᴰ·tail, Memᴰ·append-right, List·Memᴰ·append-cases, List·Memᴰ·eq-of-singleton, List·Memᴰ·not-nil}
+use mathlib.Core.Logic.{_⊎_, inl, inr, _≢_}
 use Prim.Native.Nat.{ℕ, suc, _+_, _-_, _*_, _/_, _%_, _≤_, _<_}
 use native.Mathlib.Decide.{ℕ-discrete}
 use native.Mathlib.Omega.{arith}
 use lib.Dec.{eqb}
 use lib.ListN.{length}
 use borrow.Author.Tests.{eq-eqb, ne-eqb}
-use Rattle.lists.proofs.Loops.{keeps, untouched}
+use Rattle.lists.specs.Loop.{upTo}
+use Rattle.lists.proofs.Loops.{keeps, keeps-from, untouched, came}
 use Rattle.bits.specs.Set.{bit, leave}
 use Rattle.bits.proofs.Sets.{leave-same, leave-other}
+use Rattle.codes.specs.Codes.{byteOf}
 use Rattle.device.specs.Reaction.{marked}
 use Rattle.device.proofs.Reactions.{marked-same, marked-other}
 use Rattle.plan.specs.Reading.{Held}
@@ -27,15 +29,17 @@ use Rattle.state.proofs.Keeping.{both-kinds}
 use Rattle.state.proofs.Waits.{queue-all-left}
 use Rattle.bench.proofs.Ticks.{tick-cases}
 use Rattle.bench.proofs.Unqueued.{posted-sound, posted-left}
-use Rattle.bench.proofs.RoundSound.{taking, arrives-taken, arrives-sound}
+use Rattle.bench.proofs.RoundSound.{taking, arrives-taken, arrives-cases, arrives-sound}
 use Rattle.laws.specs.Alike.{SendsIt}
 use Rattle.laws.specs.Telling.{times, toldIn}
-use Rattle.laws.proofs.Timers.{timed-bit, turn, turn-sound, ticked-came, reached-came}
+use Rattle.laws.specs.Timing.{accepts, action, before, incoming, AcceptedAt, NoneAccepted}
+use Rattle.laws.proofs.Accepting.{arrives-left, arrives-opens}
+use Rattle.laws.proofs.Timers.{timed-bit, turn, turn-sound, ticked-came, arrives-more, reached-came}
 
 -- ---- how often a word stands in a list
 
 -- once, where two are the same
-abbrev once : ℕ → ℕ → ℕ
+abbrev pub once : ℕ → ℕ → ℕ
 once a b = cond (eqb a b) 1 0
 
 module _ (word : ℕ) where
@@ -78,13 +82,13 @@ times-told a b d k l =
 -- ---- what a turn makes of the bits
 
 -- a bit is set where its host is told of an interrupt, and cleared where it is told of an acknowledge or a timeout
-abbrev Moves : ℕ → ℕ → ℕ → Type 0
+abbrev pub Moves : ℕ → ℕ → ℕ → Type 0
 Moves kind old new = new + (once kind ofAcknowledge + once kind ofTimeout) ≡ old + once kind ofInterrupt
 
 -- a turn about identifier j of device e: its bit moves, and no other
-record Turned (kind e j : ℕ) (s t : State) : Type 0 where
-  own : Moves kind (bit (register s e) j) (bit (register t e) j)
-  others : (d k : ℕ) → d < 32 → k < 32 → (e ≡ d → j ≡ k → ⊥) → bit (register t d) k ≡ bit (register s d) k
+pub record Turned (kind e j : ℕ) (s t : State) : Type 0 where
+  pub own : Moves kind (bit (register s e) j) (bit (register t e) j)
+  pub others : (d k : ℕ) → d < 32 → k < 32 → (e ≡ d → j ≡ k → ⊥) → bit (register t d) k ≡ bit (register s d) k
 
 module _ (e j : ℕ) (b : e < 32) (m : j < 32) (s : State) (size : length s ≡ words) where
   -- the register becomes r
@@ -110,7 +114,7 @@ module _ (e j : ℕ) (b : e < 32) (m : j < 32) (s : State) (size : length s ≡ 
         (rw (marked-same kind (register s e) j g m, stood) (both-kinds (λ c. Moves (ofInterrupt + c) c (1 - c)) refl refl kind g))
         (marked-other kind (register s e) j)
 
-    taking-turned : (but : ℕ) (hands : Bool) → Turned (ofInterrupt + kind) e j s (taking plan kind j e but hands s)
+    pub taking-turned : (but : ℕ) (hands : Bool) → Turned (ofInterrupt + kind) e j s (taking plan kind j e but hands s)
     taking-turned but false = mark-turned
     taking-turned but true =
         let left : (d : ℕ) → d < 32 → register (taking plan kind j e but true s) d ≡ register (mark plan kind e j s) d =
@@ -198,9 +202,20 @@ module _ (plan : Plan) (kind d k : ℕ) (s : State) where
   some-told = some-times (toldWord kind d k) (round plan s .told)
 
 module _ (plan : Plan) (held : Held plan) (s : State) (x : Sound plan s) (d k : ℕ) (h : d < devices plan) (l : k < 32) where
+  -- of timers no code
+  ticks-told : (kind : ℕ) → kind < 2 → times (toldWord (ofInterrupt + kind) d k) (afterTimers plan s .told) ≡ 0
+  unfolding ticked times
+  ticks-told kind g =
+      let n = few plan held in
+      let word = toldWord (ofInterrupt + kind) d k in
+      untouched (turn plan) (λ v. times word (v .told)) (32 * devices plan)
+      (λ i v b. tick-cases (router plan (i / 32)) (i / 32) (i % 32) v (λ u. times word (u .told) ≡ times word (v .told)) (λ e. refl)
+      (λ e. times-other word (toldWord ofTimeout (i / 32) (i % 32)) (omega arith) (router plan (i / 32)) (v .told)) (λ t e. refl))
+      (record { state = s; told = [] })
+
   -- of a kind of code nothing that no port sent
   pub none-told : (kind : ℕ) → kind < 2 → ((q : ℕ) → SendsIt plan k s kind q → ⊥) → toldIn plan (ofInterrupt + kind) d k s ≡ 0
-  unfolding round reached ticked toldIn times
+  unfolding round reached toldIn
   none-told kind g none =
       let n = few plan held in
       let word = toldWord (ofInterrupt + kind) d k in
@@ -208,10 +223,7 @@ module _ (plan : Plan) (held : Held plan) (s : State) (x : Sound plan s) (d k : 
       (λ q v b. arrives-taken plan (sentBytes plan s) q v (λ u. times word (u .told) ≡ times word (v .told)) (λ shut. refl)
       (λ c j f m e o. times-other word (toldWord (ofInterrupt + c) (q / 8) j) (λ is. none (peer plan q) (omega arith)) (router plan (q / 8)) (v .told)))
       (afterSending plan s)
-      ∙ untouched (turn plan) (λ v. times word (v .told)) (32 * devices plan)
-      (λ i v b. tick-cases (router plan (i / 32)) (i / 32) (i % 32) v (λ u. times word (u .told) ≡ times word (v .told)) (λ e. refl)
-      (λ e. times-other word (toldWord ofTimeout (i / 32) (i % 32)) (omega arith) (router plan (i / 32)) (v .told)) (λ t e. refl))
-      (record { state = s; told = [] })
+      ∙ ticks-told kind g
 
   -- no timeout where the timer does not end
   pub no-timeout : timer s d k ≢ 1 → toldIn plan ofTimeout d k s ≡ 0
@@ -223,3 +235,63 @@ module _ (plan : Plan) (held : Held plan) (s : State) (x : Sound plan s) (d k : 
         | inr c ↦ runs (c .0)
       ] in
       elim (ℕ-discrete (toldIn plan ofTimeout d k s) 0) [ yes e ↦ e | no ne ↦ absurd (untold (some-told plan ofTimeout d k s (omega arith))) ]
+
+-- ---- a node accepts what its host is told of, and nothing else
+
+module _ (plan : Plan) (held : Held plan) (s : State) (x : Sound plan s) (d k : ℕ) (h : d < devices plan) (l : k < 32) (kind : ℕ) (g : kind < 2) where
+  abbrev word : ℕ
+  word = toldWord (ofInterrupt + kind) d k
+
+  abbrev sent : List ℕ
+  sent = sentBytes plan s
+
+  turn-told : (q : ℕ) → q / 8 ≡ d → router plan d ≡ false → AcceptedAt plan s q kind k → List·Memᴰ word (arrives plan sent q (before plan s q) .told)
+  turn-told q here node a =
+      let w = before plan s q in
+      arrives-taken plan sent q w (λ v. List·Memᴰ word (v .told)) (λ none. absurd (none kind k g l (a .0) (arrives-opens plan sent q w kind k g l (a .0) (a .1))))
+      (λ c j f m e o.
+      let tells : router plan (q / 8) ≡ false = ap (router plan) here ∙ node in
+      rw tells (Memᴰ·append-right (w .told) (List·Memᴰ·head (omega (arith, a .0)))))
+
+  pub accepted-told : router plan d ≡ false → (p : ℕ) → p < 8 → AcceptedAt plan s (8 * d + p) kind k → List·Memᴰ word (round plan s .told)
+  unfolding round reached upTo
+  accepted-told node p b a =
+      keeps-from (arrives plan sent) (λ v. List·Memᴰ word (v .told)) (suc (8 * d + p)) (8 * devices plan) (omega arith)
+      (λ q v c e m. arrives-more plan sent q v word m) (afterSending plan s) (turn-told (8 * d + p) (omega arith) node a)
+
+  -- the byte that came to port q of device d is such a code, and the device accepts it
+  abbrev Came : ℕ → World → Type 0
+  Came q v = (q / 8 ≡ d) × (incoming plan s q ≡ byteOf kind k) × (accepts (action plan q (incoming plan s q) (v .state)) ≡ true)
+
+  turn-came : (q : ℕ) (v : World) → q < 8 * devices plan → List·Memᴰ word (arrives plan sent q v .told) → List·Memᴰ word (v .told) ⊎ Came q v
+  turn-came q v b m = by-action (accepts (action plan q (incoming plan s q) (v .state))) refl
+    where
+      by-action : (t : Bool) → accepts (action plan q (incoming plan s q) (v .state)) ≡ t → List·Memᴰ word (v .told) ⊎ Came q v
+      by-action false e = inl (rw (arrives-left plan sent q v e) at m)
+      by-action true e =
+          let n = few plan held in
+          arrives-cases plan sent q v (λ u. List·Memᴰ word (u .told) → List·Memᴰ word (v .told) ⊎ Came q v) inl (λ c j f i o y. inl y)
+          (λ c j f i o y. elim (List·Memᴰ·append-cases (v .told) y) [
+            | inl old ↦ inl old
+            | inr new ↦ let is = List·Memᴰ·eq-of-singleton new in inr (omega arith, omega arith, e)
+          ]) m
+
+  pub told-accepted : List·Memᴰ word (round plan s .told) → (p : ℕ) × (p < 8) × AcceptedAt plan s (8 * d + p) kind k
+  unfolding round reached
+  told-accepted m =
+      elim (came (arrives plan sent) (λ v. Unit {0}) (8 * devices plan) (λ q v b u. tt) (λ v. List·Memᴰ word (v .told)) Came (λ q v b u. turn-came q v b) (afterSending plan s) tt m) [
+        | inl a ↦ absurd (omega (arith, times-some word a, ticks-told plan held s x d k h l kind g))
+        | inr c ↦
+            let q = c .0 in
+            let here = c .2 .0 in
+            let is : 8 * d + q % 8 ≡ q = omega arith in
+            (q % 8, omega arith, rw is (c .2 .1, c .2 .2))
+      ]
+
+  -- nothing is told of what is not accepted
+  pub untold : NoneAccepted plan s d kind k → toldIn plan (ofInterrupt + kind) d k s ≡ 0
+  untold none =
+      elim (ℕ-discrete (toldIn plan (ofInterrupt + kind) d k s) 0) [
+        | yes e ↦ e
+        | no ne ↦ let a = told-accepted (some-told plan (ofInterrupt + kind) d k s (omega arith)) in absurd (none (a .0) (a .1) (a .2))
+      ]

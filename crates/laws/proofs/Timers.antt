@@ -159,7 +159,7 @@ module _ (plan : Plan) (sent : List ℕ) (q : ℕ) (w : World) where
       (λ kind j g m b. queue-all-left kind j (timerAt d k) g (omega arith) (plan .core .permissions) (q / 8) q small (mark plan kind (q / 8) j (w .state)) ∙ marks kind j g m b)
       marks
 
-  arrives-more : (v : ℕ) → List·Memᴰ v (w .told) → List·Memᴰ v (arrives plan sent q w .told)
+  pub arrives-more : (v : ℕ) → List·Memᴰ v (w .told) → List·Memᴰ v (arrives plan sent q w .told)
   arrives-more v m =
       arrives-cases plan sent q w (λ u. List·Memᴰ v (u .told)) m (λ kind k g l b. m) (λ kind k g l b. Memᴰ·append-left (toldWord (ofInterrupt + kind) (q / 8) k ∷ []) m)
 
@@ -309,6 +309,11 @@ module _ (plan : Plan) (held : Held plan) (s : State) (x : Sound plan s) (d k : 
         only = λ m. f .only (reached-came plan held w d k (sentBytes plan s) m);
       }
 
+  -- a node's timer that stands at 1 ends in the round, whatever arrives, and its host is told
+  pub timeout-told : router plan d ≡ false → timer s d k ≡ 1 → List·Memᴰ (toldWord ofTimeout d k) (round plan s .told)
+  unfolding round
+  timeout-told node o = reached-more plan held (afterSending plan s) d k (sentBytes plan s) (timer-falls 0 o .tells refl node)
+
 -- ---- a load of T ends in the T-th round after: round i + 1 leaves T - (i + 1)
 
 -- rounds in which no code of k is accepted disturb no timer of it
@@ -352,7 +357,7 @@ module _ (plan : Plan) (held : Held plan) (s : State) (x : Sound plan s) (d k : 
       (bits .1 (omega (arith, load-fits plan held d k h)), loads, timer-ends plan held (round plan s .next) sound d k h l T loads)
 
   -- set just after a round, by a request
-  request-loads : timer (called plan 0 d k s) d k ≡ T
+  pub request-loads : timer (called plan 0 d k s) d k ≡ T
   unfolding called mark
   request-loads =
       let n = few plan held in

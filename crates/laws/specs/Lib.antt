@@ -1,3 +1,4 @@
 pub mod Alike
 pub mod Timing
 pub mod Telling
+pub mod Requested

@@ -1,16 +1,19 @@
--- What a held plan says, for the states of its network: how many devices, whose the ports are, where connections lead, and the loads.
-use mathlib.Core.Path.{_≡_, refl}
+-- What a held plan says, for the states of its network: how many devices, whose the ports and the masks are, where connections lead, and the loads.
+use mathlib.Core.Path.{_≡_, refl, ap}
 use mathlib.Core.Bool.{Bool, true, false, cond, not, _&&_}
 use mathlib.Core.Logic.{_⊎_, inl, inr, _≢_, dite}
 use Prim.Native.Nat.{ℕ, _+_, _*_, _/_, _%_, _≤_, _<_}
-use native.Mathlib.Decide.{decLt}
+use native.Mathlib.Decide.{decLt, ℕ-discrete}
 use native.Mathlib.Omega.{arith}
+use lib.Bits.{bitAnd}
 use lib.Dec.{eqb, leb}
-use borrow.Author.Tests.{ltb-true, ltb-false, lt-ltb, eqb-true, eqb-false, ne-eqb, not-true}
+use borrow.Author.Tests.{ltb-true, ltb-false, lt-ltb, eqb-true, eqb-false, eq-eqb, ne-eqb, not-true}
 use Rattle.lists.proofs.Facts.{facts}
 use Rattle.lists.proofs.Tests.{and-left, and-right}
+use Rattle.bits.specs.Set.{bit}
+use Rattle.bits.proofs.Sets.{bit-two, bit-and, bit-zero}
 use Rattle.plan.specs.Block.{byte}
-use Rattle.plan.specs.Fields.{nobody, loadsFit, portsFit, joins}
+use Rattle.plan.specs.Fields.{nobody, loadsFit, portsFit, masksFit, joins}
 use Rattle.plan.specs.Reading.{Held}
 use Rattle.plan.specs.declared.Plan.{Plan}
 use Rattle.plan.specs.inner.Memory.{at, deviceRight, rowRight}
@@ -18,7 +21,7 @@ use Rattle.plan.proofs.Entries.{no-port}
 use Rattle.plan.proofs.Rows.{entryOf, right-ports, right-absent}
 use Rattle.plan.proofs.There.{Right, right-says}
 use Rattle.plan.proofs.BothWays.{held-right, held-shaped, held-devices}
-use Rattle.state.specs.Network.{devices, role, exists, peer, loadFor, loadOf}
+use Rattle.state.specs.Network.{devices, role, portsOf, exists, peer, source, handler, loadFor, loadOf}
 
 -- the far end of a connected port: it exists, its own far end is the port, and it is another port
 pub record FarEnd (plan : Plan) (q : ℕ) : Type 0 where
@@ -35,6 +38,19 @@ ports-say r ports = by-test (eqb r 0) refl
     by-test true p e = (inl (eqb-true r 0 p), omega (arith, eqb-true ports 1 e))
     by-test false p e = let f = simp facts at e in (inr (f .0 .0), f .1)
 
+-- who has k in a mask is a node, whose masks have no common bit
+masks-say : (r source handler k : ℕ) → masksFit r source handler ≡ true → 1 ≤ bit source k + bit handler k → (r ≡ 0) × (bit source k + bit handler k ≡ 1)
+unfolding masksFit
+masks-say r source handler k fits some =
+    elim (ℕ-discrete r 0) [
+      | yes z ↦
+          let none = eqb-true (bitAnd source handler) 0 (rw (eq-eqb r 0 z) at fits) in
+          (z, omega (arith, bit-and k source handler, ap (λ v. bit v k) none, bit-zero k, bit-two source k, bit-two handler k))
+      | no n ↦
+          let none = simp facts at (rw (ne-eqb r 0 n) at fits) in
+          absurd (omega (arith, ap (λ v. bit v k) (none .0), ap (λ v. bit v k) (none .1), bit-zero k))
+    ]
+
 module _ (plan : Plan) (held : Held plan) where
   says : Right plan
   says = right-says plan (held-right plan held)
@@ -42,11 +58,16 @@ module _ (plan : Plan) (held : Held plan) where
   pub few : devices plan ≤ 32
   few = held-devices plan held .1
 
-  device-says : (d : ℕ) → d < devices plan → ((role plan d ≡ 0) ⊎ (role plan d ≡ 1)) × (at (plan .core .ports) d ≤ 8)
+  pub device-fits : (d : ℕ) → d < devices plan → (portsFit (role plan d) (portsOf plan d) ≡ true) × (masksFit (role plan d) (source plan d) (handler plan d) ≡ true)
   unfolding rowRight deviceRight
-  device-says d h =
-      let row = simp facts at (rw (lt-ltb d (devices plan) h) at (says .rows d (omega (arith, few)))) in
-      ports-say (role plan d) (at (plan .core .ports) d) (row .0 .0)
+  device-fits d h = (simp facts at (rw (lt-ltb d (devices plan) h) at (says .rows d (omega (arith, few))))) .0
+
+  device-says : (d : ℕ) → d < devices plan → ((role plan d ≡ 0) ⊎ (role plan d ≡ 1)) × (at (plan .core .ports) d ≤ 8)
+  device-says d h = ports-say (role plan d) (at (plan .core .ports) d) (device-fits d h .0)
+
+  -- a device with k in one of its masks is a node, and has k in just one
+  pub masked : (d k : ℕ) → d < devices plan → 1 ≤ bit (source plan d) k + bit (handler plan d) k → (role plan d ≡ 0) × (bit (source plan d) k + bit (handler plan d) k ≡ 1)
+  masked d k h = masks-say (role plan d) (source plan d) (handler plan d) k (device-fits d h .1)
 
   -- port p of device d is an existing port
   pub port-there : (d p : ℕ) → d < devices plan → p < at (plan .core .ports) d → (8 * d + p < 256) × (exists plan (8 * d + p) ≡ true)

@@ -1,0 +1,210 @@
+-- A source that has requested k holds it, whatever links do, until it takes the acknowledge or its timer ends.
+use mathlib.Core.Path.{_≡_, refl, sym, ap, _∙_}
+use mathlib.Core.Bool.{Bool, true, false}
+use mathlib.Core.List.{List}
+use mathlib.Core.Logic.{_⊎_, inl, inr, _≢_}
+use Prim.Native.Nat.{ℕ, zero, suc, _+_, _-_, _*_, _≤_, _<_}
+use native.Mathlib.Decide.{ℕ-discrete}
+use native.Mathlib.Omega.{arith}
+use Rattle.answers.specs.Ordered.{Condition, Outcome}
+use Rattle.answers.proofs.Outcomes.{Holds, numbered, holds}
+use Rattle.bits.specs.Set.{bit}
+use Rattle.plan.specs.Fields.{nobody}
+use Rattle.plan.specs.Reading.{Held}
+use Rattle.plan.specs.declared.Plan.{Plan}
+use Rattle.state.specs.State.{State, word, registerAt, timerAt, register, timer}
+use Rattle.state.specs.Network.{devices, router, source, handler, loadOf}
+use Rattle.state.specs.Sound.{Sound}
+use Rattle.state.specs.Mark.{mark}
+use Rattle.state.proofs.Plans.{few, masked, load-fits}
+use Rattle.state.proofs.Marks.{mark-other}
+use Rattle.state.proofs.Waits.{queue-all-left}
+use Rattle.calls.specs.Calls.{callAsks, called, linkAsks, Links, cleared, reset as Calls·reset}
+use Rattle.calls.specs.Stopping.{Keeps, LinkKeeps}
+use Rattle.calls.proofs.Called.{call-sound, link-sound, reset-sound}
+use Rattle.calls.proofs.Stopping.{link-keeps}
+use Rattle.calls.proofs.Zeros.{cleared-left, cleared-fits, emptied-left}
+use Rattle.bench.specs.Round.{ofInterrupt, ofAcknowledge, ofTimeout, round}
+use Rattle.bench.proofs.RoundSound.{round-sound}
+use Rattle.laws.specs.Telling.{toldIn, toldBy}
+use Rattle.laws.specs.Timing.{NoneAccepted}
+use Rattle.laws.specs.Requested.{AnyCalls, none, host, link, reset, Requested, StillHolds, Acknowledged, TimedOut, Hears, HoldsOn, IsHeard}
+use Rattle.laws.proofs.Timers.{timed-bit, runs-on, round-falls, request-loads, timeout-told}
+use Rattle.laws.proofs.Telling.{taking-turned, told-some, some-told, no-timeout, accepted-told, told-accepted, untold}
+
+-- what is so of an interrupt, an acknowledge and a timeout
+three : (P : ℕ → Type 0) → P ofInterrupt → P ofAcknowledge → P ofTimeout → (kind : ℕ) → ofInterrupt ≤ kind → kind ≤ ofTimeout → P kind
+three P a b c zero low high = absurd (omega arith)
+three P a b c (suc zero) low high = a
+three P a b c (suc (suc zero)) low high = b
+three P a b c (suc (suc (suc zero))) low high = c
+three P a b c (suc (suc (suc (suc n)))) low high = absurd (omega arith)
+
+module _ (plan : Plan) (held : Held plan) (d k : ℕ) (h : d < devices plan) (l : k < 32) (requests : bit (source plan d) k ≡ 1) where
+  small : d < 32
+  small = omega (arith, few plan held)
+
+  -- ---- calls leave what d holds
+
+  record Stays (s t : State) : Type 0 where
+    sound : Sound plan t
+    holds : bit (register t d) k ≡ 1
+    timed : timer t d k ≡ timer s d k
+
+  onward : {s t u : State} → Stays s t → Stays t u → Stays s u
+  onward a b = record { sound = b .sound; holds = b .holds; timed = b .timed ∙ a .timed }
+
+  module _ (s : State) (x : Sound plan s) (on : bit (register s d) k ≡ 1) where
+    -- a host's call that is taken is another than d's for k: d holds k already, and handles no k that it is a source of
+    another : (kind e j : ℕ) → Holds (callAsks plan kind e j s) → e ≡ d → j ≡ k → ⊥
+    another kind e j (_, (_, (_, (_, (own, (_, (_, (stood, _)))))))) device place =
+        let is : kind ≡ 1 = sym stood ∙ rw (device, place) on in
+        let handles : bit (handler plan d) k ≡ 1 = rw (is, device, place) at own in
+        omega (arith, masked plan held d k h (omega arith) .1)
+
+    host-stays : (kind e j : ℕ) → kind < 2 → Holds (callAsks plan kind e j s) → Stays s (called plan kind e j s)
+    unfolding called
+    host-stays kind e j g asked =
+        let there = asked .1 .1 .0 in
+        let place = asked .1 .1 .1 .0 in
+        let stood = asked .1 .1 .1 .1 .1 .1 .1 .0 in
+        let e-small : e < 32 = omega (arith, few plan held) in
+        record {
+          sound = call-sound plan held s x kind e j g there place;
+          holds = taking-turned e j e-small place s (x .size) plan kind g stood nobody true .others d k small l (another kind e j asked) ∙ on;
+          timed =
+              queue-all-left kind j (timerAt d k) g (omega (arith, small)) (plan .core .permissions) e nobody e-small (mark plan kind e j s)
+              ∙ mark-other plan kind e j (timerAt d k) s (omega arith) (λ is. another kind e j asked (omega arith) (omega arith));
+        }
+
+    link-stays : (e p : ℕ) (runs : Bool) (number : ℕ) (t : State) → Links plan e p runs s number t → Stays s t
+    unfolding LinkKeeps
+    link-stays e p runs number t call =
+        let keeps : Keeps plan (8 * e + p) s t = link-keeps plan e p runs s number t call in
+        record {
+          sound = elim (ℕ-discrete number 0) [
+            | yes z ↦
+                let asked = holds (linkAsks plan runs e p s) refl (call .answers) z in
+                rw (call .made z) (link-sound plan held s x e p (asked .1 .1 .0) (asked .1 .1 .1 .0) (asked .1 .1 .1 .1 .0) runs)
+            | no n ↦ rw (call .kept n) x
+          ];
+          holds = ap (λ r. bit r k) (keeps .registers d small) ∙ on;
+          timed = keeps .timers d k small l;
+        }
+
+    reset-stays : (e : ℕ) → e < devices plan → e ≢ d → Stays s (Calls·reset e s)
+    reset-stays e there ne =
+        let t = cleared e s in
+        let size = cleared-fits e s (x .size) (x .fits) .size in
+        let left : (i : ℕ) → i < registerAt (d + 1) → registerAt d ≤ i → word (Calls·reset e s) i ≡ word s i =
+        λ i a b. emptied-left e t size i (λ m n. omega (arith, small)) ∙ cleared-left e s (x .size) i (λ m n. omega arith) in
+        record {
+          sound = reset-sound plan held s x e there;
+          holds = ap (λ r. bit r k) (left (registerAt d) (omega arith) (omega arith)) ∙ on;
+          timed = left (timerAt d k) (omega arith) (omega arith);
+        }
+
+    -- done, it stays by what the call makes; refused, as it is
+    by-number : {cs : List Condition} {done t : State} {number : ℕ} → numbered cs ≡ true → Outcome cs s done number t → (Holds cs → Stays s done) → Stays s t
+    by-number {cs} {number = number} ok call stays =
+        elim (ℕ-discrete number 0) [
+          | yes z ↦ rw (call .made z) (stays (holds cs ok (call .answers) z))
+          | no n ↦ rw (call .kept n) (record { sound = x; holds = on; timed = refl })
+        ]
+
+  calls-stay : {s t : State} → Sound plan s → bit (register s d) k ≡ 1 → AnyCalls plan d s t → Stays s t
+  calls-stay x on none = record { sound = x; holds = on; timed = refl }
+  calls-stay x on (host {t = t} kind e j number before g call) =
+      let y = calls-stay x on before in onward y (by-number t (y .sound) (y .holds) refl call (host-stays t (y .sound) (y .holds) kind e j g))
+  calls-stay x on (link {t = t} {u = u} e p runs number before call) =
+      let y = calls-stay x on before in onward y (link-stays t (y .sound) (y .holds) e p runs number u call)
+  calls-stay x on (reset {t = t} e number before ne call) =
+      let y = calls-stay x on before in onward y (by-number t (y .sound) (y .holds) refl call (λ asked. reset-stays t (y .sound) (y .holds) e (asked .1 .1 .0) ne))
+
+  -- ---- rounds run its timer down
+
+  module _ (rounds : ℕ) (s : State) (at : ℕ → State) (given : Requested plan d k rounds s at) where
+    abbrev load : ℕ
+    load = loadOf plan d k
+
+    going : (t : ℕ) → t ≤ rounds → t < load → ((i : ℕ) → i < t → NoneAccepted plan (at i) d 1 k) → Sound plan (at t) × StillHolds plan d k at t
+    unfolding round
+    going zero b c quiet =
+        let x = call-sound plan held s (given .sound) 0 d k (omega arith) h l in
+        let loads = request-loads plan held s (given .sound) d k h l in
+        let y = calls-stay x (timed-bit (x .timers d k h small l) .1 (omega arith)) (given .begins) in
+        (y .sound, record { holds = y .holds; timed = omega (arith, y .timed) })
+    going (suc t) b c quiet =
+        let y = going t (omega arith) (omega arith) (λ i m. quiet i (omega arith)) in
+        let stands = y .1 .timed in
+        let ticks = timer (at t) d k in
+        let fell = round-falls plan held (at t) (y .0) d k h l (ticks - 1) (omega arith) (runs-on plan held (at t) (y .0) d k h l (omega arith) (quiet t (omega arith))) in
+        let z = calls-stay (round-sound plan held (at t) (y .0)) (fell .runs (omega arith)) (given .goes-on t (omega arith)) in
+        (z .sound, record { holds = z .holds; timed = omega (arith, z .timed, fell .now) })
+
+  -- ---- so its host hears
+
+  module _ (s : State) (at : ℕ → State) (given : Requested plan d k (loadOf plan d k) s at) where
+    node : router plan d ≡ false
+    node = rw (masked plan held d k h (omega arith) .0)
+
+    -- no acknowledge of k in the first n rounds
+    abbrev Quiet : ℕ → Type 0
+    Quiet n = (t : ℕ) → t < n → NoneAccepted plan (at t) d 1 k
+
+    still : (n t : ℕ) → n < loadOf plan d k → Quiet n → t ≤ n → Sound plan (at t) × StillHolds plan d k at t
+    still n t b quiet c = going (loadOf plan d k) s at given t (omega arith) (omega arith) (λ i m. quiet i (omega arith))
+
+    -- a round before its last one tells nothing
+    hushed : (n t : ℕ) → n < loadOf plan d k → Quiet n → t < n → (kind : ℕ) → ofInterrupt ≤ kind → kind ≤ ofTimeout → toldIn plan kind d k (at t) ≡ 0
+    hushed n t b quiet c kind low high =
+        let y = still n t b quiet (omega arith) in
+        let stands = y .1 .timed in
+        let none = runs-on plan held (at t) (y .0) d k h l (omega arith) (quiet t c) in
+        let codes : (c : ℕ) → c < 2 → NoneAccepted plan (at t) d c k → toldIn plan (ofInterrupt + c) d k (at t) ≡ 0 = untold plan held (at t) (y .0) d k h l in
+        three (λ i. toldIn plan i d k (at t) ≡ 0) (codes 0 (omega arith) (none .0)) (codes 1 (omega arith) (none .1))
+        (no-timeout plan held (at t) (y .0) d k h l (omega arith)) kind low high
+
+    silent : (n m : ℕ) → n < loadOf plan d k → Quiet n → m ≤ n → (kind : ℕ) → ofInterrupt ≤ kind → kind ≤ ofTimeout → toldBy plan kind d k at m ≡ 0
+    unfolding toldBy
+    silent n zero b quiet c kind low high = refl
+    silent n (suc m) b quiet c kind low high = omega (arith, silent n m b quiet (omega arith) kind low high, hushed n m b quiet c kind low high)
+
+    heard : (n : ℕ) → n < loadOf plan d k → Quiet n → Acknowledged plan d k at n ⊎ TimedOut plan d k at n → Hears plan d k at n
+    heard n b quiet then = record { in-time = b; until = λ t c. still n t b quiet c .1; silent = silent n n b quiet (omega arith); then = then }
+
+    -- after n rounds in which it accepted none, so many are left before the last
+    search-on : (left n : ℕ) → suc (n + left) ≡ loadOf plan d k → Quiet n → (m : ℕ) × Hears plan d k at m
+    search-on zero n e quiet =
+        let y = still n n (omega arith) quiet (omega arith) in
+        let stands = y .1 .timed in
+        (n, heard n (omega arith) quiet (inr (omega arith, timeout-told plan held (at n) (y .0) d k h l node (omega arith))))
+    search-on (suc left) n e quiet =
+        let y = still n n (omega arith) quiet (omega arith) in
+        elim (ℕ-discrete (toldIn plan ofAcknowledge d k (at n)) 0) [
+          | no ne ↦
+              let word = some-told plan ofAcknowledge d k (at n) (omega arith) in
+              (n, heard n (omega arith) quiet (inl (told-accepted plan held (at n) (y .0) d k h l 1 (omega arith) word, word)))
+          | yes z ↦
+              let none : NoneAccepted plan (at n) d 1 k =
+              λ p c a. omega (arith, told-some plan ofAcknowledge d k (at n) (accepted-told plan held (at n) (y .0) d k h l 1 (omega arith) node p c a)) in
+              search-on left (suc n) (omega arith) (λ t c. elim (ℕ-discrete t n) [ yes is ↦ rw is none | no ne ↦ quiet t (omega arith) ])
+        ]
+
+-- ---- what a source is assured of
+
+pub holds-on : HoldsOn
+unfolding HoldsOn
+holds-on plan d k rounds s at given few-rounds quiet = known (holds (callAsks plan 0 d k s) refl (given .taken) refl)
+  where
+    known : Holds (callAsks plan 0 d k s) → StillHolds plan d k at rounds
+    known (held, (_, (there, (place, (own, _))))) = going plan held d k there place own rounds s at given rounds (omega arith) few-rounds quiet .1
+
+pub is-heard : IsHeard
+unfolding IsHeard
+is-heard plan d k s at given = known (holds (callAsks plan 0 d k s) refl (given .taken) refl)
+  where
+    known : Holds (callAsks plan 0 d k s) → (n : ℕ) × Hears plan d k at n
+    known (held, (_, (there, (place, (own, _))))) =
+        let load = load-fits plan held d k there in
+        search-on plan held d k there place own s at given (loadOf plan d k - 1) 0 (omega arith) (λ t c. absurd (omega arith))
