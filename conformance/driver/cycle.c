@@ -2,7 +2,7 @@
  * the network back to where it was, so that the next cycle can begin. Meanwhile other identifiers are used. */
 #include "driver.h"
 
-enum { MOST_CYCLES = 3, MOST_GAP = 40, EVERYTHING = 15, NOT_YET = 1 << 30 };
+enum { MOST_CYCLES = 3, MOST_GAP = 40, NOT_YET = 1 << 30 };
 
 /* One cycle. By the request's clock the handler waits until the gap behind the first window is over; by its own clock it
  * counts from the round in which it was told. */
@@ -36,27 +36,12 @@ static void find_pairs(u32 k, flag any) {
     }
 }
 
-/* Each link that runs grants everything at both ends; where all are to run, so does each link there is. */
-static void open_links(flag all) {
-    for (u32 d = 0; d < course.plan.bytes[1]; d++) {
-        for (u32 p = 0; p < device_block(&course.plan, d)[3]; p++) {
-            u8 *entry = port_entry(&course.plan, d, p);
-            u32 *running = &port_words(&course.state, d, p)[AT_RUNNING];
-            if (entry[0] == 255 || !(all || *running))
-                continue;
-            *running = 1;
-            entry[2] = EVERYTHING;
-        }
-        seal(&course.plan, 1 + d);
-    }
-}
-
 /* A pair for k at least. The roles are those of the plan, or anybody's; 0 if no node can reach another. */
 static flag cast(u32 k) {
-    open_links(0);
+    open_links(&course, 0);
     find_pairs(k, 1);
     if (!pairs) {
-        open_links(1);
+        open_links(&course, 1);
         find_pairs(k, 1);
     }
     if (!pairs)

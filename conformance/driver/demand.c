@@ -3,44 +3,10 @@
 
 static struct course course;
 
-/* A source whose port can send, and one of its identifiers; 0 if there is none. */
-static flag find_source(struct spread *spread) {
-    struct plan *plan = &course.plan;
-    u32 first = pick(DEVICES * IDENTIFIERS);
-    for (u32 i = 0; i < DEVICES * IDENTIFIERS; i++) {
-        u32 at = (first + i) % (DEVICES * IDENTIFIERS), d = at / IDENTIFIERS, k = at % IDENTIFIERS;
-        if (d >= plan->bytes[1] || !in_mask(plan, d, SOURCES, k))
-            continue;
-        if (!port_words(&course.state, d, 0)[AT_RUNNING] || !(port_entry(plan, d, 0)[2] & 1))
-            continue;
-        spread->start = d;
-        spread->k = k;
-        return 1;
-    }
-    return 0;
-}
-
-/* Where no source can send, a node that is joined to something becomes one, and its link runs; 0 if there is none. */
-static flag make_source(struct spread *spread) {
-    struct plan *plan = &course.plan;
-    spread->k = pick(IDENTIFIERS);
-    for (u32 d = 0; d < plan->bytes[1]; d++) {
-        u8 *entry = port_entry(plan, d, 0);
-        if (device_block(plan, d)[2] == 1 || entry[0] == 255)
-            continue;
-        entry[2] |= 1;
-        give_role(plan, d, SOURCES, spread->k);
-        port_words(&course.state, d, 0)[AT_RUNNING] = port_words(&course.state, entry[0], entry[1])[AT_RUNNING] = 1;
-        spread->start = d;
-        return 1;
-    }
-    return 0;
-}
-
 u32 try_demand_3(const struct plan *given) {
     struct spread spread = {.name = "demand 3", .kind = INTERRUPT};
     begin_course(&course, given);
-    if (!find_source(&spread) && !make_source(&spread))
+    if (!choose_source(&course, &spread))
         return 0;
     unset(&course, spread.k);
     if (once_in(2))

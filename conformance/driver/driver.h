@@ -126,13 +126,19 @@ struct spread {
     u32 told[DEVICES]; /* the round in which the host was told of it, 0 before that */
 };
 
+/* All four permissions. */
+enum { EVERYTHING = 15 };
+
 /* spread.c: what is given, and what is to be seen, in such a window. A check that fails ends the run. */
 void begin_course(struct course *course, const struct plan *plan); /* in any sound state */
+flag choose_source(struct course *course, struct spread *spread); /* one that can send: start and k; 0 where no node is joined */
+void open_links(struct course *course, flag all); /* what runs grants everything at both ends; where all are to, each link runs */
 void unset(struct course *course, u32 k); /* held by nobody and waiting nowhere */
 void crowd(struct course *course, u32 k); /* the most in its way: all others wait at every port, and come before it */
 void read_records(struct course *course);
 void measure(struct course *course, struct spread *spread); /* by kind, k and start: distances and window */
 void exceed(struct course *course, u32 rounds); /* loads that are longer, by one in half of the trials */
+u32 make_call(struct course *course, struct change change);
 u32 host_calls(struct course *course, enum call call, u32 device, u32 k); /* a request or an acknowledge */
 void play_on(struct course *course, u32 k, u32 calls); /* a round, and calls before it: on others, or refused */
 flag holds(struct course *course, u32 device, u32 k);
@@ -141,7 +147,10 @@ void check_held(const struct spread *spread, struct course *course, u32 round);
 void check_sent(struct spread *spread, const struct course *course, u32 round);
 void check_rest(const struct spread *spread, struct course *course);
 
-/* trials.c, known.c, demand.c and cycle.c: what is tried. */
+/* What a source's host is told first of its request; NO_REQUEST where no node is joined to anything. */
+enum answer { NO_REQUEST, ACKNOWLEDGED, TIMED_OUT, ANSWERS };
+
+/* trials.c, known.c, demand.c, cycle.c and drop.c: what is tried. */
 void known_values(void);
 void try_tables(void);
 void try_files(struct plan *plan);
@@ -153,5 +162,6 @@ void right_lengths(struct played *played);
 struct change likely_change(struct plan *plan);
 u32 try_demand_3(const struct plan *plan); /* the rounds in its window; 0 where nobody can send */
 u32 try_cycles(const struct plan *plan, u32 *longest); /* how many; 0 where no node can reach another */
+enum answer try_drop(const struct plan *plan, flag *replugged); /* did the source's link stop and start again before that? */
 
 #endif

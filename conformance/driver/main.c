@@ -3,6 +3,7 @@
 
 static struct plan plan;
 static size seed, this_case, before_case, demands, returns, cycles;
+static size drops[ANSWERS], replugged[ANSWERS];
 static u32 longest, longest_cycle;
 
 void say_where(void) {
@@ -31,13 +32,17 @@ static void play(size which) {
     u32 count = try_cycles(&plan, &longest_cycle);
     returns += count > 0;
     cycles += count;
+    flag again;
+    enum answer answer = try_drop(&plan, &again);
+    drops[answer]++;
+    replugged[answer] += again;
 }
 
-/* Were demand 3 and T-01 tried at all, and cycles in a row? */
+/* Were demand 3 and T-01 tried at all, and cycles in a row, and did a pulled cable end in both ways? */
 static flag all_tried(void) {
-    if (demands && cycles > returns)
+    if (demands && cycles > returns && replugged[ACKNOWLEDGED] && replugged[TIMED_OUT])
         return 1;
-    printf("demand 3, T-01 or two cycles in a row were never tried\n");
+    printf("demand 3, T-01, two cycles in a row or one of T-03's two ends were never tried\n");
     return 0;
 }
 
@@ -69,6 +74,9 @@ int main(int count, char **words) {
            demands, longest);
     printf("T-01 tried on %lu of the networks, in %lu cycles of up to %u rounds; in the other %lu no node reaches another\n",
            returns, cycles, longest_cycle, cases - returns);
+    printf("T-03 tried on %lu of the networks: told of the acknowledge %lu times, %lu of them with a cable out and in again; "
+           "told of the timeout %lu times, %lu of them so\n",
+           cases - drops[NO_REQUEST], drops[ACKNOWLEDGED], replugged[ACKNOWLEDGED], drops[TIMED_OUT], replugged[TIMED_OUT]);
     if (whole && !(all_hit() && all_tried()))
         return 1;
     printf("judge: ok\n");

@@ -1,4 +1,4 @@
-/* What demand 3 and T-01 have in common: a code of k that spreads from one device while other identifiers are used. */
+/* What demand 3, T-01 and T-03 have in common: a code of k that spreads from one device while other identifiers are used. */
 #include "driver.h"
 
 void begin_course(struct course *course, const struct plan *plan) {
@@ -6,6 +6,58 @@ void begin_course(struct course *course, const struct plan *plan) {
     sound_state(&course->plan, &course->state);
     right_lengths(&course->played);
     course->known = 0;
+}
+
+/* A source whose port can send, and one of its identifiers; 0 if there is none. */
+static flag find_source(struct course *course, struct spread *spread) {
+    struct plan *plan = &course->plan;
+    u32 first = pick(DEVICES * IDENTIFIERS);
+    for (u32 i = 0; i < DEVICES * IDENTIFIERS; i++) {
+        u32 at = (first + i) % (DEVICES * IDENTIFIERS), d = at / IDENTIFIERS, k = at % IDENTIFIERS;
+        if (d >= plan->bytes[1] || !in_mask(plan, d, SOURCES, k))
+            continue;
+        if (!port_words(&course->state, d, 0)[AT_RUNNING] || !(port_entry(plan, d, 0)[2] & 1))
+            continue;
+        spread->start = d;
+        spread->k = k;
+        return 1;
+    }
+    return 0;
+}
+
+/* Where no source can send, a node that is joined to something becomes one, and its link runs; 0 if there is none. */
+static flag make_source(struct course *course, struct spread *spread) {
+    struct plan *plan = &course->plan;
+    spread->k = pick(IDENTIFIERS);
+    for (u32 d = 0; d < plan->bytes[1]; d++) {
+        u8 *entry = port_entry(plan, d, 0);
+        if (device_block(plan, d)[2] == 1 || entry[0] == 255)
+            continue;
+        entry[2] |= 1;
+        give_role(plan, d, SOURCES, spread->k);
+        port_words(&course->state, d, 0)[AT_RUNNING] = port_words(&course->state, entry[0], entry[1])[AT_RUNNING] = 1;
+        spread->start = d;
+        return 1;
+    }
+    return 0;
+}
+
+flag choose_source(struct course *course, struct spread *spread) {
+    return find_source(course, spread) || make_source(course, spread);
+}
+
+void open_links(struct course *course, flag all) {
+    for (u32 d = 0; d < course->plan.bytes[1]; d++) {
+        for (u32 p = 0; p < device_block(&course->plan, d)[3]; p++) {
+            u8 *entry = port_entry(&course->plan, d, p);
+            u32 *running = &port_words(&course->state, d, p)[AT_RUNNING];
+            if (entry[0] == 255 || !(all || *running))
+                continue;
+            *running = 1;
+            entry[2] = EVERYTHING;
+        }
+        seal(&course->plan, 1 + d);
+    }
 }
 
 void unset(struct course *course, u32 k) {
@@ -54,7 +106,7 @@ void exceed(struct course *course, u32 rounds) {
     set_loads(&course->plan, router, router + (once_in(2) ? 0 : pick(30000)));
 }
 
-static u32 make_call(struct course *course, struct change change) {
+u32 make_call(struct course *course, struct change change) {
     u32 number = try_change(change, &course->plan, &course->state);
     course->known &= number != 0;
     return number;

@@ -1,0 +1,109 @@
+/* T-03, tried: a request outlasts its source's link. That link stops and starts, and so do others; hosts call, and devices are
+ * reset, but not the source. Until its host is told of the acknowledge or of the timeout, the source holds k, and its timer has
+ * fallen by one in each round. */
+#include "driver.h"
+
+enum { MOST_LOAD = 30, MOST_CALLS = 2 };
+
+static struct course course;
+static struct spread request;
+static u32 load, rounds;
+
+static flag runs(void) {
+    return port_words(&course.state, request.start, 0)[AT_RUNNING];
+}
+
+static void check_source(void) {
+    if (!holds(&course, request.start, request.k))
+        broken(&request, "forgotten (device, round)", request.start, rounds);
+    u32 timer = device_words(&course.state, request.start)[1 + request.k];
+    if (timer != load - rounds)
+        broken(&request, "the timer stands wrong (timer, round)", timer, rounds);
+}
+
+/* In half of the trials every link is open and at first nothing waits, so that acknowledges come back; in the others only the
+ * source's bit is clear. Some of the other nodes handle k, whether the interrupt reaches them or not. */
+static void prepare(void) {
+    if (once_in(2)) {
+        open_links(&course, 1);
+        for (u32 k = 0; k < IDENTIFIERS; k++)
+            unset(&course, k);
+    }
+    u32 *words = device_words(&course.state, request.start);
+    words[0] &= ~(1u << request.k);
+    words[1 + request.k] = 0;
+    for (u32 d = 0; d < course.plan.bytes[1]; d++)
+        if (d != request.start && device_block(&course.plan, d)[2] == 0 && once_in(2))
+            give_role(&course.plan, d, HANDLERS, request.k);
+    load = 1 + pick(MOST_LOAD);
+    set_loads(&course.plan, 1 + pick(load), load);
+    rounds = 0;
+}
+
+/* By a handler that holds k, if there is one. */
+static struct change acknowledge(void) {
+    u32 devices = course.plan.bytes[1], first = pick(devices), d = first;
+    for (u32 i = 0; i < devices; i++, d = (first + i) % devices)
+        if (in_mask(&course.plan, d, HANDLERS, request.k) && holds(&course, d, request.k))
+            break;
+    return (struct change){.call = ACKNOWLEDGES, .device = d, .other = request.k};
+}
+
+/* The source's cable, an acknowledge of k, or any call. */
+static struct change any_change(void) {
+    u32 which = pick(6);
+    if (which == 0)
+        return (struct change){.call = LINK, .device = request.start, .running = !runs()};
+    return which < 3 ? acknowledge() : likely_change(&course.plan);
+}
+
+/* Calls after the request or after a round; 1 where the source's link started again in one of them. */
+static flag call_on(void) {
+    flag again = 0;
+    for (u32 i = pick(1 + MOST_CALLS); i; i--) {
+        struct change change = any_change();
+        if (change.call == RESET && change.device == request.start)
+            continue;
+        flag ran = runs();
+        make_call(&course, change);
+        again |= runs() && !ran;
+        check_source();
+    }
+    return again;
+}
+
+/* What the source's host is told first of k in the round just played: of the timeout in the last round, and before that of
+ * nothing but an acknowledge. Behind the timeout an interrupt of another source may follow. */
+static enum answer heard(void) {
+    for (u32 i = 0; i < course.played.count; i++) {
+        u32 word = course.played.told[i], kind = word / 65536;
+        if (word % 65536 != request.start * 256 + request.k)
+            continue;
+        if (kind != (rounds == load ? 3 : 2))
+            broken(&request, "told what it should not be (word, round)", word, rounds);
+        return rounds == load ? TIMED_OUT : ACKNOWLEDGED;
+    }
+    if (rounds == load)
+        broken(&request, "told of nothing (device, round)", request.start, rounds);
+    return NO_REQUEST;
+}
+
+enum answer try_drop(const struct plan *given, flag *replugged) {
+    request = (struct spread){.name = "T-03", .kind = INTERRUPT};
+    *replugged = 0;
+    begin_course(&course, given);
+    if (!choose_source(&course, &request))
+        return NO_REQUEST;
+    prepare();
+    must_be("T-03: the request is taken", 0, host_calls(&course, REQUEST, request.start, request.k));
+    check_source();
+    for (;;) {
+        *replugged |= call_on();
+        play_on(&course, request.k, 0);
+        rounds++;
+        enum answer answer = heard();
+        if (answer != NO_REQUEST)
+            return answer;
+        check_source();
+    }
+}
