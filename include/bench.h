@@ -233,7 +233,7 @@ static inline bench_u32 bench_acknowledge(const bench_u8 *plan, bench_size plan_
 }
 
 /* The link at a port: running is what it is to be, 0 stops it and any other number starts it. 20 to 26; 2; 4; 7; 10 where it is
- * so already. */
+ * so already. A stop loses what waits at both ends; registers, timers and where searches begin stay. */
 static inline bench_u32 bench_link(const bench_u8 *plan, bench_size plan_length, bench_u32 *state, bench_size state_length,
                                    bench_size device, bench_size port, bench_u32 running) {
     if (!bench_two_apart(plan, plan_length, state, state_length))
