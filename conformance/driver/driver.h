@@ -126,9 +126,6 @@ struct spread {
     u32 told[DEVICES]; /* the round in which the host was told of it, 0 before that */
 };
 
-/* All four permissions. */
-enum { EVERYTHING = 15 };
-
 /* spread.c: what is given, and what is to be seen, in such a window. A check that fails ends the run. */
 void begin_course(struct course *course, const struct plan *plan); /* in any sound state */
 flag choose_source(struct course *course, struct spread *spread); /* one that can send: start and k; 0 where no node is joined */
@@ -147,8 +144,8 @@ void check_held(const struct spread *spread, struct course *course, u32 round);
 void check_sent(struct spread *spread, const struct course *course, u32 round);
 void check_rest(const struct spread *spread, struct course *course);
 
-/* What a source's host is told first of its request; NO_REQUEST where no node is joined to anything. */
-enum answer { NO_REQUEST, ACKNOWLEDGED, TIMED_OUT, ANSWERS };
+/* What a source's host is told first of its request. UNTOLD: nothing yet, or no node is joined to anything and can request. */
+enum answer { UNTOLD, ACKNOWLEDGED, TIMED_OUT, ANSWERS };
 
 /* trials.c, known.c, demand.c, cycle.c and drop.c: what is tried. */
 void known_values(void);
@@ -162,6 +159,6 @@ void right_lengths(struct played *played);
 struct change likely_change(struct plan *plan);
 u32 try_demand_3(const struct plan *plan); /* the rounds in its window; 0 where nobody can send */
 u32 try_cycles(const struct plan *plan, u32 *longest); /* how many; 0 where no node can reach another */
-enum answer try_drop(const struct plan *plan, flag *replugged); /* did the source's link stop and start again before that? */
+enum answer try_drop(const struct plan *plan, flag *replugged); /* had the source's link stopped and started again before? */
 
 #endif

@@ -21,8 +21,9 @@ static void check_source(void) {
         broken(&request, "the timer stands wrong (timer, round)", timer, rounds);
 }
 
-/* In half of the trials every link is open and at first nothing waits, so that acknowledges come back; in the others only the
- * source's bit is clear. Some of the other nodes handle k, whether the interrupt reaches them or not. */
+/* In half of the trials every link is open, and at first nothing is set and nothing waits, so that acknowledges come back; in the
+ * others the state is any sound one, but for the source's bit of k, which is clear. Some of the other nodes handle k, whether
+ * the interrupt reaches them or not. */
 static void prepare(void) {
     if (once_in(2)) {
         open_links(&course, 1);
@@ -85,15 +86,15 @@ static enum answer heard(void) {
     }
     if (rounds == load)
         broken(&request, "told of nothing (device, round)", request.start, rounds);
-    return NO_REQUEST;
+    return UNTOLD;
 }
 
 enum answer try_drop(const struct plan *given, flag *replugged) {
-    request = (struct spread){.name = "T-03", .kind = INTERRUPT};
+    request = (struct spread){.name = "T-03"};
     *replugged = 0;
     begin_course(&course, given);
     if (!choose_source(&course, &request))
-        return NO_REQUEST;
+        return UNTOLD;
     prepare();
     must_be("T-03: the request is taken", 0, host_calls(&course, REQUEST, request.start, request.k));
     check_source();
@@ -102,7 +103,7 @@ enum answer try_drop(const struct plan *given, flag *replugged) {
         play_on(&course, request.k, 0);
         rounds++;
         enum answer answer = heard();
-        if (answer != NO_REQUEST)
+        if (answer != UNTOLD)
             return answer;
         check_source();
     }

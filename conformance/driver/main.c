@@ -74,9 +74,10 @@ int main(int count, char **words) {
            demands, longest);
     printf("T-01 tried on %lu of the networks, in %lu cycles of up to %u rounds; in the other %lu no node reaches another\n",
            returns, cycles, longest_cycle, cases - returns);
-    printf("T-03 tried on %lu of the networks: told of the acknowledge %lu times, %lu of them with a cable out and in again; "
-           "told of the timeout %lu times, %lu of them so\n",
-           cases - drops[NO_REQUEST], drops[ACKNOWLEDGED], replugged[ACKNOWLEDGED], drops[TIMED_OUT], replugged[TIMED_OUT]);
+    printf("T-03 tried on %lu of the networks; in the others no node is joined to anything\n", cases - drops[UNTOLD]);
+    printf("  told of the acknowledge %lu times, %lu of them after the cable was out and in again; of the timeout %lu times, %lu of "
+           "them after that\n",
+           drops[ACKNOWLEDGED], replugged[ACKNOWLEDGED], drops[TIMED_OUT], replugged[TIMED_OUT]);
     if (whole && !(all_hit() && all_tried()))
         return 1;
     printf("judge: ok\n");

@@ -1,5 +1,8 @@
-/* What demand 3, T-01 and T-03 have in common: a code of k that spreads from one device while other identifiers are used. */
+/* What demand 3 and T-01 have in common, a code of k that spreads from one device while other identifiers are used; and, with
+ * T-03, how a source is chosen and rounds are played. */
 #include "driver.h"
+
+enum { EVERYTHING = 15 }; /* all four permissions */
 
 void begin_course(struct course *course, const struct plan *plan) {
     course->plan = *plan;

@@ -18,7 +18,7 @@ use Rattle.state.proofs.Keeping.{both-kinds}
 use Rattle.bench.specs.Round.{ofInterrupt, ofAcknowledge, ofTimeout, round}
 use Rattle.laws.specs.Alike.{SendsIt}
 use Rattle.laws.specs.Telling.{toldIn, toldBy}
-use Rattle.laws.proofs.Telling.{told-balance, none-told, told-some, some-told, no-timeout}
+use Rattle.laws.proofs.Telling.{told-balance, by-none, none-told, told-some, some-told, no-timeout}
 use Rattle.reach.specs.Away.{Away}
 use Rattle.reach.proofs.Found.{none-away}
 use Rattle.assurance.specs.Demand3.{crossing}
@@ -29,13 +29,6 @@ use Rattle.assurance.proofs.Arrivals.{of-kind}
 use Rattle.assurance.proofs.Meanwhile.{Beside}
 use Rattle.assurance.proofs.Trips.{Trip}
 use Rattle.assurance.proofs.Crossings.{away-least}
-
--- what is told in so many rounds, where none of them tells any
-by-none : (plan : Plan) (kind d k : ℕ) (at : ℕ → State) (last : ℕ) → ((t : ℕ) → t < last → toldBy plan kind d k at (suc t) ≡ toldBy plan kind d k at t)
-    → (t : ℕ) → t ≤ last → toldBy plan kind d k at t ≡ 0
-unfolding toldBy
-by-none plan kind d k at last none zero h = omega arith
-by-none plan kind d k at last none (suc t) h = none t h ∙ by-none plan kind d k at last none t (omega arith)
 
 -- what was told in some rounds was told in one of them
 in-one : (plan : Plan) (kind d k : ℕ) (at : ℕ → State) (t : ℕ) → 1 ≤ toldBy plan kind d k at t → (u : ℕ) × (u < t) × (1 ≤ toldIn plan kind d k (at u))
@@ -60,16 +53,14 @@ module _ (plan : Plan) (held : Held plan) (k : ℕ) (l : k < 32) (at : ℕ → S
 
   -- nothing of a kind is told that nobody sends
   pub none-sent : (kind : ℕ) → kind < 2 → ((q t : ℕ) → t < last → SendsIt plan k (at t) kind q → ⊥) → (t : ℕ) → t ≤ last → toldBy plan (ofInterrupt + kind) e k at t ≡ 0
-  unfolding toldBy
   none-sent kind g none =
       by-none plan (ofInterrupt + kind) e k at last
-      (λ t b. omega (arith, none-told plan held (at t) (sound t (omega arith)) e k h l kind g (λ q. none q t b)))
+      (λ t b. none-told plan held (at t) (sound t (omega arith)) e k h l kind g (λ q. none q t b))
 
   -- no timeout is told where no timer ends
   pub none-ends : ((t : ℕ) → t < last → timer (at t) e k ≢ 1) → (t : ℕ) → t ≤ last → toldBy plan ofTimeout e k at t ≡ 0
-  unfolding toldBy
   none-ends runs =
-      by-none plan ofTimeout e k at last (λ t b. omega (arith, no-timeout plan held (at t) (sound t (omega arith)) e k h l (runs t b)))
+      by-none plan ofTimeout e k at last (λ t b. no-timeout plan held (at t) (sound t (omega arith)) e k h l (runs t b))
 
 -- a code that device d sent out is on its way
 module _ {plan : Plan} {kind k d D last spare : ℕ} {s : State} {at : ℕ → State} (out : Trip plan kind k d D last spare s at) (e : ℕ) (h : e < devices plan) where

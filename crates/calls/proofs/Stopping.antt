@@ -8,7 +8,7 @@ use native.Mathlib.Omega.{arith}
 use lib.ListN.{length}
 use Rattle.answers.proofs.Outcomes.{Holds, holds}
 use Rattle.plan.specs.declared.Plan.{Plan}
-use Rattle.state.specs.State.{State, words, word, put, registerAt, timerAt, portAt, waiting, nextAt, runningAt, running}
+use Rattle.state.specs.State.{State, words, word, put, registerAt, timerAt, portAt, waiting, nextAt, runningAt}
 use Rattle.state.specs.Network.{peer}
 use Rattle.state.proofs.Words.{length-put, word-same, word-other}
 use Rattle.state.proofs.Plans.{FarEnd, port-there, far-end}
@@ -19,7 +19,7 @@ use Rattle.calls.specs.Stopping.{Keeps, Stopped, LinkKeeps, LinkStops}
 -- ---- a port's two sets are emptied
 
 module _ (s : State) (q : ℕ) where
-  pub drained-other : (i : ℕ) → i ≢ portAt q 0 → i ≢ portAt q 1 → word (drained q s) i ≡ word s i
+  drained-other : (i : ℕ) → i ≢ portAt q 0 → i ≢ portAt q 1 → word (drained q s) i ≡ word s i
   drained-other i a b = word-other (put s (portAt q 0) 0) (portAt q 1) 0 i b ∙ word-other s (portAt q 0) 0 i a
 
   drained-size : length (drained q s) ≡ length s
@@ -52,13 +52,13 @@ module _ (plan : Plan) (q : ℕ) (s : State) where
   abbrev far : ℕ
   far = peer plan q
 
-  switched-other : (runs : Bool) (i : ℕ) → Elsewhere i q → Elsewhere i (peer plan q) → word (switched plan runs q s) i ≡ word s i
+  switched-other : (runs : Bool) (i : ℕ) → Elsewhere i q → Elsewhere i far → word (switched plan runs q s) i ≡ word s i
   unfolding switched
   switched-other true i a b = flagged-other 1 q far s i (a .2) (b .2)
   switched-other false i a b =
       flagged-other 0 q far _ i (a .2) (b .2) ∙ drained-other (drained q s) far i (b .0) (b .1) ∙ drained-other s q i (a .0) (a .1)
 
-  switched-keeps : (runs : Bool) → Keeps plan q s (switched plan runs q s)
+  pub switched-keeps : (runs : Bool) → Keeps plan q s (switched plan runs q s)
   switched-keeps runs =
       record {
         registers = λ d h. switched-other runs (registerAt d) (omega arith, omega arith, omega arith) (omega arith, omega arith, omega arith);
@@ -67,7 +67,7 @@ module _ (plan : Plan) (q : ℕ) (s : State) where
         others = λ p i h l a b. switched-other runs (portAt p i) (omega arith, omega arith, omega arith) (omega arith, omega arith, omega arith);
       }
 
-  switched-stops : length s ≡ words → q < 256 → peer plan q < 256 → peer plan q ≢ q → Stopped plan q (switched plan false q s)
+  switched-stops : length s ≡ words → q < 256 → far < 256 → far ≢ q → Stopped plan q (switched plan false q s)
   unfolding switched
   switched-stops long h l ne =
       let t = drained far (drained q s) in

@@ -100,7 +100,7 @@ module _ (plan : Plan) where
       deviceAsks d s
       ++ (ask 4 (p < portsOf plan d) ∷ ask 7 (peer plan (8 * d + p) < nobody) ∷ ask 10 (running s (8 * d + p) ≢ flagOf runs) ∷ [])
 
-  -- where it stops, nothing waits at either end any more
+  -- the flag is put at both ends, and where the link stops nothing waits at either any more
   unfoldable pub switched : Bool → ℕ → State → State
   switched true q s = flagged 1 q (peer plan q) s
   switched false q s = flagged 0 q (peer plan q) (drained (peer plan q) (drained q s))

@@ -1,12 +1,10 @@
--- In any network: wherever a request is taken, the source's cable can be pulled right after it and plugged in again a round later. Both calls answer 0,
--- and the course is one of those of which `HoldsOn` and `IsHeard` speak.
+-- Wherever a request is taken, the source's cable can be pulled right after it and plugged in again a round later.
 use mathlib.Core.Path.{_≡_, refl, _∙_}
 use mathlib.Core.Bool.{Bool, true, false}
 use mathlib.Core.Logic.{inr, _≢_}
 use Prim.Native.Nat.{ℕ, zero, suc, _+_, _*_, _/_, _%_, _<_}
 use native.Mathlib.Omega.{arith}
 use borrow.Author.Tests.{ltb-true}
-use Rattle.answers.specs.Ordered.{Ordered}
 use Rattle.answers.proofs.Outcomes.{Holds, holds, outcome-done}
 use Rattle.lists.specs.Loop.{upTo}
 use Rattle.plan.specs.Fields.{nobody}
@@ -23,9 +21,10 @@ use Rattle.calls.proofs.Stopping.{link-stops}
 use Rattle.bench.specs.Round.{round}
 use Rattle.bench.specs.Settling.{rounds}
 use Rattle.bench.proofs.RoundSound.{round-sound}
-use Rattle.laws.specs.Requested.{AnyCalls, none, link, Requested}
+use Rattle.laws.specs.Requested.{AnyCalls, none, link}
 use Rattle.assurance.proofs.Taking.{called-took}
 use Rattle.assurance.proofs.Choices.{runs-there, runs-joined}
+use Rattle.cycles.specs.Cable.{Pulled, OutAndIn}
 use Rattle.cycles.proofs.Flags.{round-runs}
 
 module _ (plan : Plan) (held : Held plan) (d p : ℕ) (h : d < devices plan) (l : p < portsOf plan d) (joined : peer plan (8 * d + p) < nobody) where
@@ -33,22 +32,14 @@ module _ (plan : Plan) (held : Held plan) (d p : ℕ) (h : d < devices plan) (l 
   switches : (runs : Bool) (s : State) → Sound plan s → running s (8 * d + p) ≢ flagOf runs → Links plan d p runs s 0 (switched plan runs (8 * d + p) s)
   switches runs s x other = outcome-done (inr (held, inr (x, inr (h, inr (l, inr (joined, inr (other, refl))))))) refl refl
 
--- the cable at a port of source d, and so many rounds after its request
-pub record Pulled (plan : Plan) (d k rounds : ℕ) (s : State) : Type 0 where
-  pub port : ℕ
-  pub at : ℕ → State
-  pub out : Links plan d port false (called plan 0 d k s) 0 (at 0)
-  pub back : Links plan d port true (round plan (at 0) .next) 0 (at 1)
-  pub course : Requested plan d k rounds s at
-
 -- first a, a round later b, and then nothing but rounds
 goes : Plan → State → State → ℕ → State
 goes plan a b zero = a
 goes plan a b (suc t) = rounds plan t b
 
-pub out-and-in : (plan : Plan) → Held plan → (s : State) → Sound plan s → (d k : ℕ) → Ordered (callAsks plan 0 d k s) 0 → (total : ℕ) → Pulled plan d k total s
-unfolding flagOf goes upTo LinkStops
-out-and-in plan held s x d k taken total = known (holds (callAsks plan 0 d k s) refl taken refl)
+pub out-and-in : OutAndIn
+unfolding OutAndIn flagOf goes upTo LinkStops
+out-and-in plan d k total s held x taken = known (holds (callAsks plan 0 d k s) refl taken refl)
   where
     known : Holds (callAsks plan 0 d k s) → Pulled plan d k total s
     known (_, (_, (there, (place, (_, ((p, low, on), _)))))) =

@@ -1,3 +1,4 @@
 pub mod Star
 pub mod Early
 pub mod RateBack
+pub mod Cable

@@ -61,7 +61,7 @@ module _ (side : Side) (bits : ℕ) where
   opened byte kind k e g l (Interrupt j) (interrupt m o) a = opened-by kind k 0 j (omega arith) (omega arith) (Interrupt j) a
   opened byte kind k e g l (Acknowledge j) (acknowledge m o) a = opened-by kind k 1 j (omega arith) (omega arith) (Acknowledge j) a
 
-  -- an interrupt that is accepted is all that is taken
+  -- what comes of an interrupt that is accepted
   taken : (byte k : ℕ) → byte ≡ byteOf 0 k → k < 32 → (code : Code) → Stands byte code → accepts (reactsTo side bits code .action) ≡ true
       → reactsTo side bits code ≡ accepted side bits 0 k (Interrupt k)
   unfolding reactsTo accepts

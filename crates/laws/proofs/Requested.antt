@@ -19,18 +19,18 @@ use Rattle.state.specs.Mark.{mark}
 use Rattle.state.proofs.Plans.{few, masked, load-fits}
 use Rattle.state.proofs.Marks.{mark-other}
 use Rattle.state.proofs.Waits.{queue-all-left}
-use Rattle.calls.specs.Calls.{callAsks, called, linkAsks, Links, cleared, reset as Calls·reset}
-use Rattle.calls.specs.Stopping.{Keeps, LinkKeeps}
+use Rattle.calls.specs.Calls.{callAsks, called, linkAsks, switched, cleared, reset as Calls·reset}
+use Rattle.calls.specs.Stopping.{Keeps}
 use Rattle.calls.proofs.Called.{call-sound, link-sound, reset-sound}
-use Rattle.calls.proofs.Stopping.{link-keeps}
+use Rattle.calls.proofs.Stopping.{switched-keeps}
 use Rattle.calls.proofs.Zeros.{cleared-left, cleared-fits, emptied-left}
 use Rattle.bench.specs.Round.{ofInterrupt, ofAcknowledge, ofTimeout, round}
 use Rattle.bench.proofs.RoundSound.{round-sound}
-use Rattle.laws.specs.Telling.{toldIn, toldBy}
+use Rattle.laws.specs.Telling.{toldIn}
 use Rattle.laws.specs.Timing.{NoneAccepted}
 use Rattle.laws.specs.Requested.{AnyCalls, none, host, link, reset, Requested, StillHolds, Acknowledged, TimedOut, Hears, HoldsOn, IsHeard}
 use Rattle.laws.proofs.Timers.{timed-bit, runs-on, round-falls, request-loads, timeout-told}
-use Rattle.laws.proofs.Telling.{taking-turned, told-some, some-told, no-timeout, accepted-told, told-accepted, untold}
+use Rattle.laws.proofs.Telling.{taking-turned, by-none, told-some, some-told, no-timeout, accepted-told, told-accepted, untold}
 
 -- what is so of an interrupt, an acknowledge and a timeout
 three : (P : ℕ → Type 0) → P ofInterrupt → P ofAcknowledge → P ofTimeout → (kind : ℕ) → ofInterrupt ≤ kind → kind ≤ ofTimeout → P kind
@@ -77,17 +77,11 @@ module _ (plan : Plan) (held : Held plan) (d k : ℕ) (h : d < devices plan) (l 
               ∙ mark-other plan kind e j (timerAt d k) s (omega arith) (λ is. another kind e j asked (omega arith) (omega arith));
         }
 
-    link-stays : (e p : ℕ) (runs : Bool) (number : ℕ) (t : State) → Links plan e p runs s number t → Stays s t
-    unfolding LinkKeeps
-    link-stays e p runs number t call =
-        let keeps : Keeps plan (8 * e + p) s t = link-keeps plan e p runs s number t call in
+    link-stays : (e p : ℕ) (runs : Bool) → Holds (linkAsks plan runs e p s) → Stays s (switched plan runs (8 * e + p) s)
+    link-stays e p runs asked =
+        let keeps : Keeps plan (8 * e + p) s (switched plan runs (8 * e + p) s) = switched-keeps plan (8 * e + p) s runs in
         record {
-          sound = elim (ℕ-discrete number 0) [
-            | yes z ↦
-                let asked = holds (linkAsks plan runs e p s) refl (call .answers) z in
-                rw (call .made z) (link-sound plan held s x e p (asked .1 .1 .0) (asked .1 .1 .1 .0) (asked .1 .1 .1 .1 .0) runs)
-            | no n ↦ rw (call .kept n) x
-          ];
+          sound = link-sound plan held s x e p (asked .1 .1 .0) (asked .1 .1 .1 .0) (asked .1 .1 .1 .1 .0) runs;
           holds = ap (λ r. bit r k) (keeps .registers d small) ∙ on;
           timed = keeps .timers d k small l;
         }
@@ -116,8 +110,8 @@ module _ (plan : Plan) (held : Held plan) (d k : ℕ) (h : d < devices plan) (l 
   calls-stay x on none = record { sound = x; holds = on; timed = refl }
   calls-stay x on (host {t = t} kind e j number before g call) =
       let y = calls-stay x on before in onward y (by-number t (y .sound) (y .holds) refl call (host-stays t (y .sound) (y .holds) kind e j g))
-  calls-stay x on (link {t = t} {u = u} e p runs number before call) =
-      let y = calls-stay x on before in onward y (link-stays t (y .sound) (y .holds) e p runs number u call)
+  calls-stay x on (link {t = t} e p runs number before call) =
+      let y = calls-stay x on before in onward y (by-number t (y .sound) (y .holds) refl call (link-stays t (y .sound) (y .holds) e p runs))
   calls-stay x on (reset {t = t} e number before ne call) =
       let y = calls-stay x on before in onward y (by-number t (y .sound) (y .holds) refl call (λ asked. reset-stays t (y .sound) (y .holds) e (asked .1 .1 .0) ne))
 
@@ -165,26 +159,27 @@ module _ (plan : Plan) (held : Held plan) (d k : ℕ) (h : d < devices plan) (l 
         three (λ i. toldIn plan i d k (at t) ≡ 0) (codes 0 (omega arith) (none .0)) (codes 1 (omega arith) (none .1))
         (no-timeout plan held (at t) (y .0) d k h l (omega arith)) kind low high
 
-    silent : (n m : ℕ) → n < loadOf plan d k → Quiet n → m ≤ n → (kind : ℕ) → ofInterrupt ≤ kind → kind ≤ ofTimeout → toldBy plan kind d k at m ≡ 0
-    unfolding toldBy
-    silent n zero b quiet c kind low high = refl
-    silent n (suc m) b quiet c kind low high = omega (arith, silent n m b quiet (omega arith) kind low high, hushed n m b quiet c kind low high)
-
     heard : (n : ℕ) → n < loadOf plan d k → Quiet n → Acknowledged plan d k at n ⊎ TimedOut plan d k at n → Hears plan d k at n
-    heard n b quiet then = record { in-time = b; until = λ t c. still n t b quiet c .1; silent = silent n n b quiet (omega arith); then = then }
+    heard n b quiet then =
+        record {
+          until = λ t c. still n t b quiet c .1;
+          silent = λ kind low high. by-none plan kind d k at n (λ t c. hushed n t b quiet c kind low high) n (omega arith);
+          then = then;
+        }
 
     -- after n rounds in which it accepted none, so many are left before the last
     search-on : (left n : ℕ) → suc (n + left) ≡ loadOf plan d k → Quiet n → (m : ℕ) × Hears plan d k at m
     search-on zero n e quiet =
         let y = still n n (omega arith) quiet (omega arith) in
         let stands = y .1 .timed in
-        (n, heard n (omega arith) quiet (inr (omega arith, timeout-told plan held (at n) (y .0) d k h l node (omega arith))))
+        (n, heard n (omega arith) quiet (inr (record { last = omega arith; told = timeout-told plan held (at n) (y .0) d k h l node (omega arith) })))
     search-on (suc left) n e quiet =
         let y = still n n (omega arith) quiet (omega arith) in
         elim (ℕ-discrete (toldIn plan ofAcknowledge d k (at n)) 0) [
           | no ne ↦
               let word = some-told plan ofAcknowledge d k (at n) (omega arith) in
-              (n, heard n (omega arith) quiet (inl (told-accepted plan held (at n) (y .0) d k h l 1 (omega arith) word, word)))
+              let accepted = told-accepted plan held (at n) (y .0) d k h l 1 (omega arith) word in
+              (n, heard n (omega arith) quiet (inl (record { before = omega arith; accepted = accepted; told = word })))
           | yes z ↦
               let none : NoneAccepted plan (at n) d 1 k =
               λ p c a. omega (arith, told-some plan ofAcknowledge d k (at n) (accepted-told plan held (at n) (y .0) d k h l 1 (omega arith) node p c a)) in

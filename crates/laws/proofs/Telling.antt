@@ -1,9 +1,10 @@
--- What a host is told in a round: a node's bit is what its host was told, a code is told that a port sent, and a timeout where a timer stood at 1.
+-- What a host is told in a round: a node's bit is what its host was told, a code is told that a port sent, and a timeout where a timer stood at 1; and what
+-- a node accepts is what its host is told of.
 use mathlib.Core.Path.{_≡_, refl, sym, ap, _∙_}
 use mathlib.Core.Bool.{Bool, true, false, cond}
 use mathlib.Core.List.{List, [], _∷_, _++_, List·Memᴰ, List·Memᴰ·head, List·Memᴰ·tail, Memᴰ·append-right, List·Memᴰ·append-cases, List·Memᴰ·eq-of-singleton, List·Memᴰ·not-nil}
 use mathlib.Core.Logic.{_⊎_, inl, inr, _≢_}
-use Prim.Native.Nat.{ℕ, suc, _+_, _-_, _*_, _/_, _%_, _≤_, _<_}
+use Prim.Native.Nat.{ℕ, zero, suc, _+_, _-_, _*_, _/_, _%_, _≤_, _<_}
 use native.Mathlib.Decide.{ℕ-discrete}
 use native.Mathlib.Omega.{arith}
 use lib.Dec.{eqb}
@@ -31,7 +32,7 @@ use Rattle.bench.proofs.Ticks.{tick-cases}
 use Rattle.bench.proofs.Unqueued.{posted-sound, posted-left}
 use Rattle.bench.proofs.RoundSound.{taking, arrives-taken, arrives-cases, arrives-sound}
 use Rattle.laws.specs.Alike.{SendsIt}
-use Rattle.laws.specs.Telling.{times, toldIn}
+use Rattle.laws.specs.Telling.{times, toldIn, toldBy}
 use Rattle.laws.specs.Timing.{accepts, action, before, incoming, AcceptedAt, NoneAccepted}
 use Rattle.laws.proofs.Accepting.{arrives-left, arrives-opens}
 use Rattle.laws.proofs.Timers.{timed-bit, turn, turn-sound, ticked-came, arrives-more, reached-came}
@@ -190,6 +191,13 @@ module _ (plan : Plan) (held : Held plan) (s : State) (x : Sound plan s) (d k : 
       ) .1
 
 -- ---- what is told, and what is not
+
+-- what is told in so many rounds, where none of them tells any
+pub by-none : (plan : Plan) (kind d k : ℕ) (at : ℕ → State) (last : ℕ) → ((t : ℕ) → t < last → toldIn plan kind d k (at t) ≡ 0)
+    → (t : ℕ) → t ≤ last → toldBy plan kind d k at t ≡ 0
+unfolding toldBy
+by-none plan kind d k at last none zero h = refl
+by-none plan kind d k at last none (suc t) h = omega (arith, none t h, by-none plan kind d k at last none t (omega arith))
 
 -- what is among those told is told once at least
 module _ (plan : Plan) (kind d k : ℕ) (s : State) where

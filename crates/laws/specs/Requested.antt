@@ -18,8 +18,8 @@ use Rattle.laws.specs.Timing.{AcceptedAt, NoneAccepted}
 
 -- ---- what happens meanwhile
 
--- between two rounds any calls are made, in any number, refused or not: hosts request (kind 0) and acknowledge (kind 1) any identifier, links are
--- stopped and started, and devices are reset; but device d is not
+-- between two rounds calls are made, in any number, refused or not: hosts request (kind 0) and acknowledge (kind 1) any identifier, links are
+-- stopped and started, and devices other than d are reset
 pub data AnyCalls (plan : Plan) (d : ℕ) (s : State) : State → Type 0 where
   none : AnyCalls plan d s s
   host : {t u : State} (kind e j number : ℕ) → AnyCalls plan d s t → kind < 2 → Takes plan kind e j t number u → AnyCalls plan d s u
@@ -33,7 +33,7 @@ pub record Requested (plan : Plan) (d k rounds : ℕ) (s : State) (at : ℕ → 
   pub sound : Sound plan s
   -- the request is taken
   pub taken : Ordered (callAsks plan 0 d k s) 0
-  -- any calls follow, after the request and after each round
+  -- calls follow, after the request and after each round
   pub begins : AnyCalls plan d (called plan 0 d k s) (at 0)
   pub goes-on : (t : ℕ) → t < rounds → AnyCalls plan d (round plan (at t) .next) (at (suc t))
 
@@ -47,17 +47,19 @@ module _ (plan : Plan) (d k : ℕ) (at : ℕ → State) where
 
   -- ---- its host hears of it
 
-  -- in the round from `at n` d takes an acknowledge of k, and its host is told
-  abbrev pub Acknowledged : ℕ → Type 0
-  Acknowledged n = ((p : ℕ) × (p < 8) × AcceptedAt plan (at n) (8 * d + p) 1 k) × List·Memᴰ (toldWord ofAcknowledge d k) (round plan (at n) .told)
+  -- the round from `at n` comes before the last for which its timer was loaded; d takes an acknowledge of k in it, and its host is told
+  pub record Acknowledged (n : ℕ) : Type 0 where
+    pub before : suc n < loadOf plan d k
+    pub accepted : (p : ℕ) × (p < 8) × AcceptedAt plan (at n) (8 * d + p) 1 k
+    pub told : List·Memᴰ (toldWord ofAcknowledge d k) (round plan (at n) .told)
 
-  -- that round is the last for which its timer was loaded, and its host is told of the timeout
-  abbrev pub TimedOut : ℕ → Type 0
-  TimedOut n = (suc n ≡ loadOf plan d k) × List·Memᴰ (toldWord ofTimeout d k) (round plan (at n) .told)
+  -- it is that last round, and its host is told of the timeout
+  pub record TimedOut (n : ℕ) : Type 0 where
+    pub last : suc n ≡ loadOf plan d k
+    pub told : List·Memᴰ (toldWord ofTimeout d k) (round plan (at n) .told)
 
+  -- one of the two, and before that round it holds k, and its host is told nothing of k: of no interrupt, no acknowledge and no timeout
   pub record Hears (n : ℕ) : Type 0 where
-    pub in-time : n < loadOf plan d k
-    -- until then it holds k, and its host is told nothing of k: of no interrupt, no acknowledge and no timeout
     pub until : (t : ℕ) → t ≤ n → StillHolds t
     pub silent : (kind : ℕ) → ofInterrupt ≤ kind → kind ≤ ofTimeout → toldBy plan kind d k at n ≡ 0
     pub then : Acknowledged n ⊎ TimedOut n
