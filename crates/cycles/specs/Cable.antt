@@ -1,7 +1,7 @@
 -- RULES, "When a link stops": in any network the cable of a source can be pulled after its request and plugged in again, so that there is something of
 -- which `HoldsOn` and `IsHeard` speak (`laws`, `Requested`).
-use Prim.Native.Nat.{ℕ}
 use mathlib.Core.Bool.{true, false}
+use Prim.Native.Nat.{ℕ}
 use Rattle.answers.specs.Ordered.{Ordered}
 use Rattle.plan.specs.Reading.{Held}
 use Rattle.plan.specs.declared.Plan.{Plan}
