@@ -5,6 +5,9 @@
 
 enum { MOST_LOAD = 30, MOST_CALLS = 2 };
 
+/* What a told word is about. */
+enum { OF_ACKNOWLEDGE = 2, OF_TIMEOUT = 3 };
+
 static struct course course;
 static struct spread request;
 static u32 load, rounds;
@@ -80,7 +83,7 @@ static enum answer heard(void) {
         u32 word = course.played.told[i], kind = word / 65536;
         if (word % 65536 != request.start * 256 + request.k)
             continue;
-        if (kind != (rounds == load ? 3 : 2))
+        if (kind != (rounds == load ? OF_TIMEOUT : OF_ACKNOWLEDGE))
             broken(&request, "told what it should not be (word, round)", word, rounds);
         return rounds == load ? TIMED_OUT : ACKNOWLEDGED;
     }
