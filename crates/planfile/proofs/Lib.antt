@@ -3,6 +3,7 @@ pub mod Marked
 pub mod Places
 pub mod Plans
 pub mod ReaderAnswers
+pub mod Running
 pub mod SameConnections
 pub mod Scans
 pub mod Unique

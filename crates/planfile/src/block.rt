@@ -47,17 +47,23 @@ pub(crate) fn put(block: &mut [u8], i: usize, width: usize, number: u32)
 
 // ---- the check
 
-// The weighted sum of the bytes before it, which the check has to be. It fits 32 bits: several bytes
-// at a time are then added.
+// What the check has to be, worked out by additions: a controller may have no room for products.
+// From the last byte down, a byte is in the running sum at its own place and at all below it, so that
+// it counts as often as its place says once the running sums are added up. They come to 33,227,775
+// at most.
 pub(crate) fn check(block: &[u8]) -> usize
     requires { ⌜ 510 ≤ length (now block) ⌝ }
     ensures { λ r. ⌜ (r ≡ Block·check (now (block .entry))) × (r < 65521) ⌝ }
 {
     let mut sum: u32 = 0;
-    for i in 0..CHECK {
-        sum += (i as u32 + 1) * areas::word(block[i]);
+    let mut weighted: u32 = 0;
+    let mut i = CHECK;
+    while i > 0 {
+        i -= 1;
+        sum += areas::word(block[i]);
+        weighted += sum;
     }
-    (sum % 65521) as usize
+    (weighted % 65521) as usize
 }
 
 pub(crate) fn checked(block: &[u8]) -> bool

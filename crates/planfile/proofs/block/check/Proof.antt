@@ -1,52 +1,44 @@
+-- `planfile::block::check` meets its contract. The invariant: from byte i on down, the running sums still come to the weighted sum. Assumes nothing.
+use mathlib.Core.Path.{_≡_, ap}
 use mathlib.Core.List.{List}
-use mathlib.Core.Path.{_≡_, refl, ap, _∙_}
-use Prim.Native.Nat.{ℕ, _+_, _*_, _-_, _≤_, _<_, _%_}
+use Prim.Native.Nat.{ℕ, suc, _+_, _*_, _-_, _≤_, _<_, _%_}
 use native.Mathlib.Omega.{arith}
-use native.Mathlib.Numerals.{add-one}
-use native.Mathlib.Nat.{mul-le-mul}
-use lib.ListN.{getD}
 use borrow.Author.Needs.{needs}
-use Rattle.plan.specs.Block.{weighted, check}
+use Rattle.plan.specs.Block.{byte, weighted, check}
+use Rattle.planfile.proofs.Running.{running, running-weighted}
 use Rattle.planfile.proofs.block.check.Statement.{statement}
 use Rattle.planfile.proofs.block.check.Tie as tie
 
--- a term of the sum, 510 x 255 at most
-term-le : (i b : ℕ) → i < 510 → b < 256 → (i + 1) * b ≤ 130050
-term-le i b h g = mul-le-mul {n₁ = i + 1} {m₁ = b} {n₂ = 510} {m₂ = 255} (omega arith) (omega arith)
-
--- the sum of the first i terms
-record Weighed (block : List ℕ) (i w : ℕ) : Type 0 where
+-- a sum is 510 x 255 at most, and each byte adds one
+record Runs (block : List ℕ) (i sum sums : ℕ) : Type 0 where
   within : i ≤ 510
-  small : w ≤ 130050 * i
-  sum : w ≡ weighted block i
+  small : sum ≤ 255 * (510 - i)
+  fits : sums ≤ 130050 * (510 - i)
+  comes-to : running block i sum sums ≡ weighted block 510
 
-more : {s : List ℕ} {i w b : ℕ} → Weighed s i w → i < 510 → b ≡ getD s i 0 → b < 256 → Weighed s (i + 1) (w + (i + 1) * b)
-unfolding weighted
-more {s} {i} {w} {b} v h e l =
-    record { within = omega arith; small = omega (arith, term-le i b h l); sum = rw (v .sum, e, add-one) }
+down : {s : List ℕ} {i sum sums b : ℕ} → Runs s (suc i) sum sums → b ≡ byte s i → b < 256 → Runs s i (sum + b) (sums + (sum + b))
+unfolding running
+down {s} {i} {sum} {sums} {b} v e l =
+    let h = v .within in
+    record { within = omega arith; small = omega (arith, v .small); fits = omega (arith, v .small, v .fits); comes-to = rw (e, v .comes-to) }
 
 abbrev Inv-loop : tie.InvT-loop
-Inv-loop block sum₀ i₀ sum i = Weighed block i sum
+Inv-loop block sum₀ sums₀ i₀ sum sums i = Runs block i sum sums
 
 abbrev μ-loop : tie.MeasureT-loop
-μ-loop block sum₀ i₀ sum i = 510 - i
+μ-loop block sum₀ sums₀ i₀ sum sums i = i
 
 loop-holds : tie.Need-loop-holds Inv-loop μ-loop
-unfolding weighted
-loop-holds c = record { within = omega arith; small = omega arith; sum = refl }
-
-mul-sum : tie.Need-mul-sum Inv-loop μ-loop
-mul-sum c = omega (arith, term-le (c .before .before .before .loop .i) (c .word .result) (omega arith) (c .word .ensures .1))
-
-add-sum-2 : tie.Need-add-sum-2 Inv-loop μ-loop
-add-sum-2 c = omega (arith, term-le (c .before .before .before .loop .i) (c .word .result) (omega arith) (c .word .ensures .1))
+loop-holds c = record { within = omega arith; small = omega arith; fits = omega arith; comes-to = running-weighted _ 510 }
 
 loop-again : tie.Need-loop-again Inv-loop μ-loop
-loop-again c = more (c .before .before .before .loop .inv) (omega arith) (c .word .ensures .0) (c .word .ensures .1)
+loop-again c = let l = c .before .before .before .loop in
+    let e : l .i ≡ suc (l .i - 1) = omega arith in
+    down (rw e at (l .inv)) (c .word .ensures .0) (c .word .ensures .1)
 
 returns : tie.Need-returns Inv-loop μ-loop
-unfolding check
-returns c = let e : c .before .loop .i ≡ 510 = omega arith in (ap (λ (x : ℕ). x % 65521) (c .before .loop .inv .sum ∙ ap (weighted _) e), omega arith)
+unfolding check running
+returns c = let e : c .before .loop .i ≡ 0 = omega arith in (ap (λ (x : ℕ). x % 65521) (rw e at (c .before .loop .inv .comes-to)), omega arith)
 
 word-requires : tie.Need-word-requires Inv-loop μ-loop
 word-requires c κs = search needs
@@ -60,10 +52,8 @@ check-spec =
     loop-holds
     (λ c. search needs)
     (λ c. search needs)
-    (λ c. search needs)
     word-requires
-    mul-sum
-    add-sum-2
+    (λ c. search needs)
     (λ c. search needs)
     (λ c. search needs)
     loop-again
