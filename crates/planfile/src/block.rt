@@ -47,28 +47,29 @@ pub(crate) fn put(block: &mut [u8], i: usize, width: usize, number: u32)
 
 // ---- the check
 
-// What the check has to be, worked out by additions: a controller may have no room for products.
-// From the last byte down, a byte is in the running sum at its own place and at all below it, so that
-// it counts as often as its place says once the running sums are added up, to 33,227,775 at most.
-// Bytes are taken by two, which is quicker: their running sums are sum + high and sum + both, and
-// what stood before each pair is added up apart from what the pair brings.
+// What the check has to be, by additions only: a small controller may have no room for products.
+// Down from the last byte a running sum is taken at each place. Byte i is in those of places i to 0,
+// so that in all of them together it counts i + 1 times, as its weight says. They come to 33,227,775
+// at most, which fits 32 bits.
+// Bytes are taken by two, which is quicker; 510 is even. The running sums of a pair are sum + high and
+// sum + both: sum goes to sums, which counts twice in the end, and the pair's own part to own.
 pub(crate) fn check(block: &[u8]) -> usize
     requires { ⌜ 510 ≤ length (now block) ⌝ }
     ensures { λ r. ⌜ (r ≡ Block·check (now (block .entry))) × (r < 65521) ⌝ }
 {
     let mut sum: u32 = 0;
     let mut sums: u32 = 0;
-    let mut pairs: u32 = 0;
+    let mut own: u32 = 0;
     let mut i = CHECK;
-    while i > 0 {
+    while i > 1 {
         i -= 2;
         let high = areas::word(block[i + 1]);
         let both = high + areas::word(block[i]);
         sums += sum;
-        pairs += high + both;
+        own += high + both;
         sum += both;
     }
-    ((sums + sums + pairs) % 65521) as usize
+    ((sums + sums + own) % 65521) as usize
 }
 
 pub(crate) fn checked(block: &[u8]) -> bool
