@@ -43,7 +43,7 @@ typedef char bench_size_fits_an_address[sizeof(bench_size) == sizeof(void *) ? 1
 
 /* Lengths: of a state and of the areas for what is sent and told, in words; of the least area for a text and of the longest plan
  * file, in bytes. */
-enum { BENCH_STATE = 2080, BENCH_SENT = 256, BENCH_TOLD = 1056, BENCH_TEXT = 14347, BENCH_FILE = 16896 };
+enum { BENCH_STATE = 2080, BENCH_SENT = 256, BENCH_TOLD = 1088, BENCH_TEXT = 14347, BENCH_FILE = 16896 };
 
 /* The most rounds that may be allowed, and the word of a port that sent nothing. */
 enum { BENCH_ROUNDS = 4096, BENCH_NOTHING = 256 };

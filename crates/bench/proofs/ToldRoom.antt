@@ -1,17 +1,15 @@
--- No round tells more than its area holds: each timer tells one word at most, and so does each node's one port.
+-- No round tells more than its area holds: each timer tells one word at most, and so does each of a node's two ports.
 use mathlib.Core.Path.{_≡_, refl, sym, ap, _∙_}
-use mathlib.Core.Bool.{Bool, true, false, cond, _&&_, false≢true}
+use mathlib.Core.Bool.{Bool, true, false}
 use mathlib.Core.List.{List, [], _∷_}
 use Prim.Native.Nat.{ℕ, zero, suc, _+_, _*_, _/_, _%_, _≤_, _<_}
-use native.Mathlib.Decide.{ℕ-discrete}
+use native.Mathlib.Decide.{ℕ-discrete, decLt}
 use native.Mathlib.Omega.{arith}
-use lib.Dec.{eqb, ltb, leb}
+use lib.Dec.{ltb}
 use lib.ListN.{length, getD, length-append, List·getD-eq-default}
-use borrow.Author.Tests.{ltb-true, ltb-false, eqb-true, lt-ltb, le-ltb}
+use borrow.Author.Tests.{ltb-true, ltb-false, le-ltb}
 use Rattle.lists.specs.Loop.{upTo}
-use Rattle.lists.proofs.Facts.{facts}
 use Rattle.lists.proofs.Tables.{length-table}
-use Rattle.lists.proofs.Tests.{and-left}
 use Rattle.codes.specs.declared.Code.{Code}
 use Rattle.codes.specs.declared.Code.the-variants.{Time, Interrupt, Acknowledge, Reserved}
 use Rattle.device.specs.Reaction.{ruled, reactsTo, reacts}
@@ -19,41 +17,22 @@ use Rattle.device.specs.declared.Action.{Action}
 use Rattle.device.specs.declared.Action.the-variants.{Named, LinkError, Ignored, Forwarded, Told}
 use Rattle.device.specs.declared.Side.{Side}
 use Rattle.device.proofs.Rule.{ruled-cases}
-use Rattle.plan.specs.Fields.{portsFit, nobody}
+use Rattle.plan.specs.Fields.{nobody}
 use Rattle.plan.specs.Reading.{Held}
-use Rattle.plan.specs.inner.Memory.{portRight, deviceRight, rowRight}
 use Rattle.plan.specs.declared.Plan.{Plan}
-use Rattle.plan.proofs.BothWays.{held-right, held-devices}
-use Rattle.plan.proofs.There.{right-says}
 use Rattle.state.specs.State.{State, timer}
-use Rattle.state.specs.Network.{devices, role, router, peer}
+use Rattle.state.specs.Network.{devices, router, portsOf, peer}
+use Rattle.state.proofs.Plans.{few, node-ports, absent-loose}
 use Rattle.bench.specs.Round.{World, ofTimeout, toldWord, tick, tells, acted, arrived, ticked, sentBytes, arrives, reached, afterTimers, afterSending, round, nothing, sentWords}
 use Rattle.bench.specs.RoundCall.{toldWords}
 use Rattle.bench.proofs.Stepped.{tick-idle, tick-falls, tick-ends, tick-tells, arrives-nothing, arrives-byte}
 
--- ---- a node has one port, and nobody is the peer of a port that does not exist
+-- ---- a node has its first two ports at most, and nobody is the peer of a port that it lacks
 
-node-port : (role ports : ℕ) → portsFit role ports ≡ true → eqb role 1 ≡ false → ports ≡ 1
-unfolding portsFit
-node-port role ports e f = by-test (eqb role 0) e
-  where
-    by-test : (b : Bool) → cond b (eqb ports 1) (eqb role 1 && leb 1 ports && leb ports 8) ≡ true → ports ≡ 1
-    by-test true e = eqb-true ports 1 e
-    by-test false e = absurd (false≢true (sym f ∙ and-left _ (leb 1 ports) (and-left _ (leb ports 8) e)))
-
-absent-peer : (n ports p peer permissions : ℕ) → ports ≤ p → portRight n ports p peer permissions ≡ true → peer ≡ nobody
-unfolding portRight
-absent-peer n ports p peer permissions h e =
-    let f : (eqb peer nobody && eqb permissions 0) ≡ true = rw (le-ltb p ports h, portRight) at e in
-    eqb-true peer nobody (and-left _ _ f)
-
-lone : (plan : Plan) → Held plan → (q : ℕ) → q < 8 * devices plan → (q % 8 ≡ 0 → ⊥) → router plan (q / 8) ≡ false → peer plan q ≡ nobody
-unfolding rowRight deviceRight
+lone : (plan : Plan) → Held plan → (q : ℕ) → q < 8 * devices plan → 2 ≤ q % 8 → router plan (q / 8) ≡ false → peer plan q ≡ nobody
 lone plan h q l m node =
-    let few : devices plan ≤ 32 = held-devices plan h .1 in
-    let row = simp facts at (right-says plan (held-right plan h) .rows (q / 8) (omega arith)) in
-    let one : getD (plan .core .ports) (q / 8) 0 ≡ 1 = node-port _ _ (and-left _ _ (rw (lt-ltb (q / 8) (devices plan) (omega arith), deviceRight) at (row .0))) node in
-    absent-peer _ _ (q % 8) _ _ (omega arith) (row .1 (q % 8) (omega arith))
+    let n = few plan h in
+    absent-loose plan h q (omega arith) (le-ltb (q % 8) (portsOf plan (q / 8)) (omega (arith, node-ports plan h (q / 8) (omega arith) node)))
 
 -- ---- what each step tells
 
@@ -115,8 +94,8 @@ module _ (plan : Plan) (held : Held plan) (sent : List ℕ) (none : getD sent no
       by-byte true e = rw (arrives-byte plan sent q _ refl w (ltb-true _ _ e)) (most _ _ q _ _)
       by-byte false e = rw (arrives-nothing plan sent q _ refl w (ltb-false _ _ e)) (omega arith)
 
-  -- and none but at the first port of a node
-  arrives-none : (q : ℕ) (w : World) → q < 8 * devices plan → (q % 8 ≡ 0 → ⊥) → arrives plan sent q w .told ≡ w .told
+  -- and none but at the first two ports of a node
+  arrives-none : (q : ℕ) (w : World) → q < 8 * devices plan → 2 ≤ q % 8 → arrives plan sent q w .told ≡ w .told
   unfolding arrived reacts
   arrives-none q w l m = by-role (router plan (q / 8)) refl
     where
@@ -130,14 +109,14 @@ module _ (plan : Plan) (held : Held plan) (sent : List ℕ) (none : getD sent no
           let e : nothing ≡ getD sent (peer plan q) nothing = sym (ap (λ (k : ℕ). getD sent k nothing) (lone plan held q l m r) ∙ none) in
           ap (λ (x : World). x .told) (arrives-nothing plan sent q nothing e w (omega arith))
 
-  reached-most : (m : ℕ) (w : World) → m ≤ 8 * devices plan → length (upTo (arrives plan sent) m w .told) ≤ length (w .told) + (m + 7) / 8
+  reached-most : (m : ℕ) (w : World) → m ≤ 8 * devices plan → length (upTo (arrives plan sent) m w .told) ≤ length (w .told) + ((m + 7) / 8 + (m + 6) / 8)
   unfolding upTo
   reached-most zero w l = omega arith
   reached-most (suc m) w l =
       let ih = reached-most m w (omega arith) in
-      elim (ℕ-discrete (m % 8) 0) [
+      elim (decLt (m % 8) 2) [
         | yes z ↦ omega (arith, ih, arrives-most m (upTo (arrives plan sent) m w))
-        | no z ↦ omega (arith, ih, ap length (arrives-none m (upTo (arrives plan sent) m w) (omega arith) z))
+        | no z ↦ omega (arith, ih, ap length (arrives-none m (upTo (arrives plan sent) m w) (omega arith) (omega arith)))
       ]
 
 pub length-sent : (plan : Plan) (old : State) → length (sentBytes plan old) ≡ sentWords
@@ -147,7 +126,7 @@ length-sent plan old = length-table sentWords _
 pub told-fits : (plan : Plan) (old : State) → Held plan → length (round plan old .told) ≤ toldWords
 unfolding round ticked reached
 told-fits plan old h =
-    let few : devices plan ≤ 32 = held-devices plan h .1 in
+    let n = few plan h in
     let none : getD (sentBytes plan old) nobody nothing ≡ nothing = List·getD-eq-default (sentBytes plan old) nothing (omega (arith, length-sent plan old)) in
     let timeouts : length (afterTimers plan old .told) ≤ 32 * devices plan =
     omega (arith, ticks-most (λ i. tick (router plan (i / 32)) (i / 32) (i % 32)) (λ i w. tick-most (router plan (i / 32)) (i / 32) (i % 32) w) (32 * devices plan) (record { state = old; told = [] })) in

@@ -13,7 +13,7 @@ use Rattle.bench.specs.Round.{Areas, sentWords, round}
 
 -- no round tells more words
 abbrev pub toldWords : ℕ
-toldWords = 1056
+toldWords = 1088
 
 abbrev pub roundAsks : Plan → State → Areas → List Condition
 roundAsks plan old areas =

@@ -27,7 +27,7 @@ pub const SENT: usize = 256;
 pub const NOTHING: u32 = 256;
 
 // No round tells more words.
-pub const TOLD: usize = 1056;
+pub const TOLD: usize = 1088;
 
 // The most rounds that may be allowed.
 pub const ROUNDS: u32 = 4096;

@@ -74,13 +74,13 @@ module _ (plan : Plan) where
   pub held-devices : Held plan → (1 ≤ plan .core .devices) × (plan .core .devices ≤ 32)
   held-devices h = devices-fit (plan .core .devices) (header-says (headerOf (plan .core)) (right-says plan (held-right h) .header) .0)
 
--- a device is a node or a router, and has few ports
-few-ports : (role ports : ℕ) → portsFit role ports ≡ true → (role < 2) × (ports ≤ 8)
+-- a device is a node or a router, and has few ports; a node has two at most
+pub few-ports : (role ports : ℕ) → portsFit role ports ≡ true → (role < 2) × (ports ≤ 8) × (role ≡ 0 → ports ≤ 2)
 unfolding portsFit
 few-ports role ports e =
     elim (ℕ-discrete role 0) [
-      | yes z ↦ (omega arith, omega (arith, eqb-true ports 1 (simp (eq-eqb role 0 z) at e)))
-      | no n ↦ let f = simp facts at (simp (ne-eqb role 0 n) at e) in (omega arith, omega arith)
+      | yes z ↦ let f = simp facts at (simp (eq-eqb role 0 z) at e) in (omega arith, omega arith, λ _. omega arith)
+      | no n ↦ let f = simp facts at (simp (ne-eqb role 0 n) at e) in (omega arith, omega arith, λ z. absurd (n z))
     ]
 
 device-few : (n d role ports source handler : ℕ) → deviceRight n d role ports source handler ≡ true → (role < 2) × (ports ≤ 8)
@@ -88,7 +88,7 @@ unfolding deviceRight
 device-few n d role ports source handler e = by-test (ltb d n) e
   where
     by-test : (b : Bool) → cond b (portsFit role ports && masksFit role source handler) (eqb role 0 && eqb ports 0 && eqb source 0 && eqb handler 0) ≡ true → (role < 2) × (ports ≤ 8)
-    by-test true e = few-ports role ports (and-left (portsFit role ports) (masksFit role source handler) e)
+    by-test true e = let f = few-ports role ports (and-left (portsFit role ports) (masksFit role source handler) e) in (f .0, f .1)
     by-test false e = let f = simp facts at e in (omega arith, omega arith)
 
 pub held-few : (plan : Plan) → Held plan → (d : ℕ) → d < 32 → (getD (plan .core .role) d 0 < 2) × (getD (plan .core .ports) d 0 ≤ 8)

@@ -63,9 +63,9 @@ handlerIn s = numberIn s handlerField
 abbrev pub entry : List ℕ → ℕ → ℕ → ℕ
 entry s p j = numberIn s (entryField p j)
 
--- a node (0) has one port, a router (1) one to eight; there is no other role
+-- a node (0) has one or two ports, a router (1) one to eight; there is no other role
 unfoldable pub portsFit : ℕ → ℕ → Bool
-portsFit role ports = cond (eqb role 0) (eqb ports 1) (eqb role 1 && leb 1 ports && leb ports 8)
+portsFit role ports = leb role 1 && leb 1 ports && leb ports (cond (eqb role 0) 2 8)
 
 -- a node's masks have no common bit, a router's are both 0
 unfoldable pub masksFit : ℕ → ℕ → ℕ → Bool

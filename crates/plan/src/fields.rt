@@ -27,14 +27,14 @@ pub fn loads_fit(router: usize, node: usize) -> bool
 pub fn ports_fit(role: u8, ports: u8) -> bool
     ensures { λ r. ⌜ r ≡ portsFit role ports ⌝ }
 {
-    if role == 0 {
-        return ports == 1;
-    }
-    if role != 1 {
+    if role > 1 {
         return false;
     }
     if ports < 1 {
         return false;
+    }
+    if role == 0 {
+        return ports <= 2;
     }
     ports <= 8
 }

@@ -1,12 +1,12 @@
 -- What a held plan says, for the states of its network: how many devices, whose the ports and the masks are, where connections lead, and the loads.
 use mathlib.Core.Path.{_≡_, refl, ap}
-use mathlib.Core.Bool.{Bool, true, false, cond, not, _&&_}
-use mathlib.Core.Logic.{_⊎_, inl, inr, _≢_, dite}
+use mathlib.Core.Bool.{true, false, not, _&&_}
+use mathlib.Core.Logic.{_≢_, dite}
 use Prim.Native.Nat.{ℕ, _+_, _*_, _/_, _%_, _≤_, _<_}
 use native.Mathlib.Decide.{decLt, ℕ-discrete}
 use native.Mathlib.Omega.{arith}
 use lib.Bits.{bitAnd}
-use lib.Dec.{eqb, leb}
+use lib.Dec.{eqb}
 use borrow.Author.Tests.{ltb-true, ltb-false, lt-ltb, eqb-true, eqb-false, eq-eqb, ne-eqb, not-true}
 use Rattle.lists.proofs.Facts.{facts}
 use Rattle.lists.proofs.Tests.{and-left, and-right}
@@ -20,23 +20,14 @@ use Rattle.plan.specs.inner.Memory.{at, deviceRight, rowRight}
 use Rattle.plan.proofs.Entries.{no-port}
 use Rattle.plan.proofs.Rows.{entryOf, right-ports, right-absent}
 use Rattle.plan.proofs.There.{Right, right-says}
-use Rattle.plan.proofs.BothWays.{held-right, held-shaped, held-devices}
-use Rattle.state.specs.Network.{devices, role, portsOf, exists, peer, source, handler, loadFor, loadOf}
+use Rattle.plan.proofs.BothWays.{held-right, held-shaped, held-devices, few-ports}
+use Rattle.state.specs.Network.{devices, role, router, portsOf, exists, peer, source, handler, loadFor, loadOf}
 
 -- the far end of a connected port: it exists, its own far end is the port, and it is another port
 pub record FarEnd (plan : Plan) (q : ℕ) : Type 0 where
   pub far : exists plan (peer plan q) ≡ true
   pub back : peer plan (peer plan q) ≡ q
   pub other : peer plan q ≢ q
-
--- a node (0) or a router (1), with at most 8 ports
-ports-say : (r ports : ℕ) → portsFit r ports ≡ true → ((r ≡ 0) ⊎ (r ≡ 1)) × (ports ≤ 8)
-unfolding portsFit
-ports-say r ports = by-test (eqb r 0) refl
-  where
-    by-test : (t : Bool) → eqb r 0 ≡ t → cond t (eqb ports 1) (eqb r 1 && leb 1 ports && leb ports 8) ≡ true → ((r ≡ 0) ⊎ (r ≡ 1)) × (ports ≤ 8)
-    by-test true p e = (inl (eqb-true r 0 p), omega (arith, eqb-true ports 1 e))
-    by-test false p e = let f = simp facts at e in (inr (f .0 .0), f .1)
 
 -- who has k in a mask is a node, whose masks have no common bit
 masks-say : (r source handler k : ℕ) → masksFit r source handler ≡ true → 1 ≤ bit source k + bit handler k → (r ≡ 0) × (bit source k + bit handler k ≡ 1)
@@ -62,8 +53,13 @@ module _ (plan : Plan) (held : Held plan) where
   unfolding rowRight deviceRight
   device-fits d h = (simp facts at (rw (lt-ltb d (devices plan) h) at (says .rows d (omega (arith, few))))) .0
 
-  device-says : (d : ℕ) → d < devices plan → ((role plan d ≡ 0) ⊎ (role plan d ≡ 1)) × (at (plan .core .ports) d ≤ 8)
-  device-says d h = ports-say (role plan d) (at (plan .core .ports) d) (device-fits d h .0)
+  -- a node or a router, with few ports
+  device-says : (d : ℕ) → d < devices plan → (role plan d < 2) × (portsOf plan d ≤ 8) × (role plan d ≡ 0 → portsOf plan d ≤ 2)
+  device-says d h = few-ports (role plan d) (portsOf plan d) (device-fits d h .0)
+
+  -- a node has two at most
+  pub node-ports : (d : ℕ) → d < devices plan → router plan d ≡ false → portsOf plan d ≤ 2
+  node-ports d h node = let says = device-says d h in says .2 (omega (arith, says .0, eqb-false (role plan d) 1 node))
 
   -- a device with k in one of its masks is a node, and has k in just one
   pub masked : (d k : ℕ) → d < devices plan → 1 ≤ bit (source plan d) k + bit (handler plan d) k → (role plan d ≡ 0) × (bit (source plan d) k + bit (handler plan d) k ≡ 1)
@@ -110,7 +106,7 @@ module _ (plan : Plan) (held : Held plan) where
   load-fits d k h =
       let loads = simp facts at (says .loads) in
       let small = held-shaped plan held .loads .small in
-      elim (device-says d h .0) [
-        | inl e ↦ rw e (omega (arith, small 0))
-        | inr e ↦ rw e (omega (arith, small 1))
+      elim (ℕ-discrete (role plan d) 0) [
+        | yes e ↦ rw e (omega (arith, small 0))
+        | no ne ↦ let e : role plan d ≡ 1 = omega (arith, device-says d h .0) in rw e (omega (arith, small 1))
       ]
