@@ -15,13 +15,14 @@ use Rattle.reach.specs.Walk.{stay}
 use Rattle.reach.specs.Away.{Away}
 use Rattle.reach.proofs.Distances.{walk-device}
 use Rattle.assurance.specs.Demand3.{crossing, window, Given as Window}
+use Rattle.assurance.specs.Return.{AwayBack, FoundBack}
 use Rattle.assurance.specs.Cycle.{Sooner}
 use Rattle.assurance.specs.Clock.{HearsIn, Waits, InTime, ByTheClock, IsTold, Pauses, Again, NextInTime, IsAnswered}
 use Rattle.assurance.proofs.Backward.{node, apart}
 use Rattle.assurance.proofs.Demand.{Asked, asked, there, place, requests, out}
 use Rattle.assurance.proofs.Hearing.{when, hears}
 use Rattle.assurance.proofs.Quiet.{Idle, none-sends, unheard, Rests, rest-lasts}
-use Rattle.assurance.proofs.Cycle.{longer-sound, longer-idle, may-answer, asks, holds-then, ways, comes-back, away-then, ends, rests-then}
+use Rattle.assurance.proofs.Cycle.{longer-sound, longer-idle, may-answer, asks, holds-then, pair, comes-back, away-then, ends, rests-then}
 
 -- ---- the handler
 
@@ -81,8 +82,8 @@ module _ {plan : Plan} {k from to d D D' turn wait : ℕ} {s : State} {at back :
       may-answer (w .request) (w .between) over (w .permits) (w .handles) (d, w .distance .there) (w .farthest) (w .course)
       (λ e h. omega (arith, w .loads e h, told .1))
 
-  in-time : InTime plan k from to d D D' turn wait s at back
-  in-time =
+  in-time : FoundBack plan k from to s → InTime plan k from to d D D' turn wait s at back
+  in-time all =
       record {
         no-sooner = told .0;
         no-later = told .1;
@@ -90,7 +91,7 @@ module _ {plan : Plan} {k from to d D D' turn wait : ℕ} {s : State} {at back :
         gone = idle until over (le-refl _);
         off = none-sends plan (w .request .held) k (place sent) (sound until (le-refl _)) (idle until over (le-refl _));
         begins = begins;
-        ends = ends begins;
+        ends = ends begins all;
         is-cycle = record {
           request = w .request;
           permits = w .permits;
@@ -105,33 +106,33 @@ module _ {plan : Plan} {k from to d D D' turn wait : ℕ} {s : State} {at back :
 
 pub by-the-clock : ByTheClock
 unfolding ByTheClock
-by-the-clock plan k from to d D D' turn wait s at back w = in-time w
+by-the-clock plan k from to d D D' turn wait s at back w all = in-time w all
 
 -- ---- the source
 
 module _ {plan : Plan} {k from to d D' until : ℕ} {s : State} {at back : ℕ → State} (begins : Sooner plan k from to D' until s at back)
-    (distance : Away plan s 1 k to d from) where
+    (distance : AwayBack plan k from to s d from) where
   held-it : bit (register (at until) from) k ≡ 1
   held-it = holds-then begins from (0, stay)
 
   -- in a round of the second window
   answered : (turn : ℕ) → turn ≤ window D' → HearsIn plan ofAcknowledge from k back turn → (d ≤ turn) × (turn ≤ crossing * d)
-  answered = when (comes-back begins) from (there (asks begins)) (ways begins .nodes .0) held-it (ways begins .apart) d (away-then begins distance)
+  answered = when (comes-back begins) from (there (asks begins)) (pair begins .nodes .0) held-it (pair begins .apart) d (away-then begins distance)
 
   is-heard-back : (turn : ℕ) × (d ≤ turn) × (turn ≤ crossing * d) × HearsIn plan ofAcknowledge from k back turn
   is-heard-back =
-      hears (comes-back begins) from (there (asks begins)) (ways begins .nodes .0) held-it (ways begins .apart) d (away-then begins distance)
-      (omega (arith, begins .farthest .most d from (0, stay) distance))
+      hears (comes-back begins) from (there (asks begins)) (pair begins .nodes .0) held-it (pair begins .apart) d (away-then begins distance)
+      (omega (arith, begins .farthest .most d from distance))
 
 pub is-answered : IsAnswered
 unfolding IsAnswered
 is-answered plan k from to d D' until s at back begins distance = is-heard-back begins distance
 
-module _ {plan : Plan} {k from to d D' until turn pause : ℕ} {s : State} {at back : ℕ → State} (p : Pauses plan k from to d D' until turn pause s at back) where
+module _ {plan : Plan} {k from to d D' until turn pause : ℕ} {s : State} {at back : ℕ → State} (p : Pauses plan k from to d D' until turn pause s at back) (all : FoundBack plan k from to s) where
   -- behind the second window k is at rest
   rests : (t : ℕ) → window D' ≤ t → t ≤ turn + pause → Rests plan k (back (window D')) (back t)
   rests =
-      rest-lasts plan (p .begins .held) k (place (asks (p .begins))) back (window D') (turn + pause) (rests-then (p .begins)) (p .between)
+      rest-lasts plan (p .begins .held) k (place (asks (p .begins))) back (window D') (turn + pause) (rests-then (p .begins) all) (p .between)
 
   told-back : (d ≤ turn) × (turn ≤ crossing * d)
   told-back =
@@ -152,9 +153,9 @@ module _ {plan : Plan} {k from to d D' until turn pause : ℕ} {s : State} {at b
         no-later = told-back .1;
         over = over;
         at-rest = then .at-rest;
-        links = λ q h. then .links q h ∙ ends (p .begins) .links q h;
+        links = λ q h. then .links q h ∙ ends (p .begins) all .links q h;
       }
 
 pub next-in-time : NextInTime
 unfolding NextInTime
-next-in-time plan k from to d D' until turn pause s at back p = again p
+next-in-time plan k from to d D' until turn pause s at back p all = again p all

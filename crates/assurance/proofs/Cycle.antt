@@ -15,19 +15,19 @@ use Rattle.state.specs.Network.{devices, router, handler, loadOf}
 use Rattle.state.specs.Sound.{Sound}
 use Rattle.calls.specs.Calls.{called}
 use Rattle.bench.specs.Round.{round}
-use Rattle.reach.specs.Walk.{stay}
-use Rattle.reach.specs.Away.{Away, Farthest}
-use Rattle.reach.proofs.Distances.{walk-device, farthest}
+use Rattle.reach.specs.Walk.{Any, stay}
+use Rattle.reach.specs.Away.{Farthest}
+use Rattle.reach.proofs.Distances.{any?, walk-device, farthest}
 use Rattle.assurance.specs.Demand3.{Calls, Course, window, Given as Window}
-use Rattle.assurance.specs.Return.{Permits, Told, Gets, FarthestBack, Given, Follows}
+use Rattle.assurance.specs.Return.{Permits, Told, Gets, Back, AwayBack, FarthestBack, FoundBack, Given, Follows}
 use Rattle.assurance.specs.Cycle.{Cycle, Ends, OneCycle, AtRest, Cycles, none, rest, cycle, AllEnd, AnyCycles, Sooner, AsSoon}
 use Rattle.assurance.proofs.Meanwhile.{course-sound}
 use Rattle.assurance.proofs.Trips.{Trip}
 use Rattle.assurance.proofs.Crossings.{walk-same, away-same}
-use Rattle.assurance.proofs.Backward.{TwoWays, two-ways}
+use Rattle.assurance.proofs.Backward.{TwoNodes, two-nodes}
 use Rattle.assurance.proofs.Demand.{Asked, asked, there, place, requests, first, later, goes-out, out}
 use Rattle.assurance.proofs.Hearing.{at-first, told-out}
-use Rattle.assurance.proofs.Return.{goes-back, follows}
+use Rattle.assurance.proofs.Return.{goes-back, lost-found, follows}
 use Rattle.assurance.proofs.Quiet.{Idle, idle-lasts, rests, rests-untold}
 
 module _ {plan : Plan} {k from to D' until : ℕ} {s : State} {at back : ℕ → State} (c : Sooner plan k from to D' until s at back) where
@@ -39,9 +39,9 @@ module _ {plan : Plan} {k from to D' until : ℕ} {s : State} {at back : ℕ →
 
   -- some device is the farthest
   far : (D : ℕ) × Farthest plan s 0 k from D
-  far = farthest plan (c .held) s 0 k from inside
+  far = farthest plan (c .held) s 0 k from inside Any any?
 
-  goes : Trip plan 0 k from (far .0) until (window D') s at
+  goes : Trip plan 0 k Any from (far .0) until (window D') s at
   goes = goes-out asks (c .first) (window D') (c .loads) (far .0) (far .1 .most)
 
   -- the state in which the handler acknowledges; no link has changed
@@ -55,10 +55,10 @@ module _ {plan : Plan} {k from to D' until : ℕ} {s : State} {at back : ℕ →
   as-before q h = sym (same q h)
 
   gets-then : (e : ℕ) → Gets plan k from s e → Gets plan k from mid e
-  gets-then e w = (w .0, walk-same plan (c .held) 0 k from inside as-before (w .1))
+  gets-then e w = (w .0, walk-same plan (c .held) 0 k from inside as-before (λ n e w any. any) (w .1))
 
   gets-now : (e : ℕ) → Gets plan k from mid e → Gets plan k from s e
-  gets-now e w = (w .0, walk-same plan (c .held) 0 k from inside same (w .1))
+  gets-now e w = (w .0, walk-same plan (c .held) 0 k from inside same (λ n e w any. any) (w .1))
 
   -- those that were reached hold k, and no others do
   pub holds-then : (e : ℕ) → Gets plan k from s e → bit (register mid e) k ≡ 1
@@ -67,8 +67,30 @@ module _ {plan : Plan} {k from to D' until : ℕ} {s : State} {at back : ℕ →
   got-there : (e : ℕ) → e < devices plan → bit (register mid e) k ≡ 1 → Gets plan k from s e
   got-there e h b = let way = goes .only e until h (le-refl _) (c .at-rest .unset e h) b in (way .0, way .2)
 
-  pub ways : TwoWays plan k from to s
-  ways = two-ways plan (c .held) (c .at-rest .sound) (c .permits) k from to inside (requests asks) (c .handles) (c .was-reached)
+  pub pair : TwoNodes plan k from to s
+  pair =
+      two-nodes (record {
+        held = c .held;
+        sound = c .at-rest .sound;
+        permits = c .permits;
+        there = inside;
+        requests = requests asks;
+        handles = c .handles;
+        told = c .was-reached;
+      })
+
+  -- the ways from the handler over those that were reached are as before the request
+  pub back-then : {n e : ℕ} → Back plan k from to s n e → Back plan k from to mid n e
+  back-then = walk-same plan (c .held) 1 k to (pair .there) as-before (λ n e w. gets-then e)
+
+  back-now : {n e : ℕ} → Back plan k from to mid n e → Back plan k from to s n e
+  back-now = walk-same plan (c .held) 1 k to (pair .there) same (λ n e w. gets-now e)
+
+  pub away-then : {n e : ℕ} → AwayBack plan k from to s n e → AwayBack plan k from to mid n e
+  away-then = away-same plan (c .held) 1 k to (pair .there) as-before (λ n e w. gets-then e) (λ n e w. gets-now e)
+
+  away-now : {n e : ℕ} → AwayBack plan k from to mid n e → AwayBack plan k from to s n e
+  away-now = away-same plan (c .held) 1 k to (pair .there) same (λ n e w. gets-now e) (λ n e w. gets-then e)
 
   settled : Given plan k from to D' mid back
   settled =
@@ -86,18 +108,19 @@ module _ {plan : Plan} {k from to D' until : ℕ} {s : State} {at back : ℕ →
         handles = c .handles;
         was-reached = gets-then to (c .was-reached);
         farthest = record {
-          some = (c .farthest .some .0, gets-then _ (c .farthest .some .1), away-same plan (c .held) 1 k to (ways .there) as-before (c .farthest .some .2));
-          most = λ n e w a. c .farthest .most n e (gets-now e w) (away-same plan (c .held) 1 k to (ways .there) same a);
+          some = (c .farthest .some .0, away-then (c .farthest .some .1));
+          most = λ n e a. c .farthest .most n e (away-now a);
         };
         course = c .then;
         long = λ e w. omega (arith, fit .long e (walk-device plan (c .held) mid 0 k from inside (w .1)) (holds-then e (gets-now e w)));
       }
 
-  pub comes-back : Trip plan 1 k to D' (window D') 0 mid back
+  pub comes-back : Trip plan 1 k (Gets plan k from mid) to D' (window D') 0 mid back
   comes-back = goes-back settled
 
-  returns : Follows plan k from to D' mid back
-  returns = follows settled
+  -- a device that was reached loses k only if it is found
+  pub lost-back : (e t : ℕ) → t ≤ window D' → Gets plan k from s e → bit (register (back t) e) k ≡ 0 → (n : ℕ) × Back plan k from to s n e
+  lost-back e t h w off = let way = lost-found settled e t h (gets-then e w) off in (way .0, back-now (way .1))
 
   -- ---- what hosts are told on the way out
 
@@ -116,26 +139,28 @@ module _ {plan : Plan} {k from to D' until : ℕ} {s : State} {at back : ℕ →
         let never : bit (register mid e) k ≡ 1 → ⊥ = λ b. off (got-there e h b) in
         told 0 (omega (arith, was-unset ne, bit-two (register mid e) k))
 
-  -- a device is as many crossings away from the handler as before the request
-  pub away-then : {n e : ℕ} → Away plan s 1 k to n e → Away plan mid 1 k to n e
-  away-then = away-same plan (c .held) 1 k to (ways .there) as-before
+  -- ---- where each device that was reached is found
 
-  pub ends : Ends plan k from to D' until s at back
-  ends =
+  returns : FoundBack plan k from to s → Follows plan k from to D' mid back
+  returns found = follows settled (λ e w. let way = found e (gets-now e w) in (way .0, back-then (way .1)))
+
+  pub ends : FoundBack plan k from to s → Ends plan k from to D' until s at back
+  ends all =
+      let returns = returns all in
       let own : Gets plan k from s from = (0, stay) in
-      let sender = ways .nodes .0 in
+      let sender = pair .nodes .0 in
       record {
         taken = returns .taken;
-        found = λ e w. let n = returns .found e (gets-then e w) in (n .0, n .1, away-same plan (c .held) 1 k to (ways .there) same (n .2));
-        loses = λ n e t w. returns .loses n e t (walk-same plan (c .held) 1 k to (ways .there) as-before w);
+        found = λ e w. let n = returns .found e (gets-then e w) in (n .0, n .1, away-now (n .2));
+        loses = λ n e t w. returns .loses n e t (back-then w);
         no-other = λ e t h to b. gets-now e (returns .no-other e t h to b);
         once = returns .once;
         source-hears = record {
           first = told from inside sender 0 (omega (arith, goes .gets 0 from 0 stay (omega arith) (omega arith), holds-then from own));
-          then = returns .others-told from (gets-then from own) (ways .apart) sender;
+          then = returns .others-told from (gets-then from own) (pair .apart) sender;
         };
         handler-hears = record {
-          first = told-once to (ways .there) (ways .nodes .1) (λ e. ways .apart (sym e)) (c .was-reached);
+          first = told-once to (pair .there) (pair .nodes .1) (λ e. pair .apart (sym e)) (c .was-reached);
           then = returns .handler-told;
         };
         others-hear = λ e w one other node. record {
@@ -153,12 +178,12 @@ module _ {plan : Plan} {k from to D' until : ℕ} {s : State} {at back : ℕ →
       }
 
   -- k is at rest then
-  pub rests-then : AtRest plan k (back (window D'))
-  rests-then = record { sound = returns .sound; unset = returns .unset; idle = returns .gone }
+  pub rests-then : FoundBack plan k from to s → AtRest plan k (back (window D'))
+  rests-then all = let then = returns all in record { sound = then .sound; unset = then .unset; idle = then .gone }
 
 pub as-soon : AsSoon
 unfolding AsSoon
-as-soon plan k from to D' until s at back c = ends c
+as-soon plan k from to D' until s at back c all = ends c all
 
 -- ---- after the window k waits nowhere
 
@@ -203,7 +228,7 @@ module _ {plan : Plan} {k from D last : ℕ} {s : State} {at : ℕ → State} (g
         loads = loads;
       }
 
-sooner : {plan : Plan} {k from to D D' gap : ℕ} {s : State} {at back : ℕ → State} → Cycle plan k from to D D' gap s at back
+pub sooner : {plan : Plan} {k from to D D' gap : ℕ} {s : State} {at back : ℕ → State} → Cycle plan k from to D D' gap s at back
     → Sooner plan k from to D' (window D + gap) s at back
 sooner c =
     may-answer (c .request) (c .between) (omega arith) (c .permits) (c .handles) (c .was-reached) (c .farthest) (c .course)
@@ -211,7 +236,7 @@ sooner c =
 
 pub one-cycle : OneCycle
 unfolding OneCycle
-one-cycle plan k from to D D' gap s at back c = ends (sooner c)
+one-cycle plan k from to D D' gap s at back c all = ends (sooner c) all
 
 -- ---- one after the other
 
@@ -224,8 +249,9 @@ module _ (plan : Plan) (k : ℕ) (s : State) (held : Held plan) (l : k < 32) (be
       ((b .0, rests-untold plan held k l (b .1) course), rests plan held k l (b .1) course rounds (le-refl _))
   all-end (cycle before from to D D' gap at back asked) =
       let b = all-end before in
-      let c = sooner (asked (b .1)) in
-      ((b .0, ends c), rests-then c)
+      let next = asked (b .1) in
+      let c = sooner (next .0) in
+      ((b .0, ends c (next .1)), rests-then c (next .1))
 
 pub any-cycles : AnyCycles
 unfolding AnyCycles

@@ -14,8 +14,8 @@ use Rattle.state.specs.Sound.{Sound}
 use Rattle.calls.specs.Calls.{callAsks, called}
 use Rattle.calls.proofs.Called.{call-sound}
 use Rattle.bench.specs.Round.{round}
+use Rattle.reach.specs.Walk.{Any}
 use Rattle.reach.specs.Away.{Away}
-use Rattle.reach.proofs.Distances.{walk-device}
 use Rattle.assurance.specs.Demand3.{Course, Given, Follows, Demand3, window}
 use Rattle.assurance.specs.Cycle.{AtRest}
 use Rattle.assurance.proofs.Meanwhile.{Beside, course-begins, course-goes-on}
@@ -62,10 +62,10 @@ module _ {plan : Plan} {k from : ℕ} {s : State} (a : Asked plan k from s) wher
             long = λ e h b. absurd (omega (arith, a .at-rest .unset e h));
           }
 
-      pub goes-out : (D : ℕ) → ((n e : ℕ) → Away plan s 0 k from n e → n ≤ D) → Trip plan 0 k from D last spare s at
+      pub goes-out : (D : ℕ) → ((n e : ℕ) → Away plan s 0 k from n e → n ≤ D) → Trip plan 0 k Any from D last spare s at
       goes-out =
           trip ready at (course-begins plan (a .held) k place last (called plan 0 from k s) at first course) later
-          (λ n e w. a .at-rest .unset e (walk-device plan (a .held) s 0 k from there w))
+          Any (λ e h any. a .at-rest .unset e h) (λ e h off. tt)
 
 module _ {plan : Plan} {k from D : ℕ} {s : State} {at : ℕ → State} (given : Given plan k from D s at) where
   pub asked : Asked plan k from s
@@ -77,7 +77,7 @@ module _ {plan : Plan} {k from D : ℕ} {s : State} {at : ℕ → State} (given 
       }
 
   -- the trip of the window
-  pub out : Trip plan 0 k from D (window D) 0 s at
+  pub out : Trip plan 0 k Any from D (window D) 0 s at
   out = goes-out asked (given .course) 0 (λ d h. omega (arith, given .loads d h)) D (given .farthest .most)
 
   pub follows : Follows plan k from D s at

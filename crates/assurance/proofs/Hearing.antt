@@ -1,5 +1,5 @@
 -- What a node's host is told while a code is on its way: the node's own bit says how often, and it is told of nothing else.
-use mathlib.Core.Path.{_≡_, refl, ap, _∙_}
+use mathlib.Core.Path.{_≡_, refl, ap}
 use mathlib.Core.Bool.{false}
 use mathlib.Core.Logic.{_≢_, dite}
 use Prim.Native.Nat.{ℕ, zero, suc, _+_, _-_, _*_, _≤_, _<_}
@@ -19,7 +19,7 @@ use Rattle.bench.specs.Round.{ofInterrupt, ofAcknowledge, ofTimeout, round}
 use Rattle.laws.specs.Alike.{SendsIt}
 use Rattle.laws.specs.Telling.{toldIn, toldBy}
 use Rattle.laws.proofs.Telling.{told-balance, by-none, none-told, told-some, some-told, no-timeout}
-use Rattle.reach.specs.Away.{Away}
+use Rattle.reach.specs.Away.{AwayOver}
 use Rattle.reach.proofs.Found.{none-away}
 use Rattle.assurance.specs.Demand3.{crossing}
 use Rattle.assurance.specs.Return.{Told}
@@ -63,7 +63,8 @@ module _ (plan : Plan) (held : Held plan) (k : ℕ) (l : k < 32) (at : ℕ → S
       by-none plan ofTimeout e k at last (λ t b. no-timeout plan held (at t) (sound t (omega arith)) e k h l (runs t b))
 
 -- a code that device d sent out is on its way
-module _ {plan : Plan} {kind k d D last spare : ℕ} {s : State} {at : ℕ → State} (out : Trip plan kind k d D last spare s at) (e : ℕ) (h : e < devices plan) where
+module _ {plan : Plan} {kind k : ℕ} {Over : ℕ → Type 0} {d D last spare : ℕ} {s : State} {at : ℕ → State} (out : Trip plan kind k Over d D last spare s at) (e : ℕ)
+    (h : e < devices plan) where
   -- before the first round it is at d alone
   pub at-first : e ≢ d → bit (register (at 0) e) k ≡ bit (register s e) k
   at-first ne =
@@ -115,7 +116,7 @@ module _ {plan : Plan} {kind k d D last spare : ℕ} {s : State} {at : ℕ → S
         (λ is. omega (arith, ap (λ i. toldBy plan (ofInterrupt + (1 - i)) e k at t) is))
         (λ is. omega (arith, ap (λ i. toldBy plan (ofInterrupt + (1 - i)) e k at t) is)) kind (out .kinds) refl
 
-    module _ (new : bit (register s e) k ≡ kind) (ne : e ≢ d) (n : ℕ) (away : Away plan s kind k d n e) where
+    module _ (new : bit (register s e) k ≡ kind) (ne : e ≢ d) (n : ℕ) (away : AwayOver plan s kind k Over d n e) where
       -- n crossings away its bit goes over in no round before n
       not-before : (t : ℕ) → t ≤ last → bit (register (at t) e) k ≡ 1 - kind → n ≤ t
       not-before t b over = let way = out .only e t h b new over in le-trans (away-least away (way .2)) (way .1)
@@ -152,14 +153,14 @@ module _ {plan : Plan} {kind k d D last spare : ℕ} {s : State} {at : ℕ → S
               (suc (u .0), bounds .0, bounds .1, (u .0, refl, some-told plan (ofInterrupt + kind) e k (at (u .0)) (u .2)))
 
 -- an interrupt tells as often as it set the bit, an acknowledge as often as it cleared it
-module _ {plan : Plan} {k d D last spare : ℕ} {s : State} {at : ℕ → State} where
-  pub told-out : Trip plan 0 k d D last spare s at → (e : ℕ) → e < devices plan → router plan e ≡ false → (t : ℕ) → t ≤ last
+module _ {plan : Plan} {k : ℕ} {Over : ℕ → Type 0} {d D last spare : ℕ} {s : State} {at : ℕ → State} where
+  pub told-out : Trip plan 0 k Over d D last spare s at → (e : ℕ) → e < devices plan → router plan e ≡ false → (t : ℕ) → t ≤ last
       → (n : ℕ) → bit (register (at 0) e) k + n ≡ bit (register (at t) e) k → Told plan k e t at n 0 0
   told-out out e h node t b n so =
       let none = none-other out e h t b in
       record { of-interrupts = omega (arith, balance out e h node t b); of-acknowledges = none; of-timeouts = no-timeouts out e h t b }
 
-  pub told-back : Trip plan 1 k d D last spare s at → (e : ℕ) → e < devices plan → router plan e ≡ false → (t : ℕ) → t ≤ last
+  pub told-back : Trip plan 1 k Over d D last spare s at → (e : ℕ) → e < devices plan → router plan e ≡ false → (t : ℕ) → t ≤ last
       → (n : ℕ) → bit (register (at t) e) k + n ≡ bit (register (at 0) e) k → Told plan k e t at 0 n 0
   told-back out e h node t b n so =
       let none = none-other out e h t b in

@@ -1,18 +1,20 @@
--- What worked instances need, over any plan: when a plan is held, what rests at the start, and how far is farthest.
-use mathlib.Core.Path.{_≡_, ap, _∙_}
+-- What worked instances need, over any plan: when a plan is held, what rests at the start, how far is farthest, and rounds with no call between them.
+use mathlib.Core.Path.{_≡_, refl, ap, _∙_}
 use mathlib.Core.Bool.{Bool, true, _&&_}
 use mathlib.Core.List.{List, []}
 use mathlib.Core.Logic.{dite}
-use Prim.Native.Nat.{ℕ, _≤_, _<_}
+use Prim.Native.Nat.{ℕ, suc, _≤_, _<_}
 use native.Mathlib.Decide.{decLt}
 use native.Mathlib.Nat.{le-trans}
 use native.Mathlib.Omega.{arith}
 use lib.Dec.{eqb, ltb}
 use lib.ListN.{length, getD, List·getD-eq-default}
+use Rattle.lists.specs.Loop.{upTo}
 use Rattle.lists.specs.Table.{every}
 use Rattle.lists.proofs.Facts.{facts}
 use Rattle.bits.specs.Set.{bit}
 use Rattle.bits.proofs.Sets.{bit-zero}
+use Rattle.device.specs.Permissions.{maySend, mayReceive}
 use Rattle.plan.specs.Reading.{Held}
 use Rattle.plan.specs.declared.Plan.{Plan}
 use Rattle.plan.specs.inner.Memory.{at, right}
@@ -23,9 +25,13 @@ use Rattle.state.specs.Network.{devices}
 use Rattle.state.specs.Start.{started}
 use Rattle.state.proofs.Plans.{few}
 use Rattle.state.proofs.Started.{start-device, start-port, started-sound}
+use Rattle.state.proofs.Keeping.{both-kinds}
+use Rattle.bench.specs.Round.{round}
+use Rattle.bench.specs.Settling.{rounds}
 use Rattle.reach.specs.Walk.{Walk}
 use Rattle.reach.specs.Away.{Away, Farthest}
 use Rattle.reach.proofs.Distances.{walk-device}
+use Rattle.assurance.specs.Demand3.{Calls, none, Course}
 use Rattle.assurance.specs.Cycle.{AtRest}
 use Rattle.assurance.proofs.Crossings.{away-least}
 
@@ -90,3 +96,18 @@ module _ (plan : Plan) (held : Held plan) where
         some = some;
         most = λ n e a. let c = near e (walk-device plan held s kind k from h (a .there)) in le-trans (away-least a (c .2)) (c .1);
       }
+
+-- 15 grants all four permissions
+pub all-grant : (kind : ℕ) → kind < 2 → (maySend kind 15 ≡ true) × (mayReceive kind 15 ≡ true)
+unfolding maySend mayReceive bit
+all-grant = both-kinds (λ kind. (maySend kind 15 ≡ true) × (mayReceive kind 15 ≡ true)) (refl, refl) (refl, refl)
+
+-- ---- rounds with no call between them
+
+pub on : (plan : Plan) (k : ℕ) (u : State) (t : ℕ) → Calls plan k (round plan (rounds plan t u) .next) (rounds plan (suc t) u)
+unfolding upTo
+on plan k u t = none
+
+pub played : {plan : Plan} {k : ℕ} {s u : State} → Calls plan k s u → (n : ℕ) → Course plan k n s (λ t. rounds plan t u)
+unfolding upTo
+played {plan} {k} {u = u} first n = record { begins = first; goes-on = λ t h. on plan k u t }

@@ -10,7 +10,7 @@ use Rattle.calls.specs.Calls.{called}
 use Rattle.bench.specs.Round.{ofInterrupt, ofAcknowledge, toldWord, round}
 use Rattle.reach.specs.Away.{Away}
 use Rattle.assurance.specs.Demand3.{Calls, Course, crossing, window, SendsK, Given as Window}
-use Rattle.assurance.specs.Return.{Permits, FarthestBack}
+use Rattle.assurance.specs.Return.{Permits, AwayBack, FarthestBack, FoundBack}
 use Rattle.assurance.specs.Cycle.{Cycle, Ends, AtRest, Sooner}
 
 -- in round `turn` of a course the host of node d is told of k, of an interrupt or of an acknowledge: the word stands among those told. Rounds are
@@ -57,7 +57,7 @@ module _ (plan : Plan) (k from to d D D' turn wait : ℕ) (s : State) (at back :
 unfoldable pub ByTheClock : Type 0
 ByTheClock =
     (plan : Plan) (k from to d D D' turn wait : ℕ) (s : State) (at back : ℕ → State) → Waits plan k from to d D D' turn wait s at back
-    → InTime plan k from to d D D' turn wait s at back
+    → FoundBack plan k from to s → InTime plan k from to d D D' turn wait s at back
 
 -- it is told at all, in a round of the window
 unfoldable pub IsTold : Type 0
@@ -72,7 +72,7 @@ module _ (plan : Plan) (k from to d D' until turn pause : ℕ) (s : State) (at b
   pub record Pauses : Type 0 where
     -- a handler has acknowledged when k waited nowhere, `until` rounds after the request, and the source is d crossings from it
     pub begins : Sooner plan k from to D' until s at back
-    pub distance : Away plan s 1 k to d from
+    pub distance : AwayBack plan k from to s d from
     pub told : HearsIn plan ofAcknowledge from k back turn
     -- it waits `window D'` less d rounds, or more; until then what holds in the window holds on
     pub enough : window D' ≤ pause + d
@@ -91,10 +91,10 @@ module _ (plan : Plan) (k from to d D' until turn pause : ℕ) (s : State) (at b
 unfoldable pub NextInTime : Type 0
 NextInTime =
     (plan : Plan) (k from to d D' until turn pause : ℕ) (s : State) (at back : ℕ → State) → Pauses plan k from to d D' until turn pause s at back
-    → Again plan k from to d D' until turn pause s at back
+    → FoundBack plan k from to s → Again plan k from to d D' until turn pause s at back
 
 -- it is told at all, in a round of the second window
 unfoldable pub IsAnswered : Type 0
 IsAnswered =
-    (plan : Plan) (k from to d D' until : ℕ) (s : State) (at back : ℕ → State) → Sooner plan k from to D' until s at back → Away plan s 1 k to d from
+    (plan : Plan) (k from to d D' until : ℕ) (s : State) (at back : ℕ → State) → Sooner plan k from to D' until s at back → AwayBack plan k from to s d from
     → (turn : ℕ) × (d ≤ turn) × (turn ≤ crossing * d) × HearsIn plan ofAcknowledge from k back turn

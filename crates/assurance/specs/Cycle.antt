@@ -13,10 +13,8 @@ use Rattle.state.specs.Network.{devices, router, handler, loadOf}
 use Rattle.state.specs.Sound.{Sound}
 use Rattle.calls.specs.Calls.{callAsks, called}
 use Rattle.bench.specs.Round.{round}
-use Rattle.reach.specs.Walk.{Walk}
-use Rattle.reach.specs.Away.{Away}
 use Rattle.assurance.specs.Demand3.{Calls, Course, crossing, window, SendsK, Given as Window}
-use Rattle.assurance.specs.Return.{Permits, Told, Gets, FarthestBack}
+use Rattle.assurance.specs.Return.{Permits, Told, Gets, Back, AwayBack, FarthestBack, FoundBack}
 
 -- ---- what is given: node `from` requests k in state s, and node `to` acknowledges it `gap` rounds after the window. `at t` is the state t rounds
 -- after the request, and `back t` the one t rounds after the acknowledge
@@ -31,7 +29,7 @@ pub record Cycle (plan : Plan) (k from to D D' gap : ℕ) (s : State) (at back :
   -- then a handler of k that was reached acknowledges
   pub handles : bit (handler plan to) k ≡ 1
   pub was-reached : Gets plan k from s to
-  -- D' is the most crossings from it to any device reached
+  -- D' is the most crossings from it to any device reached, counted over these only
   pub farthest : FarthestBack plan k from to s D'
   -- for `window D'` further rounds nobody requests or acknowledges k
   pub course : Course plan k (window D') (called plan 1 to k (at (window D + gap))) back
@@ -51,9 +49,9 @@ module _ (plan : Plan) (k from to D' until : ℕ) (s : State) (at back : ℕ →
     -- the acknowledge is taken: the call answers 0
     pub taken : Ordered (callAsks plan 1 to k (at until)) 0
     -- every device reached is some crossings away from the handler, D' at most
-    pub found : (e : ℕ) → Gets plan k from s e → (n : ℕ) × (n ≤ D') × Away plan s 1 k to n e
+    pub found : (e : ℕ) → Gets plan k from s e → (n : ℕ) × (n ≤ D') × AwayBack plan k from to s n e
     -- and one that is n away loses k by its rounds a crossing: it is unset after `crossing` x n rounds of the second window, and to its end
-    pub loses : (n e t : ℕ) → Walk plan s 1 k to n e → crossing * n ≤ t → t ≤ window D' → bit (register (back t) e) k ≡ 0
+    pub loses : (n e t : ℕ) → Back plan k from to s n e → crossing * n ≤ t → t ≤ window D' → bit (register (back t) e) k ≡ 0
     -- whoever holds k in it was reached
     pub no-other : (e t : ℕ) → e < devices plan → t ≤ window D' → bit (register (back t) e) k ≡ 1 → Gets plan k from s e
     -- no port sends k twice in it
@@ -71,11 +69,11 @@ module _ (plan : Plan) (k from to D' until : ℕ) (s : State) (at back : ℕ →
     pub gone : (kind q : ℕ) → kind < 2 → q < 256 → bit (waiting (back (window D')) kind q) k ≡ 0
     pub links : (q : ℕ) → q < 256 → running (back (window D')) q ≡ running s q
 
--- T-01, for one cycle
+-- T-01, for one cycle, where each device that the source reached is found from the handler
 unfoldable pub OneCycle : Type 0
 OneCycle =
     (plan : Plan) (k from to D D' gap : ℕ) (s : State) (at back : ℕ → State) → Cycle plan k from to D D' gap s at back
-    → Ends plan k from to D' (window D + gap) s at back
+    → FoundBack plan k from to s → Ends plan k from to D' (window D + gap) s at back
 
 -- ---- cycles in any number
 
@@ -90,9 +88,10 @@ pub data Cycles (plan : Plan) (k : ℕ) (s : State) : State → Type 0 where
   none : Cycles plan k s s
   -- so many rounds pass in which nobody requests or acknowledges k
   rest : {t : State} → Cycles plan k s t → (rounds : ℕ) (at : ℕ → State) → Course plan k rounds t at → Cycles plan k s (at rounds)
-  -- one cycle more, which meets the conditions of a cycle if k is at rest before it; that it is at rest there is proved, and not asked
+  -- one cycle more, which meets the conditions of a cycle if k is at rest before it, each device reached being found; that it is at rest there is
+  -- proved, and not asked
   cycle : {t : State} → Cycles plan k s t → (from to D D' gap : ℕ) (at back : ℕ → State)
-      → (AtRest plan k t → Cycle plan k from to D D' gap t at back) → Cycles plan k s (back (window D'))
+      → (AtRest plan k t → Cycle plan k from to D D' gap t at back × FoundBack plan k from to t) → Cycles plan k s (back (window D'))
 
 -- each of them ends as one cycle does, and between them no host is told anything of k
 unfoldable pub AllEnd : (plan : Plan) (k : ℕ) (s t : State) → Cycles plan k s t → Type 0
@@ -129,4 +128,4 @@ pub record Sooner (plan : Plan) (k from to D' until : ℕ) (s : State) (at back 
 unfoldable pub AsSoon : Type 0
 AsSoon =
     (plan : Plan) (k from to D' until : ℕ) (s : State) (at back : ℕ → State) → Sooner plan k from to D' until s at back
-    → Ends plan k from to D' until s at back
+    → FoundBack plan k from to s → Ends plan k from to D' until s at back

@@ -1,21 +1,21 @@
 -- RULES, "How an acknowledge goes back": the return trip, from a state in which an interrupt is wherever it can get to and nowhere under way.
 use mathlib.Core.Path.{_≡_}
 use mathlib.Core.Bool.{true, false}
-use mathlib.Core.Logic.{_≢_}
-use Prim.Native.Nat.{ℕ, _*_, _≤_, _<_}
+use mathlib.Core.Logic.{_⊎_, _≢_}
+use Prim.Native.Nat.{ℕ, _+_, _*_, _/_, _≤_, _<_}
 use Rattle.answers.specs.Ordered.{Ordered}
 use Rattle.bits.specs.Set.{bit}
 use Rattle.device.specs.Permissions.{maySend, mayReceive}
 use Rattle.plan.specs.Reading.{Held}
 use Rattle.plan.specs.declared.Plan.{Plan}
 use Rattle.state.specs.State.{State, register, timer, waiting, running}
-use Rattle.state.specs.Network.{devices, router, permissions, source, handler}
+use Rattle.state.specs.Network.{devices, router, peer, permissions, source, handler}
 use Rattle.state.specs.Sound.{Sound}
 use Rattle.calls.specs.Calls.{callAsks, called}
 use Rattle.bench.specs.Round.{ofInterrupt, ofAcknowledge, ofTimeout}
 use Rattle.laws.specs.Telling.{toldBy}
-use Rattle.reach.specs.Walk.{Walk}
-use Rattle.reach.specs.Away.{Away}
+use Rattle.reach.specs.Walk.{WalkOver, Walk}
+use Rattle.reach.specs.Away.{AwayOver, FarthestOver}
 use Rattle.assurance.specs.Demand3.{Course, crossing, window, SendsK}
 
 -- both ends of each link that runs grant all four permissions: whatever port runs may send and may receive codes of either kind
@@ -34,10 +34,20 @@ pub record Told (plan : Plan) (k d rounds : ℕ) (at : ℕ → State) (interrupt
 abbrev pub Gets : Plan → ℕ → ℕ → State → ℕ → Type 0
 Gets plan k from s e = (n : ℕ) × Walk plan s 0 k from n e
 
--- D' is the greatest, over the devices that the source reached, of the least number of crossings from the handler to each
-pub record FarthestBack (plan : Plan) (k from to : ℕ) (s : State) (D' : ℕ) : Type 0 where
-  pub some : (e : ℕ) × Gets plan k from s e × Away plan s 1 k to D' e
-  pub most : (n e : ℕ) → Gets plan k from s e → Away plan s 1 k to n e → n ≤ D'
+-- device e is n crossings from the handler, counted over devices that the source reached only; and no fewer
+abbrev pub Back : Plan → ℕ → ℕ → ℕ → State → ℕ → ℕ → Type 0
+Back plan k from to s n e = WalkOver plan s 1 k (Gets plan k from s) to n e
+
+abbrev pub AwayBack : Plan → ℕ → ℕ → ℕ → State → ℕ → ℕ → Type 0
+AwayBack plan k from to s n e = AwayOver plan s 1 k (Gets plan k from s) to n e
+
+-- D' is the greatest, over these devices, of the least number of crossings to each
+abbrev pub FarthestBack : Plan → ℕ → ℕ → ℕ → State → ℕ → Type 0
+FarthestBack plan k from to s D' = FarthestOver plan s 1 k (Gets plan k from s) to D'
+
+-- each device that the source reached is found so
+abbrev pub FoundBack : Plan → ℕ → ℕ → ℕ → State → Type 0
+FoundBack plan k from to s = (e : ℕ) → Gets plan k from s e → (n : ℕ) × Back plan k from to s n e
 
 -- node `to` acknowledges in state s what node `from` requested; `at t` is the state t rounds later
 module _ (plan : Plan) (k from to D' : ℕ) (s : State) (at : ℕ → State) where
@@ -66,9 +76,9 @@ module _ (plan : Plan) (k from to D' : ℕ) (s : State) (at : ℕ → State) whe
     -- the acknowledge is taken: the call answers 0
     pub taken : Ordered (callAsks plan 1 to k s) 0
     -- each device that was reached is some crossings away from the handler, D' at most
-    pub found : (e : ℕ) → Gets plan k from s e → (n : ℕ) × (n ≤ D') × Away plan s 1 k to n e
+    pub found : (e : ℕ) → Gets plan k from s e → (n : ℕ) × (n ≤ D') × AwayBack plan k from to s n e
     -- a device n crossings from the handler has lost k after `crossing` x n rounds, and to the end
-    pub loses : (n e t : ℕ) → Walk plan s 1 k to n e → crossing * n ≤ t → t ≤ window D' → bit (register (at t) e) k ≡ 0
+    pub loses : (n e t : ℕ) → Back plan k from to s n e → crossing * n ≤ t → t ≤ window D' → bit (register (at t) e) k ≡ 0
     -- whoever holds k was reached
     pub no-other : (e t : ℕ) → e < devices plan → t ≤ window D' → bit (register (at t) e) k ≡ 1 → Gets plan k from s e
     -- no port sends k twice
@@ -85,4 +95,42 @@ module _ (plan : Plan) (k from to D' : ℕ) (s : State) (at : ℕ → State) whe
 
 -- the return trip
 unfoldable pub Return : Type 0
-Return = (plan : Plan) (k from to D' : ℕ) (s : State) (at : ℕ → State) → Given plan k from to D' s at → Follows plan k from to D' s at
+Return =
+    (plan : Plan) (k from to D' : ℕ) (s : State) (at : ℕ → State) → Given plan k from to D' s at → FoundBack plan k from to s
+    → Follows plan k from to D' s at
+
+-- ---- which devices are found
+
+-- only those lose k: one that was reached and is not found holds it to the end
+unfoldable pub OnlyFound : Type 0
+OnlyFound =
+    (plan : Plan) (k from to D' : ℕ) (s : State) (at : ℕ → State) → Given plan k from to D' s at
+    → (e t : ℕ) → t ≤ window D' → Gets plan k from s e → bit (register (at t) e) k ≡ 0 → (n : ℕ) × Back plan k from to s n e
+
+-- all ports of device d that run lead to one device, as the one port of a node does
+abbrev pub OneWay : Plan → State → ℕ → Type 0
+OneWay plan s d =
+    (p q : ℕ) → p < 8 → q < 8 → running s (8 * d + p) ≡ 1 → running s (8 * d + q) ≡ 1 → peer plan (8 * d + p) / 8 ≡ peer plan (8 * d + q) / 8
+
+-- a handler of k that the interrupt of a source gets to, over links that grant everything
+pub record Answers (plan : Plan) (k from to : ℕ) (s : State) : Type 0 where
+  pub held : Held plan
+  pub sound : Sound plan s
+  pub permits : Permits plan s
+  pub there : from < devices plan
+  pub requests : bit (source plan from) k ≡ 1
+  pub handles : bit (handler plan to) k ≡ 1
+  pub told : Gets plan k from s to
+
+-- the source itself is found; if it has one way, so are all devices that it reached
+unfoldable pub AllFound : Type 0
+AllFound =
+    (plan : Plan) (k from to : ℕ) (s : State) → Answers plan k from to s
+    → ((n : ℕ) × Back plan k from to s n from) × (OneWay plan s from → FoundBack plan k from to s)
+
+-- whatever way from the handler leads to the source, or to a router that it reached, goes over devices that it reached only; if the handler has one
+-- way, all its ways do
+unfoldable pub NoOthers : Type 0
+NoOthers =
+    (plan : Plan) (k from to : ℕ) (s : State) → Answers plan k from to s
+    → (n e : ℕ) → Walk plan s 1 k to n e → (e ≡ from) ⊎ ((router plan e ≡ true) × Gets plan k from s e) ⊎ OneWay plan s to → Back plan k from to s n e

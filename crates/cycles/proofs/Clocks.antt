@@ -12,14 +12,15 @@ use Rattle.bench.specs.Settling.{rounds}
 use Rattle.reach.specs.Away.{Away}
 use Rattle.assurance.specs.Demand3.{none as no-call, crossing, window, Given}
 use Rattle.assurance.specs.Cycle.{Sooner}
+use Rattle.assurance.specs.Return.{AwayBack, FoundBack}
 use Rattle.assurance.specs.Clock.{HearsIn, Waits, ByTheClock, IsTold, Pauses, IsAnswered}
 use Rattle.assurance.proofs.Clock.{is-told, by-the-clock, is-answered}
-use Rattle.assurance.proofs.Instances.{start-rests}
+use Rattle.assurance.proofs.Instances.{start-rests, on, played}
 use Rattle.cycles.specs.Star.{star, first}
 use Rattle.cycles.proofs.Stars.{star-is}
-use Rattle.cycles.proofs.Ways.{Links, permits, away, far-back}
+use Rattle.cycles.proofs.Ways.{Links, permits, away, away-back, found-back, far-back}
 use Rattle.cycles.proofs.Usual.{usual-start}
-use Rattle.cycles.proofs.Conditions.{on, played, meets}
+use Rattle.cycles.proofs.Conditions.{meets}
 use Rattle.cycles.proofs.Twice.{other-call}
 
 abbrev at : ℕ → State
@@ -37,8 +38,10 @@ links = usual-start star-is .links
 there : Away star (started star) 0 31 1 2 3
 there = away star-is 0 31 (omega arith) (started star) links 0 (omega arith) 2 (omega arith) (λ e. omega arith)
 
-back-there : Away star (started star) 1 31 3 2 1
-back-there = away star-is 1 31 (omega arith) (started star) links 2 (omega arith) 0 (omega arith) (λ e. omega arith)
+back-there : AwayBack star 31 1 3 (started star) 2 1
+back-there =
+    away-back star-is 31 (started star) links 0 (omega arith) 2 (omega arith)
+    (away star-is 1 31 (omega arith) (started star) links 2 (omega arith) 0 (omega arith) (λ e. omega arith))
 
 request : Given star 31 1 2 (started star) at
 request = meets star-is 31 (omega arith) 0 (omega arith) (started star) links (start-rests star (star-is .held) 31) (roles .0) at (played other-call (window 2))
@@ -70,9 +73,12 @@ waits =
       loads = λ e b. omega (arith, star-is .long 31 e b);
     }
 
+found : FoundBack star 31 1 3 (started star)
+found = found-back star-is 31 (started star) links 0 (omega arith) 2 (omega arith)
+
 begins : Sooner star 31 1 3 2 until (started star) at back
 unfolding ByTheClock
-begins = by-the-clock star 31 1 3 2 2 2 (told .0) (window 2 - 2) (started star) at back waits .begins
+begins = by-the-clock star 31 1 3 2 2 2 (told .0) (window 2 - 2) (started star) at back waits found .begins
 
 -- node 1 is told of the acknowledge, in some round
 pub answered : (turn : ℕ) × (2 ≤ turn) × (turn ≤ crossing * 2) × HearsIn star ofAcknowledge 1 31 back turn

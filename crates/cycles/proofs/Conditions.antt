@@ -3,30 +3,20 @@ use mathlib.Core.Path.{_≡_}
 use Prim.Native.Nat.{ℕ, suc, _+_, _<_}
 use native.Mathlib.Omega.{arith}
 use Rattle.answers.specs.Ordered.{Ordered}
-use Rattle.lists.specs.Loop.{upTo}
 use Rattle.bits.specs.Set.{bit}
 use Rattle.plan.specs.declared.Plan.{Plan}
 use Rattle.state.specs.State.{State, register}
 use Rattle.state.specs.Network.{source, handler}
 use Rattle.state.specs.Sound.{Sound}
 use Rattle.calls.specs.Calls.{owns, callAsks, called}
-use Rattle.bench.specs.Round.{round}
 use Rattle.bench.specs.Settling.{rounds}
 use Rattle.assurance.specs.Demand3.{Calls, none, Course, window, Given}
+use Rattle.assurance.specs.Return.{FoundBack}
 use Rattle.assurance.specs.Cycle.{AtRest, Cycle}
 use Rattle.assurance.proofs.Begun.{call-taken}
+use Rattle.assurance.proofs.Instances.{on, played}
 use Rattle.cycles.proofs.Stars.{Star}
-use Rattle.cycles.proofs.Ways.{Links, node-there, leads-in, permits, far, gets, far-back}
-
--- ---- rounds with no call between them
-
-pub on : (plan : Plan) (k : ℕ) (u : State) (t : ℕ) → Calls plan k (round plan (rounds plan t u) .next) (rounds plan (suc t) u)
-unfolding upTo
-on plan k u t = none
-
-pub played : {plan : Plan} {k : ℕ} {s u : State} → Calls plan k s u → (n : ℕ) → Course plan k n s (λ t. rounds plan t u)
-unfolding upTo
-played {plan} {k} {u = u} first n = record { begins = first; goes-on = λ t h. on plan k u t }
+use Rattle.cycles.proofs.Ways.{Links, node-there, leads-in, permits, far, gets, found-back, far-back}
 
 -- ---- node i + 1 calls, by links that run as at the start
 
@@ -56,14 +46,17 @@ module _ {plan : Plan} {n : ℕ} (x : Star plan n) (k : ℕ) (l : k < 32) (i : �
   pub a-cycle : AtRest plan k s → bit (source plan (suc i)) k ≡ 1 → (u : State) → Calls plan k (called plan 0 (suc i) k s) u
       → (j gap : ℕ) → j < n → bit (handler plan (suc j)) k ≡ 1 → gap < 208
       → Cycle plan k (suc i) (suc j) 2 2 gap s (λ t. rounds plan t u) (λ t. rounds plan t (called plan 1 (suc j) k (rounds plan (window 2 + gap) u)))
-  a-cycle rest own u first j gap m handles short =
-      record {
-        request = meets rest own (λ t. rounds plan t u) (played first (window 2));
-        permits = permits x s links;
-        between = λ t a b. on plan k u t;
-        handles = handles;
-        was-reached = gets x k s links i h (suc j) (node-there x j m);
-        farthest = far-back x k s links i h j m;
-        course = played none (window 2);
-        loads = λ e b. omega (arith, x .long k e b);
-      }
+      × FoundBack plan k (suc i) (suc j) s
+  a-cycle rest own u first j gap m handles short = (
+    record {
+      request = meets rest own (λ t. rounds plan t u) (played first (window 2));
+      permits = permits x s links;
+      between = λ t a b. on plan k u t;
+      handles = handles;
+      was-reached = gets x k s links i h (suc j) (node-there x j m);
+      farthest = far-back x k s links i h j m;
+      course = played none (window 2);
+      loads = λ e b. omega (arith, x .long k e b);
+    },
+    found-back x k s links i h j m,
+  )

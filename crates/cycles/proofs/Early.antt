@@ -23,14 +23,15 @@ use Rattle.laws.specs.Telling.{times, toldBy}
 use Rattle.assurance.specs.Demand3.{none, window, Given}
 use Rattle.assurance.specs.Cycle.{AtRest, Ends, AsSoon}
 use Rattle.assurance.proofs.Cycle.{as-soon}
+use Rattle.assurance.proofs.Instances.{played}
 use Rattle.cycles.specs.Star.{star, before, spreading, answered}
 use Rattle.cycles.specs.Early.{Early}
 use Rattle.cycles.proofs.Idle.{idles, resting, idles-says, resting-says}
 use Rattle.cycles.proofs.Heard.{Heard, hear, heard, heard-is}
 use Rattle.cycles.proofs.Stars.{star-is}
-use Rattle.cycles.proofs.Ways.{node-there, permits, gets, far-back}
+use Rattle.cycles.proofs.Ways.{node-there, permits, gets, found-back, far-back}
 use Rattle.cycles.proofs.Usual.{Usual, usual-start, usual-rounds, usual-call}
-use Rattle.cycles.proofs.Conditions.{played, asked, meets}
+use Rattle.cycles.proofs.Conditions.{asked, meets}
 
 -- ---- computed in one piece, so that each round is played once
 
@@ -120,3 +121,4 @@ a-round-later =
       then = played none (window 2);
       loads = λ e b. omega (arith, star-is .long 1 e b);
     })
+    (found-back star-is 1 before links 0 (omega arith) 2 (omega arith))

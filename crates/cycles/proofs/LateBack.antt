@@ -26,17 +26,17 @@ use Rattle.reach.proofs.Distances.{walk-device}
 use Rattle.assurance.specs.Demand3.{none, crossing, window}
 use Rattle.assurance.specs.Return.{Return, Gets, Given}
 use Rattle.assurance.proofs.Return.{return-trip}
+use Rattle.assurance.proofs.Instances.{played}
 use Rattle.cycles.specs.Star.{small, crowded, returning}
 use Rattle.cycles.specs.RateBack.{EnoughBack}
 use Rattle.cycles.proofs.Stars.{small-is}
 use Rattle.cycles.proofs.Idle.{idles, idles-says}
-use Rattle.cycles.proofs.Ways.{node-there, permits, to-router, gets, far-back}
+use Rattle.cycles.proofs.Ways.{node-there, permits, to-router, gets, way-back, found-back, far-back}
 use Rattle.cycles.proofs.Usual.{Usual, usual-start, usual-rounds, usual-call}
-use Rattle.cycles.proofs.Conditions.{played}
 
 pub enough-back : EnoughBack crossing
 unfolding EnoughBack Return
-enough-back plan k from to D s at x = return-trip plan k from to D s at x .loses
+enough-back plan k from to D s at x found = return-trip plan k from to D s at x found .loses
 
 -- ---- computed together, so that the state is made once
 
@@ -102,6 +102,7 @@ no-fewer-back W h all =
     omega (
       arith,
       late-back,
-      all small 31 1 2 2 crowded returning given-back 1 0 (crossing - 1)
-          (to-router small-is 1 31 (omega arith) crowded (usual-crowded .links) 1 (omega arith)) (omega arith) (omega arith),
+      all small 31 1 2 2 crowded returning given-back (found-back small-is 31 crowded (usual-crowded .links) 0 (omega arith) 1 (omega arith)) 1 0 (crossing - 1)
+          (way-back small-is 31 crowded (usual-crowded .links) 0 (omega arith) 1 (omega arith)
+          (to-router small-is 1 31 (omega arith) crowded (usual-crowded .links) 1 (omega arith))) (omega arith) (omega arith),
     )

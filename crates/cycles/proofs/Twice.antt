@@ -10,11 +10,11 @@ use Rattle.laws.proofs.Apart.{call-apart}
 use Rattle.assurance.specs.Demand3.{Calls, none as no-call, then, window}
 use Rattle.assurance.specs.Cycle.{AtRest, Cycles, none, rest, cycle, AllEnd, AnyCycles}
 use Rattle.assurance.proofs.Cycle.{any-cycles}
-use Rattle.assurance.proofs.Instances.{start-rests}
+use Rattle.assurance.proofs.Instances.{start-rests, played}
 use Rattle.cycles.specs.Star.{star, backFrom, first, between, second}
 use Rattle.cycles.proofs.Stars.{star-is}
 use Rattle.cycles.proofs.Usual.{Usual, usual-start, usual-rounds, usual-call}
-use Rattle.cycles.proofs.Conditions.{played, asked, a-cycle}
+use Rattle.cycles.proofs.Conditions.{asked, a-cycle}
 
 -- ---- the first: node 2 requests 30 behind the request for 31
 

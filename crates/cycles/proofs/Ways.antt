@@ -1,33 +1,26 @@
 -- Over the links of a star, as they run at the start: the router is one crossing away from each node, and every other node two.
 use mathlib.Core.Path.{_≡_, refl, sym, _∙_}
-use mathlib.Core.Bool.{true}
 use mathlib.Core.Logic.{inl, inr, _≢_}
 use Prim.Native.Nat.{ℕ, zero, suc, _+_, _*_, _/_, _≤_, _<_}
 use native.Mathlib.Omega.{arith}
-use Rattle.bits.specs.Set.{bit}
-use Rattle.device.specs.Permissions.{maySend, mayReceive}
 use Rattle.plan.specs.Fields.{nobody}
 use Rattle.plan.specs.declared.Plan.{Plan}
 use Rattle.state.specs.State.{State, running}
 use Rattle.state.specs.Network.{devices, peer}
 use Rattle.state.specs.Start.{started}
-use Rattle.state.proofs.Keeping.{both-kinds}
 use Rattle.state.proofs.Started.{start-joined}
-use Rattle.reach.specs.Walk.{Leads, Walk, stay, cross}
+use Rattle.reach.specs.Walk.{Leads, Any, Walk, stay, cross}
 use Rattle.reach.specs.Away.{Away, Farthest}
 use Rattle.reach.proofs.Found.{none-away}
 use Rattle.reach.proofs.Distances.{walk-device}
-use Rattle.assurance.specs.Return.{Permits, Gets, FarthestBack}
-use Rattle.assurance.proofs.Instances.{farthest-of}
+use Rattle.assurance.specs.Return.{Permits, Gets, Back, AwayBack, FarthestBack, FoundBack}
+use Rattle.assurance.proofs.Crossings.{walk-same, away-same}
+use Rattle.assurance.proofs.Instances.{all-grant, farthest-of}
 use Rattle.cycles.proofs.Stars.{Star}
 
 -- the links run as they do at the start
 abbrev pub Links : Plan → State → Type 0
 Links plan s = (q : ℕ) → q < 256 → running s q ≡ running (started plan) q
-
-all-grant : (kind : ℕ) → kind < 2 → (maySend kind 15 ≡ true) × (mayReceive kind 15 ≡ true)
-unfolding maySend mayReceive bit
-all-grant = both-kinds (λ kind. (maySend kind 15 ≡ true) × (mayReceive kind 15 ≡ true)) (refl, refl) (refl, refl)
 
 module _ {plan : Plan} {n : ℕ} (x : Star plan n) where
   pub node-there : (i : ℕ) → i < n → suc i < devices plan
@@ -62,13 +55,13 @@ module _ {plan : Plan} {n : ℕ} (x : Star plan n) where
           leads (8 * suc i + 0) 0 (omega arith) (omega arith) (omega arith)
 
       pub to-router : Far 1 0
-      to-router = cross stay (inl refl) 0 (omega arith) leads-in
+      to-router = cross stay (inl refl) 0 (omega arith) leads-in tt
 
       to-node : (j : ℕ) → j < n → Far 2 (suc j)
       to-node j l =
           let small = x .few in
           let there = x .ahead j l in
-          cross to-router (inr (x .hub)) j (omega arith) (leads (8 * 0 + j) (suc j) (omega arith) (omega arith) (omega arith))
+          cross to-router (inr (x .hub)) j (omega arith) (leads (8 * 0 + j) (suc j) (omega arith) (omega arith) (omega arith)) tt
 
       -- all devices, at most two crossings away
       near : (e : ℕ) → e < devices plan → (m : ℕ) × (m ≤ 2) × Far m e
@@ -78,11 +71,11 @@ module _ {plan : Plan} {n : ℕ} (x : Star plan n) where
       -- fewer lead to no other node
       not-nearer : {m e : ℕ} → Far m e → m < 2 → 1 ≤ e → e ≡ suc i
       not-nearer stay l o = refl
-      not-nearer (cross {d = d} {e = e} w on zero b way) l o =
+      not-nearer (cross {d = d} {e = e} w on zero b way any) l o =
           let here : d ≡ suc i = none-away w (omega arith) in
           let at : Leads plan s kind k (8 * suc i + 0) e = rw here at way in
           absurd (omega (arith, x .few, x .back i h, at .there))
-      not-nearer (cross {d = d} {e = e} w on (suc p) b way) l o =
+      not-nearer (cross {d = d} {e = e} w on (suc p) b way any) l o =
           let here : d ≡ suc i = none-away w (omega arith) in
           let at : Leads plan s kind k (8 * suc i + suc p) e = rw here at way in
           absurd (omega (arith, x .no-more i h p (omega arith), at .joined))
@@ -100,10 +93,27 @@ module _ {plan : Plan} {n : ℕ} (x : Star plan n) where
     pub gets : (e : ℕ) → e < devices plan → Gets plan k (suc i) s e
     gets e b = let c = near 0 k (omega arith) s links i h e b in (c .0, c .2)
 
-    -- and from node j + 1 back to these it is two crossings
-    pub far-back : (j : ℕ) → j < n → FarthestBack plan k (suc i) (suc j) s 2
-    far-back j l =
-        let f = far 1 k (omega arith) s links j l in
-        let e = f .some .0 in
-        let there = walk-device plan (x .held) s 1 k (suc j) (node-there j l) (f .some .1 .there) in
-        record { some = (e, gets e there, f .some .1); most = λ m e w a. f .most m e a }
+    -- so ways back from node j + 1 go over all devices that there are
+    module _ (j : ℕ) (l : j < n) where
+      abbrev ins : (m e : ℕ) → Walk plan s 1 k (suc j) m e → Any e → Gets plan k (suc i) s e
+      ins m e w any = gets e (walk-device plan (x .held) s 1 k (suc j) (node-there j l) w)
+
+      pub way-back : {m e : ℕ} → Walk plan s 1 k (suc j) m e → Back plan k (suc i) (suc j) s m e
+      way-back = walk-same plan (x .held) 1 k (suc j) (node-there j l) (λ q b. refl) ins
+
+      pub away-back : {m e : ℕ} → Away plan s 1 k (suc j) m e → AwayBack plan k (suc i) (suc j) s m e
+      away-back = away-same plan (x .held) 1 k (suc j) (node-there j l) (λ q b. refl) ins (λ m e w got. tt)
+
+      -- each device is found, and it is two crossings to the farthest
+      pub found-back : FoundBack plan k (suc i) (suc j) s
+      found-back e w =
+          let c = near 1 k (omega arith) s links j l e (walk-device plan (x .held) s 0 k (suc i) (node-there i h) (w .1)) in
+          (c .0, way-back (c .2))
+
+      pub far-back : FarthestBack plan k (suc i) (suc j) s 2
+      far-back =
+          let f = far 1 k (omega arith) s links j l in
+          record {
+            some = (f .some .0, away-back (f .some .1));
+            most = λ m e a. f .most m e (away-same plan (x .held) 1 k (suc j) (node-there j l) (λ q b. refl) (λ m e w got. tt) ins a);
+          }

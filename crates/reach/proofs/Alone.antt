@@ -23,7 +23,7 @@ size-one d h = omega (arith, size-join 32 0 d (bit-zero d) h h, size-none)
 pub walks-stay : (plan : Plan) (s : State) (kind k d : ℕ) → ((p e : ℕ) → p < 8 → Leads plan s kind k (8 * d + p) e → ⊥)
     → {n e : ℕ} → Walk plan s kind k d n e → (n ≡ 0) × (e ≡ d)
 walks-stay plan s kind k d nowhere stay = (refl, refl)
-walks-stay plan s kind k d nowhere (cross {d = m} {e = e} w on p l leads) =
+walks-stay plan s kind k d nowhere (cross {d = m} {e = e} w on p l leads over) =
     let here : m ≡ d = walks-stay plan s kind k d nowhere w .1 in
     absurd (nowhere p e l (rw here at leads))
 

@@ -9,16 +9,16 @@ use Rattle.bits.proofs.Sets.{bit-zero, join-same, join-lt}
 use Rattle.plan.specs.declared.Plan.{Plan}
 use Rattle.state.specs.State.{State}
 use Rattle.state.specs.Network.{router}
-use Rattle.reach.specs.Walk.{Walk, stay, cross}
+use Rattle.reach.specs.Walk.{WalkOver, Walk, stay, cross}
 use Rattle.reach.specs.Reach.{Reached}
 use Rattle.reach.specs.Visits.{aheadIn, visited}
 use Rattle.reach.proofs.Ahead.{leads-ahead, ahead-leads}
 use Rattle.reach.proofs.VisitLaws.{joined, Ports, port-keeps, port-stays, port-done}
 
 -- no crossings away there is the device itself
-pub none-away : {plan : Plan} {s : State} {kind k d n e : ℕ} → Walk plan s kind k d n e → n ≡ 0 → e ≡ d
+pub none-away : {plan : Plan} {s : State} {kind k d n e : ℕ} {Over : ℕ → Type 0} → WalkOver plan s kind k Over d n e → n ≡ 0 → e ≡ d
 none-away stay z = refl
-none-away (cross w on p l leads) z = absurd (omega arith)
+none-away (cross w on p l leads over) z = absurd (omega arith)
 
 module _ (plan : Plan) (s : State) (d k : ℕ) where
   abbrev There : ℕ → Type 0
@@ -34,9 +34,9 @@ module _ (plan : Plan) (s : State) (d k : ℕ) where
     unfolding visited
     found-there =
         port-keeps _ _ (λ set. (e : ℕ) → bit set e ≡ 1 → There e) There more-there
-        (λ e p r w l n. (_, cross (w .1) (inr r) p l (ahead-leads plan s k (8 * e + p) n)))
+        (λ e p r w l n. (_, cross (w .1) (inr r) p l (ahead-leads plan s k (8 * e + p) n) tt))
         330 d 0 (join 0 d)
-        (λ p l n. (_, cross stay (inl refl) p l (ahead-leads plan s k (8 * d + p) n)))
+        (λ p l n. (_, cross stay (inl refl) p l (ahead-leads plan s k (8 * d + p) n) tt))
         (more-there 0 d h (0, stay) (λ i b. absurd (omega (arith, bit-zero i))))
 
     found-small : visited plan s d k < 2 ^ 32
@@ -68,7 +68,7 @@ module _ (plan : Plan) (s : State) (d k : ℕ) where
 
     found-all : {n e : ℕ} → Walk plan s 0 k d n e → (e < 32) × (bit (visited plan s d k) e ≡ 1)
     found-all stay = (h, found-source)
-    found-all (cross {d = m} {e = e} w on p l leads) =
+    found-all (cross {d = m} {e = e} w on p l leads over) =
         let far = leads-ahead plan s k (8 * m + p) e leads in
         let from : From m = elim on [ inl z ↦ rw (none-away w z) from-source | inr r ↦ from-router m (found-all w .1) r ] in
         (far .1, rw (far .0) at (from p (omega arith) l (rw (far .0) (far .1))))

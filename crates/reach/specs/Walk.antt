@@ -9,6 +9,10 @@ use Rattle.plan.specs.declared.Plan.{Plan}
 use Rattle.state.specs.State.{State, running}
 use Rattle.state.specs.Network.{router, peer, permissions}
 
+-- all devices
+abbrev pub Any : ℕ → Type 0
+Any e = Unit
+
 -- for codes of a kind and of identifier k: no rule tells identifiers apart, but where a code goes is asked of one code, which has both
 module _ (plan : Plan) (s : State) (kind k : ℕ) where
   -- port q leads to device e: it runs, it may send codes of the kind, and the port at its other end, a port of e, may receive them
@@ -19,7 +23,13 @@ module _ (plan : Plan) (s : State) (kind k : ℕ) where
     pub receives : mayReceive kind (permissions plan (peer plan q)) ≡ true
     pub there : e ≡ peer plan q / 8
 
-  -- device e is n crossings away from a device, on a way that passes only through routers
-  pub data Walk (from : ℕ) : ℕ → ℕ → Type 0 where
-    stay : Walk from 0 from
-    cross : {n d e : ℕ} → Walk from n d → (n ≡ 0) ⊎ (router plan d ≡ true) → (p : ℕ) → p < 8 → Leads (8 * d + p) e → Walk from (suc n) e
+  -- device e is n crossings away from a device, on a way that passes only through routers, and only over some devices: each that it comes to is
+  -- one of them
+  pub data WalkOver (Over : ℕ → Type 0) (from : ℕ) : ℕ → ℕ → Type 0 where
+    stay : WalkOver Over from 0 from
+    cross : {n d e : ℕ} → WalkOver Over from n d → (n ≡ 0) ⊎ (router plan d ≡ true) → (p : ℕ) → p < 8 → Leads (8 * d + p) e → Over e
+        → WalkOver Over from (suc n) e
+
+  -- over any
+  abbrev pub Walk : ℕ → ℕ → ℕ → Type 0
+  Walk = WalkOver Any

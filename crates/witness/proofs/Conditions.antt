@@ -95,11 +95,11 @@ unfolding line maySend mayReceive bit
 second = record { runs = busy-runs line line-held first-there 9 (omega arith) (omega arith); sends = refl; joined = omega arith; receives = refl; there = refl }
 
 pub to-router : Far 1 1
-to-router = cross stay (inl refl) 0 (omega arith) first
+to-router = cross stay (inl refl) 0 (omega arith) first tt
 
 to-handler : Far 2 2
 unfolding line
-to-handler = cross to-router (inr refl) 1 (omega arith) second
+to-handler = cross to-router (inr refl) 1 (omega arith) second tt
 
 -- no port of node 0 leads to node 2
 not-there : every 8 (λ p. not (eqb (peer line p / 8) 2)) ≡ true
@@ -108,7 +108,7 @@ not-there = refl
 
 not-nearer : {m e : ℕ} → Far m e → m < 2 → e ≡ 2 → ⊥
 not-nearer stay l e = omega arith
-not-nearer (cross {n = n} {d = d} w on p b leads) l e =
+not-nearer (cross {n = n} {d = d} w on p b leads any) l e =
     let here : d ≡ 0 = none-away w (omega arith) in
     let port : 8 * d + p ≡ p = omega arith in
     eqb-false (peer line p / 8) 2 (not-true (eqb (peer line p / 8) 2) (every-at 8 (λ q. not (eqb (peer line q / 8) 2)) not-there p b))

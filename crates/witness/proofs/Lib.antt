@@ -3,3 +3,4 @@ pub mod Busy
 pub mod Conditions
 pub mod Late
 pub mod Copied
+pub mod Forked

@@ -1,3 +1,4 @@
 pub mod Line
 pub mod Rate
 pub mod Copying
+pub mod Fork
