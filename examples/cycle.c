@@ -12,7 +12,7 @@ int printf(const char *format, ...);
 _Noreturn void exit(int status);
 
 /* Where things stand in a plan file: in block 0, and in the block of a device. */
-enum { BLOCK = 512, DEVICES = 1, ROUTER_LOAD = 2, SOURCES = 4, HANDLERS = 8, ROWS = 12, ROW = 4, PERMISSIONS = 2 };
+enum { BLOCK = 512, DEVICES = 1, ROUTER_LOAD = 2, ROLE = 2, SOURCES = 4, HANDLERS = 8, ROWS = 12, ROW = 4, PERMISSIONS = 2 };
 enum { NOWHERE = 255, ALL_FOUR = 15 };
 
 /* What a told word is about. */
@@ -34,8 +34,9 @@ static int now;
 static bench_u32 sent[BENCH_SENT];
 static bench_u32 told[BENCH_TOLD];
 
-/* Whose cycle it is, how many devices the interrupt reaches, and how long the handler waits, and then the source. */
-static bench_u32 source, handler, identifier, reached, wait;
+/* Whose cycle it is, which devices the interrupt reaches, as a set, and how many, and how long the handler waits, and
+ * then the source. */
+static bench_u32 source, handler, identifier, reach, reached, wait;
 
 /* Of this cycle: its rounds; how often each host was told of the identifier, by kind; and all hosts, of any other. */
 static bench_u32 turn, times[32][4], traffic;
@@ -71,12 +72,40 @@ static void must_permit(void) {
 
 /* Does the interrupt of the source reach a handler? The first one will acknowledge. */
 static int reaches_handler(void) {
-    bench_u32 set;
-    must("reach", bench_reach(file, length, AREA(states[now]), source, identifier, &reached, &set));
+    must("reach", bench_reach(file, length, AREA(states[now]), source, identifier, &reached, &reach));
     for (handler = 0; handler < file[DEVICES]; handler++)
-        if (set >> handler & 1 && has(handler, HANDLERS, identifier))
+        if (reach >> handler & 1 && has(handler, HANDLERS, identifier))
             return 1;
     return 0;
+}
+
+/* The devices at the other ends of a device's links. */
+static bench_u32 beside(bench_u32 device) {
+    bench_u32 set = 0;
+    for (bench_u32 p = 0; p < 8; p++) {
+        bench_u8 peer = block_of(device)[ROWS + ROW * p];
+        if (peer != NOWHERE)
+            set |= (bench_u32)1 << peer;
+    }
+    return set;
+}
+
+/* Each device that the interrupt reaches has to be found from the handler, over such devices only: the others ignore the
+ * acknowledge, and nodes pass nothing on. One that is not found would hold the interrupt until its timer ends. */
+static void must_be_found(void) {
+    bench_u32 found = ((bench_u32)1 << handler | beside(handler)) & reach, before = 0;
+    while (found != before) {
+        before = found;
+        for (bench_u32 d = 0; d < file[DEVICES]; d++)
+            if (before >> d & 1 && block_of(d)[ROLE])
+                found |= beside(d) & reach;
+    }
+    for (bench_u32 d = 0; d < file[DEVICES]; d++)
+        if ((reach & ~found) >> d & 1) {
+            printf("no acknowledge of device %u gets to device %u, which interrupt %u of device %u reaches\n", handler, d,
+                   identifier, source);
+            exit(1);
+        }
 }
 
 /* The first source whose interrupt reaches a handler. */
@@ -205,6 +234,7 @@ int main(void) {
     must("start", bench_start(file, length, AREA(states[now])));
     must_permit();
     find();
+    must_be_found();
 
     /* 32 x (D + 1) rounds are enough, D crossings to the farthest device, and D is below the number reached. */
     wait = CROSSING * reached;

@@ -21,8 +21,8 @@ class Plan:
                              "entries": [(255, 255, 0, 0)] * 8})
         return len(self.devices) - 1
 
-    def node(self, source=(), handler=()):
-        return self.add(NODE, 1, source, handler)
+    def node(self, source=(), handler=(), ports=1):
+        return self.add(NODE, ports, source, handler)
 
     def router(self, ports):
         return self.add(ROUTER, ports)
@@ -233,6 +233,37 @@ def twice():
     return plan
 
 
+def straps(joined, cut=()):
+    """Two routers, and four units with their first port at one and their second at the other, but for the links that are cut, each named by
+    unit and port. The routers may be joined to each other."""
+    plan = Plan(1000, 1200)
+    routers = [plan.router(5), plan.router(5)]
+    units = [plan.node(source=[i], handler=[(i + 2) % 4], ports=2) for i in range(4)]
+    for i, unit in enumerate(units):
+        for p, r in enumerate(routers):
+            if (i, p) not in cut:
+                plan.join((unit, p), (r, i))
+    if joined:
+        plan.join((routers[0], 4), (routers[1], 4))
+    return plan
+
+
+def strapped():
+    """Cross-strapped: two routers that are joined, and four units on both."""
+    return straps(joined=True)
+
+
+def cut():
+    """The same where the nominal link of the first unit is cut: it works on by the redundant one."""
+    return straps(joined=True, cut=[(0, 0)])
+
+
+def parted():
+    """Two routers that are not joined, and four units on both, but for the nominal link of the third: its acknowledge gets to one router only,
+    while the interrupt of a unit on both gets to both."""
+    return straps(joined=False, cut=[(2, 0)])
+
+
 def idle():
     """One node, joined to nothing, and no source: the smallest file there is."""
     plan = Plan(1, 1)
@@ -242,5 +273,5 @@ def idle():
 
 if __name__ == "__main__":
     folder = pathlib.Path(sys.argv[1] if len(sys.argv) > 1 else pathlib.Path(__file__).parent)
-    for make in (three, ring, tree, torus, full, loop, brief, mute, incident, mesh, chain, never, fading, twice, refused, idle):
+    for make in (three, ring, tree, torus, full, loop, brief, mute, incident, mesh, chain, never, fading, twice, refused, strapped, cut, parted, idle):
         (folder / f"{make.__name__}.plan").write_bytes(make().file())

@@ -60,6 +60,11 @@ put() {
     spoil $((at + 511)) $((check / 256))
 }
 
+# A node that has a second port, with no link at it, is the same network.
+cp $full "$work/file"
+put 32 3 2
+prints "$(stored $full)" <"$work/file"
+
 for block in 0 1 17 32; do
     cp $full "$work/file"
     spoil $((512 * block + 509)) 1
@@ -88,7 +93,8 @@ done <<'END'
 17 509 1 24 17
 17 13 0 26 3
 32 1 30 22 32
-32 3 2 23 32
+32 3 0 23 32
+32 3 3 23 32
 32 14 16 23 32
 32 43 1 23 32
 32 44 1 24 32

@@ -5,12 +5,13 @@ use mathlib.Core.Bool.{true, false}
 use mathlib.Core.Logic.{_⊎_, inl, inr, _≢_}
 use Prim.Native.Nat.{ℕ, suc, _+_, _*_, _/_, _%_, _≤_, _<_}
 use native.Mathlib.Omega.{arith}
+use borrow.Author.Tests.{ltb-true}
 use Rattle.bits.specs.Set.{bit, size}
 use Rattle.plan.specs.Fields.{nobody}
 use Rattle.plan.specs.Reading.{Held}
 use Rattle.plan.specs.declared.Plan.{Plan}
 use Rattle.state.specs.State.{State, running}
-use Rattle.state.specs.Network.{devices, router, exists, peer, source, handler}
+use Rattle.state.specs.Network.{devices, router, portsOf, exists, peer, source, handler}
 use Rattle.state.specs.Sound.{Kept, Sound}
 use Rattle.state.proofs.Plans.{few, masked, far-end}
 use Rattle.reach.specs.Walk.{Leads, Any, WalkOver, Walk, stay, cross}
@@ -138,6 +139,17 @@ one-link {plan} {s} {a} one d e l m =
     let first : 8 * a + l .port % 8 ≡ l .port = omega (arith, l .own) in
     let second : 8 * a + m .port % 8 ≡ m .port = omega (arith, m .own) in
     sym (l .there) ∙ rw (first, second) at (one (l .port % 8) (m .port % 8) (omega arith) (omega arith) (rw first (l .runs)) (rw second (m .runs))) ∙ m .there
+
+-- such is a device with one port
+pub one-port : (plan : Plan) → Held plan → {s : State} → Sound plan s → (d : ℕ) → d < devices plan → portsOf plan d ≡ 1 → OneWay plan s d
+one-port plan held {s} x d h one p q a b on too =
+    ap (λ r. peer plan (8 * d + r) / 8) (first p a on ∙ sym (first q b too))
+  where
+    first : (p : ℕ) → p < 8 → running s (8 * d + p) ≡ 1 → p ≡ 0
+    first p a on =
+        let there = runs-there plan held x (8 * d + p) (omega (arith, few plan held)) on in
+        let device : (8 * d + p) / 8 ≡ d = omega arith in
+        omega (arith, ltb-true ((8 * d + p) % 8) (portsOf plan ((8 * d + p) / 8)) there, ap (portsOf plan) device)
 
 -- ---- a source, and a handler that its interrupt gets to
 
