@@ -11,39 +11,59 @@ struct cycle {
     flag own_clock;
     u32 wait; /* the rounds from where its clock begins to the acknowledge */
     u32 most; /* the rounds from the request to the end of the second window: never more than this */
+    flag from_both, back_by_both, beyond; /* source and handler have two ports that run; the acknowledge gets out of reach */
 };
 
 static struct course course;
 static flag light; /* has few devices and rounds, so that more can be tried on it */
 static u32 pairs, pair[DEVICES * DEVICES][2];
+static u32 others; /* pairs that do not allow T-01 */
+
+/* Is every device that the source reached found from the handler, by codes that go over such devices alone? Where one port of
+ * the source runs, it always is: all that it reached hangs together without it. */
+static flag all_found(u32 source, u32 handler, const u32 *reached, u32 count) {
+    u32 distance[DEVICES];
+    flag all = crossings(&course.records, handler, ACKNOWLEDGE, reached, distance) == count;
+    if (!all && running_ports(&course, source) < NODE_PORTS)
+        fail("T-01: not all found, though one port of the source runs (source, handler)", source, handler);
+    return all;
+}
 
 /* The pairs of a source of k and a handler of k that it reaches or, where any will do, of two nodes. */
 static void find_pairs(u32 k, flag any) {
     const struct device *device = course.records.device;
     u32 distance[DEVICES];
     read_records(&course);
-    pairs = 0;
+    pairs = others = 0;
     for (u32 s = 0; s < course.records.devices; s++) {
         if (device[s].router || !(any || device[s].source[k]))
             continue;
-        crossings(&course.records, s, INTERRUPT, distance);
+        u32 reached = crossings(&course.records, s, INTERRUPT, 0, distance);
         for (u32 h = 0; h < course.records.devices; h++) {
             if (h == s || distance[h] == UNREACHED || device[h].router || !(any || device[h].handler[k]))
                 continue;
+            if (!all_found(s, h, distance, reached)) {
+                others++;
+                continue;
+            }
             pair[pairs][0] = s;
             pair[pairs++][1] = h;
         }
     }
 }
 
-/* A pair for k at least. The roles are those of the plan, or anybody's; 0 if no node can reach another. */
-static flag cast(u32 k) {
+/* A pair for k at least. The roles are those of the plan, or anybody's; 0 if no pair of nodes allows T-01. */
+static flag cast(u32 k, struct trips *trips) {
     open_links(&course, 0);
     find_pairs(k, 1);
     if (!pairs) {
         open_links(&course, 1);
         find_pairs(k, 1);
     }
+    trips->pairs += pairs;
+    trips->other_pairs += others;
+    trips->alone += !pairs && !others;
+    trips->unfound += !pairs && others;
     if (!pairs)
         return 0;
     u32 chosen = pick(pairs), source = pair[chosen][0], handler = pair[chosen][1];
@@ -59,17 +79,29 @@ static flag cast(u32 k) {
     return 1;
 }
 
+/* Does the acknowledge get to a device that the interrupt did not reach? It is ignored there, and goes no further. */
+static flag gets_beyond(const struct spread *out, u32 handler) {
+    const struct device *device = &course.records.device[handler];
+    for (u32 p = 0; p < device->ports; p++)
+        if (device->port[p].running && out->distance[device->port[p].peer->device->number] == UNREACHED)
+            return 1;
+    return 0;
+}
+
 /* Who takes part, and when the handler acknowledges. By its own clock it does not know how long the interrupt was under way:
  * a round for each crossing at least, and it waits for the rest of the window. */
 static void choose(struct cycle *cycle, u32 k) {
     u32 chosen = pick(pairs), source = pair[chosen][0], handler = pair[chosen][1];
     *cycle = (struct cycle){.out = {.name = "T-01, the interrupt", .kind = INTERRUPT, .k = k, .start = source},
                             .back = {.name = "T-01, the acknowledge", .kind = ACKNOWLEDGE, .k = k, .start = handler}};
-    measure(&course, &cycle->out);
-    measure(&course, &cycle->back);
+    measure(&course, &cycle->out, 0);
+    measure(&course, &cycle->back, cycle->out.distance);
     for (u32 d = 0; d < DEVICES; d++)
         if ((cycle->out.distance[d] == UNREACHED) != (cycle->back.distance[d] == UNREACHED))
             broken(&cycle->out, "reached on one of the ways only (device, handler)", d, handler);
+    cycle->from_both = running_ports(&course, source) == NODE_PORTS;
+    cycle->back_by_both = running_ports(&course, handler) == NODE_PORTS;
+    cycle->beyond = gets_beyond(&cycle->out, handler);
     u32 away = cycle->out.distance[handler], late = once_in(4) ? 0 : pick(MOST_GAP + 1);
     cycle->own_clock = once_in(2);
     cycle->wait = cycle->own_clock ? cycle->out.window - away + late % 8 : cycle->out.window + late;
@@ -77,7 +109,8 @@ static void choose(struct cycle *cycle, u32 k) {
 }
 
 /* What hosts are told of k: those that the code reaches that it has come, once, and no sooner or later than it can; the host
- * that it starts from and all others nothing. A kind of code and the kind of what is told of it have the same number. */
+ * that it starts from and all others nothing, where an acknowledge gets to them too. A kind of code and the kind of what is told
+ * of it have the same number. */
 static void check_told(struct spread *spread, u32 round) {
     for (u32 i = 0; i < course.played.count; i++) {
         u32 word = course.played.told[i], kind = word / 65536, d = word / 256 % 256, away = spread->distance[d];
@@ -146,6 +179,7 @@ static u32 go_out(struct cycle *cycle, u32 calls) {
     if (round < out->window)
         broken(out, "the handler's clock is too fast (rounds, window)", round, out->window);
     check_rest(out, &course);
+    check_all_sent(out, &course);
     check_all_told(out);
     return round;
 }
@@ -157,6 +191,7 @@ static u32 come_back(struct cycle *cycle, u32 calls) {
     check_cleared(back, 0);
     for (u32 round = 1; round <= back->window; round++)
         step(back, calls, round);
+    check_all_sent(back, &course);
     check_all_told(back);
     check_over(back);
     return back->window;
@@ -197,7 +232,7 @@ static void rush(u32 k, u32 handler) {
         must_be("T-01: a request of another is taken", 0, host_calls(&course, REQUEST, handler, (k + i) % IDENTIFIERS));
 }
 
-static void play_cycles(struct cycle *cycles, u32 count, flag hushed, u32 *longest) {
+static void play_cycles(struct cycle *cycles, u32 count, flag hushed, struct trips *trips) {
     for (u32 i = 0; i < count; i++) {
         u32 k = cycles[i].out.k, calls = pick(4);
         flag rushed = hushed && i == 0;
@@ -209,17 +244,22 @@ static void play_cycles(struct cycle *cycles, u32 count, flag hushed, u32 *longe
         rounds += come_back(&cycles[i], calls);
         if (rounds > cycles[i].most)
             broken(&cycles[i].back, "longer than the loads allow for (rounds, most)", rounds, cycles[i].most);
-        if (rounds > *longest)
-            *longest = rounds;
+        if (rounds > trips->longest)
+            trips->longest = rounds;
+        trips->cycles++;
+        trips->from_both += cycles[i].from_both;
+        trips->back_by_both += cycles[i].back_by_both;
+        trips->beyond += cycles[i].beyond;
     }
+    trips->networks++;
 }
 
-u32 try_cycles(const struct plan *given, u32 *longest) {
+void try_cycles(const struct plan *given, struct trips *trips) {
     static struct cycle cycles[MOST_CYCLES];
     u32 k = pick(IDENTIFIERS), count = 1, most = 0;
     begin_course(&course, given);
-    if (!cast(k))
-        return 0;
+    if (!cast(k, trips))
+        return;
     for (u32 i = 0; i < count; i++) {
         choose(&cycles[i], k);
         if (cycles[i].most > most)
@@ -236,6 +276,5 @@ u32 try_cycles(const struct plan *given, u32 *longest) {
         crowd(&course, k);
     if (hushed)
         hush(k, cycles[0].back.start);
-    play_cycles(cycles, count, hushed, longest);
-    return count;
+    play_cycles(cycles, count, hushed, trips);
 }

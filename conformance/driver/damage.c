@@ -87,6 +87,24 @@ static void misdress(struct plan *plan, u32 device) {
     }
 }
 
+/* A number of ports that a node cannot have, or that its entries do not fit: port 1 that it has, and that is joined to itself, to
+ * port 0, to a port elsewhere, or not joined and with permissions; or a port 1 or 2 that it has not, and that is joined. */
+static void misport(struct plan *plan, u32 device) {
+    u8 *block = device_block(plan, device), *second = port_entry(plan, device, 1), *third = port_entry(plan, device, 2);
+    u32 peer = pick(devices_of(plan));
+    block[2] = 0;
+    switch (pick(8)) {
+    case 0: block[3] = 0; break;
+    case 1: block[3] = 3 + pick(6); break;
+    case 2: block[3] = 9 + pick(247); break;
+    case 3: block[3] = 1 + pick(2); break;
+    case 4: block[3] = 2, put_number(second, 4, device + 256 * pick(2) + 65536 * 15); break;
+    case 5: block[3] = 2, put_number(second, 4, peer + 256 * pick(PORTS) + 65536 * 15); break;
+    case 6: block[3] = 2, put_number(second, 4, 0xFFFF + 65536 * (1 + pick(15))); break;
+    default: block[3] = 2, put_number(third, 4, peer + 256 * pick(PORTS) + 65536 * pick(16));
+    }
+}
+
 static void damage_block_0(struct plan *plan) {
     u8 dirt = 1 + pick(255);
     switch (pick(6)) {
@@ -103,13 +121,14 @@ static void damage_block_0(struct plan *plan) {
 
 static void damage_device(struct plan *plan, u32 device) {
     u8 *block = device_block(plan, device), dirt = 1 + pick(255);
-    switch (pick(8)) {
+    switch (pick(9)) {
     case 0: change(block + pick(2)); break;
     case 1: change(block + pick(44)); break;
     case 2: block[44 + pick(466)] = dirt; break;
     case 3: change_check(plan, 1 + device); return;
     case 4: misdress(plan, device); break;
     case 5: misfit(plan, device); break;
+    case 6: misport(plan, device); break;
     default: misconnect(plan, device);
     }
     if (!once_in(6))

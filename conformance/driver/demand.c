@@ -3,7 +3,7 @@
 
 static struct course course;
 
-u32 try_demand_3(const struct plan *given) {
+u32 try_demand_3(const struct plan *given, flag *from_both) {
     struct spread spread = {.name = "demand 3", .kind = INTERRUPT};
     begin_course(&course, given);
     if (!choose_source(&course, &spread))
@@ -11,7 +11,8 @@ u32 try_demand_3(const struct plan *given) {
     unset(&course, spread.k);
     if (once_in(2))
         crowd(&course, spread.k);
-    measure(&course, &spread);
+    measure(&course, &spread, 0);
+    *from_both = running_ports(&course, spread.start) == NODE_PORTS;
     exceed(&course, spread.window);
     must_be("demand 3: the request is taken", 0, host_calls(&course, REQUEST, spread.start, spread.k));
     check_held(&spread, &course, 0);
@@ -21,6 +22,7 @@ u32 try_demand_3(const struct plan *given) {
         check_sent(&spread, &course, round);
         check_held(&spread, &course, round);
     }
+    check_all_sent(&spread, &course);
     check_rest(&spread, &course);
     return spread.window;
 }

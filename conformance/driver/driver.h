@@ -91,6 +91,7 @@ void seal(struct plan *plan, u32 block);
 void give_role(struct plan *plan, u32 device, u32 mask, u32 k);
 void blank(struct plan *plan, u32 devices);
 void be_router(struct plan *plan, u32 device, u32 ports);
+void be_node(struct plan *plan, u32 device, u32 ports);
 void connect_ports(struct plan *plan, u32 device, u32 port, u32 peer, u32 peer_port, u8 permissions);
 void set_loads(struct plan *plan, u32 router, u32 node);
 void put_number(u8 *at, u32 bytes, u32 number);
@@ -133,7 +134,9 @@ void open_links(struct course *course, flag all); /* what runs grants everything
 void unset(struct course *course, u32 k); /* held by nobody and waiting nowhere */
 void crowd(struct course *course, u32 k); /* the most in its way: all others wait at every port, and come before it */
 void read_records(struct course *course);
-void measure(struct course *course, struct spread *spread); /* by kind, k and start: distances and window */
+u32 running_ports(struct course *course, u32 device);
+void measure(struct course *course, struct spread *spread, const u32 *within); /* by kind, k and start: distances, as crossings
+                                                                               * gives them, and window */
 void exceed(struct course *course, u32 rounds); /* loads that are longer, by one in half of the trials */
 u32 make_call(struct course *course, struct change change);
 u32 host_calls(struct course *course, enum call call, u32 device, u32 k); /* a request or an acknowledge */
@@ -142,10 +145,33 @@ flag holds(struct course *course, u32 device, u32 k);
 _Noreturn void broken(const struct spread *spread, const char *what, u32 one, u32 other);
 void check_held(const struct spread *spread, struct course *course, u32 round);
 void check_sent(struct spread *spread, const struct course *course, u32 round);
+void check_all_sent(const struct spread *spread, struct course *course); /* by each port of the start that runs and may */
 void check_rest(const struct spread *spread, struct course *course);
 
 /* What a source's host is told first of its request. UNTOLD: nothing yet, or no node is joined to anything and can request. */
 enum answer { UNTOLD, ACKNOWLEDGED, TIMED_OUT, ANSWERS };
+
+/* What became of a source's request, and of its cables meanwhile. */
+struct drop {
+    enum answer answer;
+    flag again; /* a cable was out and in again */
+    flag one, both; /* the source had two that ran: one was out while the other ran, both were out */
+};
+
+/* How T-01 was tried. Pairs are of a node and another that it reaches. */
+struct trips {
+    size networks, cycles;
+    size alone, unfound; /* networks with no pair, and with none for which all that the one reached is found from the other */
+    size pairs, other_pairs; /* that allow T-01, and that do not */
+    size from_both, back_by_both, beyond; /* cycles: by source and handler with two ports that run; see cycle.c */
+    u32 longest; /* in rounds, of the cycles */
+};
+
+/* ports.c: nodes with two ports, by where these lead; and calls at one of them, by what the ports decide. */
+void count_shapes(struct plan *plan);
+void try_ports(const struct plan *plan);
+void ports_table(void);
+flag all_ports_tried(void);
 
 /* trials.c, known.c, demand.c, cycle.c and drop.c: what is tried. */
 void known_values(void);
@@ -157,8 +183,8 @@ void try_settling(struct plan *plan);
 void try_reports(struct plan *plan);
 void right_lengths(struct played *played);
 struct change likely_change(struct plan *plan);
-u32 try_demand_3(const struct plan *plan); /* the rounds in its window; 0 where nobody can send */
-u32 try_cycles(const struct plan *plan, u32 *longest); /* how many; 0 where no node can reach another */
-enum answer try_drop(const struct plan *plan, flag *replugged); /* had the source's link stopped and started again before? */
+u32 try_demand_3(const struct plan *plan, flag *from_both); /* the rounds in its window; 0 where nobody can send */
+void try_cycles(const struct plan *plan, struct trips *trips); /* adds what was tried */
+struct drop try_drop(const struct plan *plan);
 
 #endif

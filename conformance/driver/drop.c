@@ -1,6 +1,6 @@
-/* T-03, tried: a request outlasts its source's link. That link stops and starts, and so do others; hosts call, and devices are
- * reset, but not the source. Until its host is told of the acknowledge or of the timeout, the source holds k, and its timer has
- * fallen by one in each round. */
+/* T-03, tried: a request outlasts its source's links. These stop and start, one of them or both, and so do others; hosts call, and
+ * devices are reset, but not the source. Until its host is told of the acknowledge or of the timeout, the source holds k, and its
+ * timer has fallen by one in each round. */
 #include "driver.h"
 
 enum { MOST_LOAD = 30, MOST_CALLS = 2 };
@@ -11,9 +11,11 @@ enum { OF_ACKNOWLEDGE = 2, OF_TIMEOUT = 3 };
 static struct course course;
 static struct spread request;
 static u32 load, rounds;
+static flag ran[NODE_PORTS]; /* the source's ports that ran after the request */
+static struct drop drop;
 
-static flag runs(void) {
-    return port_words(&course.state, request.start, 0)[AT_RUNNING];
+static flag runs(u32 port) {
+    return port_words(&course.state, request.start, port)[AT_RUNNING];
 }
 
 static void check_source(void) {
@@ -53,27 +55,46 @@ static struct change acknowledge(void) {
     return (struct change){.call = ACKNOWLEDGES, .device = d, .other = request.k};
 }
 
-/* The source's cable, an acknowledge of k, or any call. */
-static struct change any_change(void) {
-    u32 which = pick(6);
-    if (which == 0)
-        return (struct change){.call = LINK, .device = request.start, .running = !runs()};
-    return which < 3 ? acknowledge() : likely_change(&course.plan);
+/* What has become of the cables by a call, from which of the source's ports ran before it. Ports that are joined to each other
+ * have one cable. */
+static void look_at_cables(const flag *before) {
+    flag one_cable = port_entry(&course.plan, request.start, 0)[0] == request.start;
+    u32 in = 0, out = 0;
+    for (u32 p = 0; p < NODE_PORTS; p++) {
+        drop.again |= ran[p] && runs(p) && !before[p];
+        in += ran[p] && runs(p);
+        out += ran[p] && !runs(p);
+    }
+    drop.one |= in == 1 && out == 1;
+    drop.both |= out == 2 && !one_cable;
 }
 
-/* Calls after the request or after a round; 1 where the source's link started again in one of them. */
-static flag call_on(void) {
-    flag again = 0;
+static void call(struct change change) {
+    const flag before[NODE_PORTS] = {runs(0), runs(1)};
+    if (change.call == RESET && change.device == request.start)
+        return;
+    make_call(&course, change);
+    look_at_cables(before);
+    check_source();
+}
+
+/* One of the source's cables is pulled or plugged in, or both are. */
+static void call_at_source(void) {
+    u32 ports = device_block(&course.plan, request.start)[3], first = pick(ports), cables = 1 + pick(ports);
+    u32 running = !runs(first);
+    for (u32 i = 0; i < cables; i++)
+        call((struct change){.call = LINK, .device = request.start, .other = (first + i) % ports, .running = running});
+}
+
+/* After the request or after a round: the source's cables, an acknowledge of k, or any call. */
+static void call_on(void) {
     for (u32 i = pick(1 + MOST_CALLS); i; i--) {
-        struct change change = any_change();
-        if (change.call == RESET && change.device == request.start)
-            continue;
-        flag ran = runs();
-        make_call(&course, change);
-        again |= runs() && !ran;
-        check_source();
+        u32 which = pick(6);
+        if (which == 0)
+            call_at_source();
+        else
+            call(which < 3 ? acknowledge() : likely_change(&course.plan));
     }
-    return again;
 }
 
 /* What the source's host is told first of k in the round just played: of the timeout in the last round, and before that of
@@ -92,22 +113,24 @@ static enum answer heard(void) {
     return UNTOLD;
 }
 
-enum answer try_drop(const struct plan *given, flag *replugged) {
+struct drop try_drop(const struct plan *given) {
     request = (struct spread){.name = "T-03"};
-    *replugged = 0;
+    drop = (struct drop){.answer = UNTOLD};
     begin_course(&course, given);
     if (!choose_source(&course, &request))
-        return UNTOLD;
+        return drop;
     prepare();
     must_be("T-03: the request is taken", 0, host_calls(&course, REQUEST, request.start, request.k));
     check_source();
+    for (u32 p = 0; p < NODE_PORTS; p++)
+        ran[p] = runs(p);
     for (;;) {
-        *replugged |= call_on();
+        call_on();
         play_on(&course, request.k, 0);
         rounds++;
-        enum answer answer = heard();
-        if (answer != UNTOLD)
-            return answer;
+        drop.answer = heard();
+        if (drop.answer != UNTOLD)
+            return drop;
         check_source();
     }
 }

@@ -2,9 +2,10 @@
 #include "driver.h"
 
 static struct plan plan;
-static size seed, this_case, before_case, demands, returns, cycles;
-static size drops[ANSWERS], replugged[ANSWERS];
-static u32 longest, longest_cycle;
+static size seed, this_case, before_case, demands, demands_from_both;
+static size drops[ANSWERS], replugged[ANSWERS], one_of_two, both_of_two;
+static u32 longest;
+static struct trips trips;
 
 void say_where(void) {
     printf("comparison %lu of the case; again: conformance/run --seed %lu --case %lu\n", compared() - before_case, seed,
@@ -20,36 +21,74 @@ static void play(size which) {
         try_tables();
     }
     make_plan(&plan);
+    count_shapes(&plan);
     try_files(&plan);
     try_calls(&plan);
+    try_ports(&plan);
     try_run(&plan, which % 16 == 15 ? 500 : 40);
     try_settling(&plan);
     try_reports(&plan);
-    u32 window = try_demand_3(&plan);
+    flag from_both = 0;
+    u32 window = try_demand_3(&plan, &from_both);
     demands += window > 0;
+    demands_from_both += from_both;
     if (window > longest)
         longest = window;
-    u32 count = try_cycles(&plan, &longest_cycle);
-    returns += count > 0;
-    cycles += count;
-    flag again;
-    enum answer answer = try_drop(&plan, &again);
-    drops[answer]++;
-    replugged[answer] += again;
+    try_cycles(&plan, &trips);
+    struct drop drop = try_drop(&plan);
+    drops[drop.answer]++;
+    replugged[drop.answer] += drop.again;
+    one_of_two += drop.one;
+    both_of_two += drop.both;
 }
 
-/* Were demand 3 and T-01 tried at all, and cycles in a row, and did a pulled cable end in both ways? */
+static flag tried(const char *what, size times) {
+    if (!times)
+        printf("never tried: %s\n", what);
+    return times != 0;
+}
+
+/* Whatever the run is to try was tried at least once. */
 static flag all_tried(void) {
-    if (demands && cycles > returns && replugged[ACKNOWLEDGED] && replugged[TIMED_OUT])
-        return 1;
-    printf("demand 3, T-01, two cycles in a row or one of T-03's two ends were never tried\n");
-    return 0;
+    flag all = tried("demand 3", demands);
+    all &= tried("demand 3 from two ports", demands_from_both);
+    all &= tried("T-01", trips.networks);
+    all &= tried("T-01, two cycles in a row", trips.cycles - trips.networks);
+    all &= tried("T-01 from a source with two ports that run", trips.from_both);
+    all &= tried("T-01 with a handler that has two", trips.back_by_both);
+    all &= tried("T-01 with an acknowledge that gets to devices out of the source's reach", trips.beyond);
+    all &= tried("a pair that does not allow T-01", trips.other_pairs);
+    all &= tried("T-03, an acknowledge after a cable was out and in again", replugged[ACKNOWLEDGED]);
+    all &= tried("T-03, a timeout after that", replugged[TIMED_OUT]);
+    all &= tried("T-03, one of two cables out", one_of_two);
+    all &= tried("T-03, both out", both_of_two);
+    return all;
 }
 
 /* A line on standard error at each tenth. */
 static void progress(size played, size cases) {
     if (cases > 1 && 10 * played / cases > 10 * (played - 1) / cases)
         dprintf(2, "%lu of %lu networks\n", played, cases);
+}
+
+/* What was tried beside the calls one by one. */
+static void report(void) {
+    printf("demand 3 tried on %lu of the networks, for up to %u rounds; in the others no node is joined to anything\n"
+           "  from a source with two ports that run: %lu\n",
+           demands, longest, demands_from_both);
+    printf("T-01 tried on %lu of the networks, in %lu cycles of up to %u rounds; in %lu no node reaches another, and in %lu one\n"
+           "  does, but no pair of them allows it\n"
+           "  pairs that allow it: %lu, and that do not: %lu\n",
+           trips.networks, trips.cycles, trips.longest, trips.alone, trips.unfound, trips.pairs, trips.other_pairs);
+    printf("  cycles from a source with two ports that run: %lu, with such a handler: %lu, with an acknowledge that gets to devices\n"
+           "  out of the source's reach: %lu\n",
+           trips.from_both, trips.back_by_both, trips.beyond);
+    printf("T-03 tried on %lu of the networks; in the others no node is joined to anything\n",
+           drops[ACKNOWLEDGED] + drops[TIMED_OUT]);
+    printf("  told of the acknowledge %lu times, %lu of them after a cable was out and in again; of the timeout %lu times, %lu of "
+           "them after that\n"
+           "  of two cables one was out %lu times, and both %lu times\n",
+           drops[ACKNOWLEDGED], replugged[ACKNOWLEDGED], drops[TIMED_OUT], replugged[TIMED_OUT], one_of_two, both_of_two);
 }
 
 static size number(const char *word) {
@@ -70,15 +109,9 @@ int main(int count, char **words) {
     }
     printf("seed %lu, cases %lu to %lu\n", seed, first, first + cases - 1);
     table();
-    printf("demand 3 tried on %lu of the networks, for up to %u rounds; in the others no node is joined to anything\n",
-           demands, longest);
-    printf("T-01 tried on %lu of the networks, in %lu cycles of up to %u rounds; in the other %lu no node reaches another\n",
-           returns, cycles, longest_cycle, cases - returns);
-    printf("T-03 tried on %lu of the networks; in the others no node is joined to anything\n", cases - drops[UNTOLD]);
-    printf("  told of the acknowledge %lu times, %lu of them after the cable was out and in again; of the timeout %lu times, %lu of "
-           "them after that\n",
-           drops[ACKNOWLEDGED], replugged[ACKNOWLEDGED], drops[TIMED_OUT], replugged[TIMED_OUT]);
-    if (whole && !(all_hit() && all_tried()))
+    ports_table();
+    report();
+    if (whole && !(all_hit() && all_tried() && all_ports_tried()))
         return 1;
     printf("judge: ok\n");
     return 0;

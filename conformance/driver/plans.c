@@ -39,7 +39,7 @@ void set_loads(struct plan *plan, u32 router, u32 node) {
     seal(plan, 0);
 }
 
-/* Nodes that lead nowhere. */
+/* Nodes with one port, which lead nowhere. */
 void blank(struct plan *plan, u32 devices) {
     plan->length = BLOCK * (1 + devices);
     memset(plan->bytes, 0, plan->length);
@@ -60,6 +60,11 @@ void be_router(struct plan *plan, u32 device, u32 ports) {
     device_block(plan, device)[3] = ports;
 }
 
+void be_node(struct plan *plan, u32 device, u32 ports) {
+    device_block(plan, device)[2] = 0;
+    device_block(plan, device)[3] = ports;
+}
+
 void connect_ports(struct plan *plan, u32 device, u32 port, u32 peer, u32 peer_port, u8 permissions) {
     put_number(port_entry(plan, device, port), 4, peer + 256 * peer_port + 65536 * permissions);
     put_number(port_entry(plan, peer, peer_port), 4, device + 256 * port + 65536 * permissions);
@@ -76,7 +81,7 @@ static u32 free_port(struct plan *plan, u32 device, u32 but) {
     return NO_PORT;
 }
 
-/* Joins two devices, or a router to itself, where both have a port left. */
+/* Joins two devices, or one to itself, where both have a port left. */
 static void join(struct plan *plan, u32 device, u32 peer) {
     u32 p = free_port(plan, device, NO_PORT), q = free_port(plan, peer, device == peer ? p : NO_PORT);
     if (p != NO_PORT && q != NO_PORT)
@@ -126,9 +131,11 @@ static void torus(struct plan *plan, const u32 *name, u32 n, u32 wide, u32 high)
         join(plan, name[pick(routers)], name[i]);
 }
 
+/* Two by two; those with two ports are joined twice, in half of them. */
 static void pairs(struct plan *plan, const u32 *name, u32 n) {
     for (u32 i = 0; i + 1 < n; i += 2)
-        join(plan, name[i], name[i + 1]);
+        for (u32 times = 1 + pick(2); times; times--)
+            join(plan, name[i], name[i + 1]);
 }
 
 static void anything(struct plan *plan, const u32 *name, u32 n) {
@@ -152,6 +159,76 @@ static void mesh(struct plan *plan, u32 n) {
         connect_ports(plan, end[i] / PORTS, end[i] % PORTS, end[i + 1] / PORTS, end[i + 1] % PORTS, 0);
 }
 
+/* Nodes with two ports in a row, or in a ring: joined to itself where it is one, joined twice where they are two. */
+static void row(struct plan *plan, const u32 *name, u32 n) {
+    u32 links = n - pick(2);
+    for (u32 i = 0; i < n; i++)
+        be_node(plan, name[i], NODE_PORTS);
+    for (u32 i = 0; i < links; i++)
+        join(plan, name[i], name[(i + 1) % n]);
+}
+
+/* Rows of routers that have only nodes in common, as a nominal and a redundant network: most nodes have two ports, which are
+ * mostly in two of the rows. */
+static void rows(struct plan *plan, const u32 *name, u32 n) {
+    u32 count = 2 + once_in(3), routers = count + pick(1 + n / 3);
+    for (u32 i = 0; i < n; i++) {
+        if (i < routers) {
+            be_router(plan, name[i], PORTS);
+            if (i >= count)
+                join(plan, name[i - count], name[i]);
+            continue;
+        }
+        u32 first = pick(routers);
+        be_node(plan, name[i], once_in(4) ? 1 : NODE_PORTS);
+        join(plan, name[first], name[i]);
+        join(plan, name[(first + 1) % routers], name[i]);
+    }
+}
+
+/* A node with two ports that leads nowhere any more. */
+static void cut_off(struct plan *plan, u32 node) {
+    for (u32 p = 0; p < NODE_PORTS; p++) {
+        u8 *entry = port_entry(plan, node, p);
+        if (entry[0] == NOWHERE)
+            continue;
+        put_number(port_entry(plan, entry[0], entry[1]), 4, NOWHERE + 256 * NOWHERE);
+        put_number(entry, 4, NOWHERE + 256 * NOWHERE);
+    }
+}
+
+static void join_others(struct plan *plan, u32 n, u32 node, u32 times) {
+    for (; times; times--) {
+        u32 peer = pick(n);
+        if (peer != node)
+            join(plan, node, peer);
+    }
+}
+
+/* Where else a node with two ports leads: to where it leads already, nowhere, or to any other devices; some lead to themselves
+ * alone, or nowhere at all. */
+static void join_second(struct plan *plan, u32 n, u32 node) {
+    u32 one = port_entry(plan, node, 0)[0], other = port_entry(plan, node, 1)[0], first = one == NOWHERE ? other : one;
+    u32 which = pick(12);
+    if (which == 0) {
+        cut_off(plan, node);
+        if (!once_in(4))
+            join(plan, node, node);
+    } else if (which < 4 && first != NOWHERE) {
+        join(plan, node, first);
+    } else if (which < 10) {
+        join_others(plan, n, node, 3);
+    }
+}
+
+/* How many of the nodes have two ports; in two of five networks none has. */
+static void give_ports(struct plan *plan, u32 n) {
+    u32 style = pick(5);
+    for (u32 d = 0; d < n; d++)
+        if (style == 4 || (style > 1 && once_in(style == 2 ? 4 : 2)))
+            be_node(plan, d, NODE_PORTS);
+}
+
 static void shape(struct plan *plan, u32 n) {
     u32 name[DEVICES];
     for (u32 i = 0; i < n; i++) {
@@ -160,16 +237,22 @@ static void shape(struct plan *plan, u32 n) {
         name[j] = i;
     }
     u32 wide = 1 + pick(n < 6 ? n : 6), high = 1 + pick(n / wide);
-    switch (pick(7)) {
+    give_ports(plan, n);
+    switch (pick(9)) {
     case 0: tree(plan, name, n); break;
     case 1: once_in(3) ? line(plan, name, n) : tree(plan, name, n); break;
     case 2: torus(plan, name, n, 1 + pick(once_in(4) ? n : (n + 1) / 2), 1); break;
     case 3: torus(plan, name, n, wide, high); break;
     case 4: pairs(plan, name, n); break;
     case 5: once_in(3) ? mesh(plan, n) : tree(plan, name, n); break;
+    case 6: row(plan, name, n); return;
+    case 7: rows(plan, name, n); return;
     default: anything(plan, name, n);
     }
     join_any(plan, n, once_in(3) ? pick(2 * n) : 0);
+    for (u32 d = 0; d < n; d++)
+        if (device_block(plan, d)[2] == 0 && device_block(plan, d)[3] == NODE_PORTS)
+            join_second(plan, n, d);
 }
 
 /* A router has as many ports as it uses, or some more. */

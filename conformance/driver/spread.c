@@ -11,15 +11,32 @@ void begin_course(struct course *course, const struct plan *plan) {
     course->known = 0;
 }
 
-/* A source whose port can send, and one of its identifiers; 0 if there is none. */
+u32 running_ports(struct course *course, u32 device) {
+    u32 count = 0;
+    for (u32 p = 0; p < PORTS; p++)
+        count += port_words(&course->state, device, p)[AT_RUNNING];
+    return count;
+}
+
+static flag sends(struct course *course, u32 device, u32 port, enum kind kind) {
+    u32 permissions = port_entry(&course->plan, device, port)[2];
+    return port_words(&course->state, device, port)[AT_RUNNING] && permissions & (kind == INTERRUPT ? 1 : 4);
+}
+
+static flag can_send(struct course *course, u32 device) {
+    for (u32 p = 0; p < PORTS; p++)
+        if (sends(course, device, p, INTERRUPT))
+            return 1;
+    return 0;
+}
+
+/* A source of which some port can send, and one of its identifiers; 0 if there is none. */
 static flag find_source(struct course *course, struct spread *spread) {
     struct plan *plan = &course->plan;
     u32 first = pick(DEVICES * IDENTIFIERS);
     for (u32 i = 0; i < DEVICES * IDENTIFIERS; i++) {
         u32 at = (first + i) % (DEVICES * IDENTIFIERS), d = at / IDENTIFIERS, k = at % IDENTIFIERS;
-        if (d >= plan->bytes[1] || !in_mask(plan, d, SOURCES, k))
-            continue;
-        if (!port_words(&course->state, d, 0)[AT_RUNNING] || !(port_entry(plan, d, 0)[2] & 1))
+        if (d >= plan->bytes[1] || !in_mask(plan, d, SOURCES, k) || !can_send(course, d))
             continue;
         spread->start = d;
         spread->k = k;
@@ -28,17 +45,18 @@ static flag find_source(struct course *course, struct spread *spread) {
     return 0;
 }
 
-/* Where no source can send, a node that is joined to something becomes one, and its link runs; 0 if there is none. */
+/* Where no source can send, a node that is joined to something becomes one, and a link of it runs; 0 if there is none. */
 static flag make_source(struct course *course, struct spread *spread) {
     struct plan *plan = &course->plan;
     spread->k = pick(IDENTIFIERS);
-    for (u32 d = 0; d < plan->bytes[1]; d++) {
-        u8 *entry = port_entry(plan, d, 0);
+    for (u32 i = 0; i < NODE_PORTS * plan->bytes[1]; i++) {
+        u32 d = i / NODE_PORTS, p = i % NODE_PORTS;
+        u8 *entry = port_entry(plan, d, p);
         if (device_block(plan, d)[2] == 1 || entry[0] == 255)
             continue;
         entry[2] |= 1;
         give_role(plan, d, SOURCES, spread->k);
-        port_words(&course->state, d, 0)[AT_RUNNING] = port_words(&course->state, entry[0], entry[1])[AT_RUNNING] = 1;
+        port_words(&course->state, d, p)[AT_RUNNING] = port_words(&course->state, entry[0], entry[1])[AT_RUNNING] = 1;
         spread->start = d;
         return 1;
     }
@@ -94,10 +112,10 @@ void read_records(struct course *course) {
             network_read(&course->records, plan->bytes, plan->length, state->words, state->length));
 }
 
-void measure(struct course *course, struct spread *spread) {
+void measure(struct course *course, struct spread *spread, const u32 *within) {
     u32 farthest = 0;
     read_records(course);
-    crossings(&course->records, spread->start, spread->kind, spread->distance);
+    crossings(&course->records, spread->start, spread->kind, within, spread->distance);
     for (u32 d = 0; d < DEVICES; d++)
         if (spread->distance[d] != UNREACHED && spread->distance[d] > farthest)
             farthest = spread->distance[d];
@@ -166,10 +184,21 @@ void check_sent(struct spread *spread, const struct course *course, u32 round) {
         u32 sent = course->played.sent[i];
         if (sent != 128 + spread->k && sent != 160 + spread->k)
             continue;
+        const struct device *sender = &course->records.device[i / PORTS];
         if (spread->sent[i])
             broken(spread, "sent twice (port, round)", i, round);
+        if (spread->distance[i / PORTS] == UNREACHED)
+            broken(spread, "sent out of reach (port, round)", i, round);
+        if (!sender->router && i / PORTS != spread->start)
+            broken(spread, "passed on by a node (port, round)", i, round);
         spread->sent[i] = 1;
     }
+}
+
+void check_all_sent(const struct spread *spread, struct course *course) {
+    for (u32 p = 0; p < PORTS; p++)
+        if (spread->sent[PORTS * spread->start + p] != sends(course, spread->start, p, spread->kind))
+            broken(spread, "sent by another port than those that run and may (device, port)", spread->start, p);
 }
 
 void check_rest(const struct spread *spread, struct course *course) {

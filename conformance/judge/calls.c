@@ -1,6 +1,21 @@
 /* The calls between rounds. Each tests its refusals in the order of the table, and changes nothing before the last. */
 #include "judge.h"
 
+static flag any_runs(const struct device *node) {
+    for (u32 p = 0; p < node->ports; p++)
+        if (node->port[p].running)
+            return 1;
+    return 0;
+}
+
+/* Whether the kind may be sent is asked of the ports that run, and of no other. */
+static flag any_sends(const struct device *node, enum kind kind) {
+    for (u32 p = 0; p < node->ports; p++)
+        if (node->port[p].running && node->port[p].may_send[kind])
+            return 1;
+    return 0;
+}
+
 /* A request sets the bit and an acknowledge clears it; all else is the same for both. */
 u32 host_asks(struct network *net, size device, enum kind kind, u32 k) {
     if (device >= net->devices)
@@ -8,19 +23,19 @@ u32 host_asks(struct network *net, size device, enum kind kind, u32 k) {
     if (k >= IDENTIFIERS)
         return 5;
     struct device *node = &net->device[device];
-    struct port *port = &node->port[0];
     flag wanted = kind == INTERRUPT;
     if (!(wanted ? node->source[k] : node->handler[k]))
         return 6; /* a router is neither */
-    if (!port->running)
+    if (!any_runs(node))
         return 7;
-    if (!port->may_send[kind])
+    if (!any_sends(node, kind))
         return 8;
     if (node->set[k] == wanted)
         return 9;
     node->set[k] = wanted;
     node->timer[k] = wanted ? net->node_load : 0;
-    queue(port, (struct code){kind, k});
+    for (u32 p = 0; p < node->ports; p++)
+        queue(&node->port[p], (struct code){kind, k});
     return 0;
 }
 

@@ -64,7 +64,7 @@ static flag role_read(struct device *device, const u8 *block) {
         if (device->handler[k] && device->router)
             return 0;
     }
-    return device->ports >= 1 && device->ports <= (device->router ? PORTS : 1);
+    return device->ports >= 1 && device->ports <= (device->router ? PORTS : NODE_PORTS);
 }
 
 static u32 device_block_read(struct device *device, const u8 *block, u32 devices) {

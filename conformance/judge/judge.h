@@ -11,8 +11,8 @@ typedef unsigned char u8;
 typedef unsigned int u32;
 typedef unsigned long size;
 
-enum { DEVICES = 32, PORTS = 8, IDENTIFIERS = 32, BLOCK = 512, LONGEST_FILE = BLOCK * (1 + DEVICES) };
-enum { STATE_WORDS = 2080, SENT_WORDS = 256, TOLD_WORDS = 1056, TEXT_BYTES = 14347, MOST_ALLOWED = 4096, SENT_NONE = 256 };
+enum { DEVICES = 32, PORTS = 8, NODE_PORTS = 2, IDENTIFIERS = 32, BLOCK = 512, LONGEST_FILE = BLOCK * (1 + DEVICES) };
+enum { STATE_WORDS = 2080, SENT_WORDS = 256, TOLD_WORDS = 1088, TEXT_BYTES = 14347, MOST_ALLOWED = 4096, SENT_NONE = 256 };
 
 /* The words of a state. Of a device: the register and the timers. Behind all devices, of a port: these four. */
 enum { AT_INTERRUPTS, AT_ACKNOWLEDGES, AT_NEXT, AT_RUNNING, PORT_WORDS };
@@ -85,9 +85,9 @@ void build_round(struct network *net, u32 *next, u32 *sent, u32 *told, u32 *coun
 u32 settle(struct network *net, u32 allowance, u32 *rounds);
 
 /* reach.c: the least crossings by which a code of a kind gets from one device to each, UNREACHED for none; the number of
- * devices reached. */
+ * devices reached. Where distances are given as within, only devices that these reach are entered; null is no such limit. */
 enum { UNREACHED = DEVICES };
-u32 crossings(const struct network *net, u32 start, enum kind kind, u32 distance[DEVICES]);
+u32 crossings(const struct network *net, u32 start, enum kind kind, const u32 *within, u32 distance[DEVICES]);
 
 /* The calls, as in include/bench.h. */
 u32 judge_code_read(u8 byte, u32 *value);

@@ -7,7 +7,7 @@ static flag passes(const struct port *port, enum kind kind) {
     return port->peer && port->running && port->may_send[kind] && port->peer->may_receive[kind];
 }
 
-u32 crossings(const struct network *net, u32 start, enum kind kind, u32 distance[DEVICES]) {
+u32 crossings(const struct network *net, u32 start, enum kind kind, const u32 *within, u32 distance[DEVICES]) {
     u32 line[DEVICES], first = 0, last = 0;
     for (u32 d = 0; d < DEVICES; d++)
         distance[d] = UNREACHED;
@@ -21,7 +21,7 @@ u32 crossings(const struct network *net, u32 start, enum kind kind, u32 distance
             if (!passes(&from->port[p], kind))
                 continue;
             u32 to = from->port[p].peer->device->number;
-            if (distance[to] != UNREACHED)
+            if (distance[to] != UNREACHED || (within && within[to] == UNREACHED))
                 continue;
             distance[to] = distance[from->number] + 1;
             line[last++] = to;
@@ -45,7 +45,7 @@ u32 judge_reach(const u8 *plan, size plan_length, const u32 *state, size state_l
         return 5;
     if (!net.device[device].source[k])
         return 6;
-    *devices = crossings(&net, device, INTERRUPT, distance);
+    *devices = crossings(&net, device, INTERRUPT, 0, distance);
     for (u32 d = 0; d < DEVICES; d++)
         *set |= (u32)(distance[d] != UNREACHED) << d;
     return 0;
