@@ -4,13 +4,13 @@
  * Every call takes any input, ends, and touches nothing but what it is lent. It returns a number: 0 for done, or that of
  * the first refusal, in the order given at the call:
  *
- *    2 a state that is not sound                8 it may not send this kind
+ *    2 a state that is not sound                8 none that runs may send the kind
  *    3 an area of the wrong length, or one      9 the bit is already so
  *      that cannot be lent (see below)         10 the link is already so
  *    4 no such device or port                  11 an allowance above BENCH_ROUNDS
  *    5 an identifier or a value too great      12 still waiting after the allowance
  *    6 no source or no handler of it           20 to 26 a plan file that is not accepted
- *    7 the port does not run, or leads nowhere
+ *    7 no port runs, or the port leads nowhere
  *
  * What is wrong with the file: 20 its length; of a block 21 the check, 22 the kind or the number, 23 a field, 24 a byte that has
  * to be 0; 25 the number of blocks; 26 a connection. 1 is the number of a plan in memory that no file holds: no call answers it
