@@ -47,7 +47,7 @@ static u32 any_block(const u8 *b, int from, int good, int marked) {
 static int fits(const u8 *b, u32 n) {
     u8 role = b[2], ports = b[3];
     u32 source = four(b + 4), handler = four(b + 8);
-    if (role == 0 ? ports != 1 || (source & handler) : role != 1 || ports < 1 || ports > 8 || source || handler)
+    if (role > 1 || ports < 1 || ports > (role ? 8 : 2) || (role ? source | handler : source & handler))
         return 0;
     for (int p = 0; p < 8; p++) {
         const u8 *e = b + 12 + 4 * p;
