@@ -150,15 +150,21 @@ static void queue(const struct plan *plan, u32 *s, u32 q, u32 kind, u32 k) {
     }
 }
 
-/* The request of a source whose bit is clear. A node has one port. */
+/* The request of a source whose bit is clear. */
 static u32 request(const struct plan *plan, u32 *s, u32 d, u32 k) {
-    if (!s[port_at(8 * d) + RUNNING])
+    u32 first = 8 * d, past = first + plan->ports[d], runs = 0, sends = 0;
+    for (u32 q = first; q < past; q++) {
+        runs |= s[port_at(q) + RUNNING];
+        sends |= s[port_at(q) + RUNNING] & plan->permissions[q];
+    }
+    if (!runs)
         return 7;
-    if (!(plan->permissions[8 * d] & 1))
+    if (!sends)
         return 8;
     s[device_at(d)] |= 1u << k;
     s[device_at(d) + 1 + k] = plan->loads[plan->role[d]];
-    queue(plan, s, 8 * d, INTERRUPT, k);
+    for (u32 q = first; q < past; q++)
+        queue(plan, s, q, INTERRUPT, k);
     return 0;
 }
 
