@@ -135,8 +135,7 @@ void unset(struct course *course, u32 k); /* held by nobody and waiting nowhere 
 void crowd(struct course *course, u32 k); /* the most in its way: all others wait at every port, and come before it */
 void read_records(struct course *course);
 u32 running_ports(struct course *course, u32 device);
-void measure(struct course *course, struct spread *spread, const u32 *within); /* by kind, k and start: distances, as crossings
-                                                                               * gives them, and window */
+void measure(struct course *course, struct spread *spread, const u32 *within); /* the window, and the distances as in reach.c */
 void exceed(struct course *course, u32 rounds); /* loads that are longer, by one in half of the trials */
 u32 make_call(struct course *course, struct change change);
 u32 host_calls(struct course *course, enum call call, u32 device, u32 k); /* a request or an acknowledge */
