@@ -155,7 +155,7 @@ static u32 request(const struct plan *plan, u32 *s, u32 d, u32 k) {
     u32 first = 8 * d, past = first + plan->ports[d], runs = 0, sends = 0;
     for (u32 q = first; q < past; q++) {
         runs |= s[port_at(q) + RUNNING];
-        sends |= s[port_at(q) + RUNNING] & plan->permissions[q];
+        sends |= s[port_at(q) + RUNNING] & plan->permissions[q]; /* the flag is 1, and so is the permission */
     }
     if (!runs)
         return 7;

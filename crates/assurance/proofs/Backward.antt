@@ -15,12 +15,13 @@ use Rattle.state.specs.Network.{devices, router, portsOf, exists, peer, source,
 use Rattle.state.specs.Sound.{Kept, Sound}
 use Rattle.state.proofs.Plans.{few, masked, far-end}
 use Rattle.reach.specs.Walk.{Leads, Any, WalkOver, Walk, stay, cross}
+use Rattle.reach.specs.Away.{Farthest}
 use Rattle.reach.specs.Reach.{Reached}
 use Rattle.reach.proofs.Found.{none-away}
 use Rattle.reach.proofs.Distances.{any?, walk-device, walk-port, reached?, farthest, farthest-once, crossings-below}
-use Rattle.assurance.specs.Return.{Permits, Gets, Back, FarthestBack, FoundBack, OneWay, Answers, AllFound, NoOthers}
+use Rattle.assurance.specs.Return.{Permits, Gets, Back, FarthestBack, FoundBack, OneWay, Answers, AllFound, NoOthers, CountsAll}
 use Rattle.assurance.proofs.Choices.{runs-there, runs-joined}
-use Rattle.assurance.proofs.Crossings.{ends-over, walk-same}
+use Rattle.assurance.proofs.Crossings.{ends-over, walk-same, away-same}
 
 -- ---- devices with a mask
 
@@ -155,14 +156,14 @@ one-port plan held {s} x d h one p q a b on too =
 
 module _ {plan : Plan} {k from to : ℕ} {s : State} (x : Answers plan k from to s) where
   handler-there : to < devices plan
-  handler-there = walk-device plan (x .held) s 0 k from (x .there) (x .told .1)
+  handler-there = walk-device plan (x .held) s 0 k from (x .there) (x .reached .1)
 
   differ : from ≢ to
   differ = apart plan (x .held) k from to (x .there) (x .requests) (x .handles)
 
   pub two-nodes : TwoNodes plan k from to s
   two-nodes =
-      let link = last-link plan (x .held) (x .sound) (x .permits) k 0 from (x .there) (x .told .1) (λ e. differ (sym e)) .1 in
+      let link = last-link plan (x .held) (x .sound) (x .permits) k 0 from (x .there) (x .reached .1) (λ e. differ (sym e)) .1 in
       let whole : 8 * to + link .port % 8 ≡ link .port = omega (arith, link .own) in
       record {
         there = handler-there;
@@ -175,7 +176,7 @@ module _ {plan : Plan} {k from to : ℕ} {s : State} (x : Answers plan k from to
   source-found : (n : ℕ) × Back plan k from to s n from
   source-found =
       way-back plan (x .held) (x .sound) (x .permits) k 0 from (x .there) 1 to handler-there (omega arith) (Gets plan k from s) (λ n e w. (n, w))
-      (x .told .1) stay (inr (inl refl))
+      (x .reached .1) stay (inr (inl refl))
 
   all-there : OneWay plan s from → FoundBack plan k from to s
   all-there one e w =
@@ -195,12 +196,22 @@ module _ {plan : Plan} {k from to : ℕ} {s : State} (x : Answers plan k from to
       let way : Back plan k from to s n d = elim before [ inl z ↦ rw (z, none-away w z) stay | inr r ↦ way-over w next (inr r) ] in
       cross way before p l leads got
 
-  no-detour : OneWay plan s to → {n e : ℕ} → Walk plan s 1 k to n e → Back plan k from to s n e
-  no-detour one =
-      walk-same plan (x .held) 1 k to handler-there (λ q h. refl)
-      (λ n e w any.
-      gets-too plan (x .held) (x .sound) (x .permits) k 1 to handler-there 0 from (x .there) (omega arith) Any (λ n e w. tt)
-      (one-link one) (λ e. differ (sym e)) (x .told .1) w)
+  -- where the handler has one way, the interrupt gets to whatever its acknowledge does
+  module _ (one : OneWay plan s to) where
+    got-too : (n e : ℕ) → Walk plan s 1 k to n e → Any e → Gets plan k from s e
+    got-too n e w any =
+        gets-too plan (x .held) (x .sound) (x .permits) k 1 to handler-there 0 from (x .there) (omega arith) Any (λ n e w. tt)
+        (one-link one) (λ e. differ (sym e)) (x .reached .1) w
+
+    no-detour : {n e : ℕ} → Walk plan s 1 k to n e → Back plan k from to s n e
+    no-detour = walk-same plan (x .held) 1 k to handler-there (λ q h. refl) got-too
+
+    all-counted : (D' : ℕ) → Farthest plan s 1 k to D' → FarthestBack plan k from to s D'
+    all-counted D' far =
+        record {
+          some = (far .some .0, away-same plan (x .held) 1 k to handler-there (λ q h. refl) got-too (λ n e w got. tt) (far .some .1));
+          most = λ n e a. far .most n e (away-same plan (x .held) 1 k to handler-there (λ q h. refl) (λ n e w got. tt) got-too a);
+        }
 
 pub all-found : AllFound
 unfolding AllFound
@@ -211,6 +222,10 @@ unfolding NoOthers
 no-others plan k from to s x n e w (inl own) = way-over x w (rw own (0, stay)) (inl own)
 no-others plan k from to s x n e w (inr (inl hub)) = way-over x w (hub .1) (inr (hub .0))
 no-others plan k from to s x n e w (inr (inr one)) = no-detour x one w
+
+pub counts-all : CountsAll
+unfolding CountsAll
+counts-all plan k from to D' s x one = all-counted x one D'
 
 -- ---- D'
 

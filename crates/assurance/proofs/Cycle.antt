@@ -19,12 +19,12 @@ use Rattle.reach.specs.Walk.{Any, stay}
 use Rattle.reach.specs.Away.{Farthest}
 use Rattle.reach.proofs.Distances.{any?, walk-device, farthest}
 use Rattle.assurance.specs.Demand3.{Calls, Course, window, Given as Window}
-use Rattle.assurance.specs.Return.{Permits, Told, Gets, Back, AwayBack, FarthestBack, FoundBack, Given, Follows}
-use Rattle.assurance.specs.Cycle.{Cycle, Ends, OneCycle, AtRest, Cycles, none, rest, cycle, AllEnd, AnyCycles, Sooner, AsSoon}
+use Rattle.assurance.specs.Return.{Permits, Told, Gets, Back, AwayBack, FarthestBack, FoundBack, Answers, AllFound, Given, Follows}
+use Rattle.assurance.specs.Cycle.{Cycle, Ends, OneCycle, OneWayCycle, AtRest, Cycles, none, rest, cycle, AllEnd, AnyCycles, Sooner, AsSoon}
 use Rattle.assurance.proofs.Meanwhile.{course-sound}
 use Rattle.assurance.proofs.Trips.{Trip}
 use Rattle.assurance.proofs.Crossings.{walk-same, away-same}
-use Rattle.assurance.proofs.Backward.{TwoNodes, two-nodes}
+use Rattle.assurance.proofs.Backward.{TwoNodes, two-nodes, all-found}
 use Rattle.assurance.proofs.Demand.{Asked, asked, there, place, requests, first, later, goes-out, out}
 use Rattle.assurance.proofs.Hearing.{at-first, told-out}
 use Rattle.assurance.proofs.Return.{goes-back, lost-found, follows}
@@ -67,17 +67,20 @@ module _ {plan : Plan} {k from to D' until : ℕ} {s : State} {at back : ℕ →
   got-there : (e : ℕ) → e < devices plan → bit (register mid e) k ≡ 1 → Gets plan k from s e
   got-there e h b = let way = goes .only e until h (le-refl _) (c .at-rest .unset e h) b in (way .0, way .2)
 
-  pub pair : TwoNodes plan k from to s
-  pair =
-      two-nodes (record {
+  answers : Answers plan k from to s
+  answers =
+      record {
         held = c .held;
         sound = c .at-rest .sound;
         permits = c .permits;
         there = inside;
         requests = requests asks;
         handles = c .handles;
-        told = c .was-reached;
-      })
+        reached = c .was-reached;
+      }
+
+  pub pair : TwoNodes plan k from to s
+  pair = two-nodes answers
 
   -- the ways from the handler over those that were reached are as before the request
   pub back-then : {n e : ℕ} → Back plan k from to s n e → Back plan k from to mid n e
@@ -237,6 +240,10 @@ sooner c =
 pub one-cycle : OneCycle
 unfolding OneCycle
 one-cycle plan k from to D D' gap s at back c all = ends (sooner c) all
+
+pub one-way-cycle : OneWayCycle
+unfolding OneWayCycle AllFound
+one-way-cycle plan k from to D D' gap s at back c one = ends (sooner c) (all-found plan k from to s (answers (sooner c)) .1 one)
 
 -- ---- one after the other
 

@@ -45,7 +45,7 @@ module _ {plan : Plan} {k from to D' : ℕ} {s : State} {at : ℕ → State} (gi
         there = given .there;
         requests = given .requests;
         handles = given .handles;
-        told = given .was-reached;
+        reached = given .was-reached;
       })
 
   there : to < devices plan

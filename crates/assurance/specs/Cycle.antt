@@ -14,7 +14,7 @@ use Rattle.state.specs.Sound.{Sound}
 use Rattle.calls.specs.Calls.{callAsks, called}
 use Rattle.bench.specs.Round.{round}
 use Rattle.assurance.specs.Demand3.{Calls, Course, crossing, window, SendsK, Given as Window}
-use Rattle.assurance.specs.Return.{Permits, Told, Gets, Back, AwayBack, FarthestBack, FoundBack}
+use Rattle.assurance.specs.Return.{Permits, Told, Gets, Back, AwayBack, FarthestBack, FoundBack, OneWay}
 
 -- ---- what is given: node `from` requests k in state s, and node `to` acknowledges it `gap` rounds after the window. `at t` is the state t rounds
 -- after the request, and `back t` the one t rounds after the acknowledge
@@ -74,6 +74,12 @@ unfoldable pub OneCycle : Type 0
 OneCycle =
     (plan : Plan) (k from to D D' gap : ℕ) (s : State) (at back : ℕ → State) → Cycle plan k from to D D' gap s at back
     → FoundBack plan k from to s → Ends plan k from to D' (window D + gap) s at back
+
+-- where the source has one way, as with one port, each is found, and nothing more is asked
+unfoldable pub OneWayCycle : Type 0
+OneWayCycle =
+    (plan : Plan) (k from to D D' gap : ℕ) (s : State) (at back : ℕ → State) → Cycle plan k from to D D' gap s at back
+    → OneWay plan s from → Ends plan k from to D' (window D + gap) s at back
 
 -- ---- cycles in any number
 

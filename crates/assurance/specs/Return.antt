@@ -15,7 +15,7 @@ use Rattle.calls.specs.Calls.{callAsks, called}
 use Rattle.bench.specs.Round.{ofInterrupt, ofAcknowledge, ofTimeout}
 use Rattle.laws.specs.Telling.{toldBy}
 use Rattle.reach.specs.Walk.{WalkOver, Walk}
-use Rattle.reach.specs.Away.{AwayOver, FarthestOver}
+use Rattle.reach.specs.Away.{AwayOver, FarthestOver, Farthest}
 use Rattle.assurance.specs.Demand3.{Course, crossing, window, SendsK}
 
 -- both ends of each link that runs grant all four permissions: whatever port runs may send and may receive codes of either kind
@@ -34,10 +34,11 @@ pub record Told (plan : Plan) (k d rounds : ℕ) (at : ℕ → State) (interrupt
 abbrev pub Gets : Plan → ℕ → ℕ → State → ℕ → Type 0
 Gets plan k from s e = (n : ℕ) × Walk plan s 0 k from n e
 
--- device e is n crossings from the handler, counted over devices that the source reached only; and no fewer
+-- a way of n crossings leads from the handler to device e, over devices that the source reached only
 abbrev pub Back : Plan → ℕ → ℕ → ℕ → State → ℕ → ℕ → Type 0
 Back plan k from to s n e = WalkOver plan s 1 k (Gets plan k from s) to n e
 
+-- and none of fewer does
 abbrev pub AwayBack : Plan → ℕ → ℕ → ℕ → State → ℕ → ℕ → Type 0
 AwayBack plan k from to s n e = AwayOver plan s 1 k (Gets plan k from s) to n e
 
@@ -107,7 +108,7 @@ OnlyFound =
     (plan : Plan) (k from to D' : ℕ) (s : State) (at : ℕ → State) → Given plan k from to D' s at
     → (e t : ℕ) → t ≤ window D' → Gets plan k from s e → bit (register (at t) e) k ≡ 0 → (n : ℕ) × Back plan k from to s n e
 
--- all ports of device d that run lead to one device, as the one port of a node does
+-- all ports of device d that run lead to one device, as the port of a node that has one does
 abbrev pub OneWay : Plan → State → ℕ → Type 0
 OneWay plan s d =
     (p q : ℕ) → p < 8 → q < 8 → running s (8 * d + p) ≡ 1 → running s (8 * d + q) ≡ 1 → peer plan (8 * d + p) / 8 ≡ peer plan (8 * d + q) / 8
@@ -120,7 +121,7 @@ pub record Answers (plan : Plan) (k from to : ℕ) (s : State) : Type 0 where
   pub there : from < devices plan
   pub requests : bit (source plan from) k ≡ 1
   pub handles : bit (handler plan to) k ≡ 1
-  pub told : Gets plan k from s to
+  pub reached : Gets plan k from s to
 
 -- the source itself is found; if it has one way, so are all devices that it reached
 unfoldable pub AllFound : Type 0
@@ -134,3 +135,9 @@ unfoldable pub NoOthers : Type 0
 NoOthers =
     (plan : Plan) (k from to : ℕ) (s : State) → Answers plan k from to s
     → (n e : ℕ) → Walk plan s 1 k to n e → (e ≡ from) ⊎ ((router plan e ≡ true) × Gets plan k from s e) ⊎ OneWay plan s to → Back plan k from to s n e
+
+-- so that then D' is the most crossings of acknowledges from it to any device
+unfoldable pub CountsAll : Type 0
+CountsAll =
+    (plan : Plan) (k from to D' : ℕ) (s : State) → Answers plan k from to s → OneWay plan s to
+    → Farthest plan s 1 k to D' → FarthestBack plan k from to s D'

@@ -16,7 +16,7 @@ module _ (plan : Plan) (s : State) (kind k : ℕ) where
       pub some : (e : ℕ) × AwayOver D e
       pub most : (n e : ℕ) → AwayOver n e → n ≤ D
 
-  -- over any
+  -- the same over all devices
   abbrev pub Away : ℕ → ℕ → ℕ → Type 0
   Away = AwayOver Any
 

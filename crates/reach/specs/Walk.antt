@@ -30,6 +30,6 @@ module _ (plan : Plan) (s : State) (kind k : ℕ) where
     cross : {n d e : ℕ} → WalkOver Over from n d → (n ≡ 0) ⊎ (router plan d ≡ true) → (p : ℕ) → p < 8 → Leads (8 * d + p) e → Over e
         → WalkOver Over from (suc n) e
 
-  -- over any
+  -- the same over all devices
   abbrev pub Walk : ℕ → ℕ → ℕ → Type 0
   Walk = WalkOver Any
