@@ -213,8 +213,8 @@ static void rest(const struct cycle *over, u32 calls) {
     }
 }
 
-/* So that the most can be in the acknowledge's way where it starts, nothing else is used until then: the handler's port
- * still begins its search behind k. And the handler may request all others. */
+/* So that the most can be in the acknowledge's way where it starts, nothing else is used until then: the handler's ports
+ * still begin their search behind k. And the handler may request all others. */
 static void hush(u32 k, u32 handler) {
     for (u32 other = 0; other < IDENTIFIERS; other++) {
         unset(&course, other);
@@ -226,7 +226,7 @@ static void hush(u32 k, u32 handler) {
             port_words(&course.state, d, p)[AT_NEXT] = (k + 1) % IDENTIFIERS;
 }
 
-/* Just before it acknowledges, the handler requests all others, which its port sends first. */
+/* Just before it acknowledges, the handler requests all others, which its ports send first. */
 static void rush(u32 k, u32 handler) {
     for (u32 i = 1; i < IDENTIFIERS; i++)
         must_be("T-01: a request of another is taken", 0, host_calls(&course, REQUEST, handler, (k + i) % IDENTIFIERS));

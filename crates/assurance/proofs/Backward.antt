@@ -15,11 +15,11 @@ use Rattle.state.specs.Network.{devices, router, portsOf, exists, peer, source,
 use Rattle.state.specs.Sound.{Kept, Sound}
 use Rattle.state.proofs.Plans.{few, masked, far-end}
 use Rattle.reach.specs.Walk.{Leads, Any, WalkOver, Walk, stay, cross}
-use Rattle.reach.specs.Away.{Farthest}
+use Rattle.reach.specs.Away.{Away, Farthest}
 use Rattle.reach.specs.Reach.{Reached}
 use Rattle.reach.proofs.Found.{none-away}
 use Rattle.reach.proofs.Distances.{any?, walk-device, walk-port, reached?, farthest, farthest-once, crossings-below}
-use Rattle.assurance.specs.Return.{Permits, Gets, Back, FarthestBack, FoundBack, OneWay, Answers, AllFound, NoOthers, CountsAll}
+use Rattle.assurance.specs.Return.{Permits, Gets, Back, AwayBack, FarthestBack, FoundBack, OneWay, Answers, AllFound, NoOthers, CountsAll}
 use Rattle.assurance.proofs.Choices.{runs-there, runs-joined}
 use Rattle.assurance.proofs.Crossings.{ends-over, walk-same, away-same}
 
@@ -206,12 +206,17 @@ module _ {plan : Plan} {k from to : ℕ} {s : State} (x : Answers plan k from to
     no-detour : {n e : ℕ} → Walk plan s 1 k to n e → Back plan k from to s n e
     no-detour = walk-same plan (x .held) 1 k to handler-there (λ q h. refl) got-too
 
-    all-counted : (D' : ℕ) → Farthest plan s 1 k to D' → FarthestBack plan k from to s D'
-    all-counted D' far =
-        record {
-          some = (far .some .0, away-same plan (x .held) 1 k to handler-there (λ q h. refl) got-too (λ n e w got. tt) (far .some .1));
-          most = λ n e a. far .most n e (away-same plan (x .held) 1 k to handler-there (λ q h. refl) (λ n e w got. tt) got-too a);
-        }
+    away-over : {n e : ℕ} → Away plan s 1 k to n e → AwayBack plan k from to s n e
+    away-over = away-same plan (x .held) 1 k to handler-there (λ q h. refl) got-too (λ n e w got. tt)
+
+    away-any : {n e : ℕ} → AwayBack plan k from to s n e → Away plan s 1 k to n e
+    away-any = away-same plan (x .held) 1 k to handler-there (λ q h. refl) (λ n e w got. tt) got-too
+
+    all-counted : (D' : ℕ) → (Farthest plan s 1 k to D' → FarthestBack plan k from to s D') × (FarthestBack plan k from to s D' → Farthest plan s 1 k to D')
+    all-counted D' = (
+      λ far. record { some = (far .some .0, away-over (far .some .1)); most = λ n e a. far .most n e (away-any a) },
+      λ far. record { some = (far .some .0, away-any (far .some .1)); most = λ n e a. far .most n e (away-over a) },
+    )
 
 pub all-found : AllFound
 unfolding AllFound

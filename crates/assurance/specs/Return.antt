@@ -136,8 +136,8 @@ NoOthers =
     (plan : Plan) (k from to : ℕ) (s : State) → Answers plan k from to s
     → (n e : ℕ) → Walk plan s 1 k to n e → (e ≡ from) ⊎ ((router plan e ≡ true) × Gets plan k from s e) ⊎ OneWay plan s to → Back plan k from to s n e
 
--- so that then D' is the most crossings of acknowledges from it to any device
+-- so that then D' is the most crossings of acknowledges from it to any device, and that is D'
 unfoldable pub CountsAll : Type 0
 CountsAll =
     (plan : Plan) (k from to D' : ℕ) (s : State) → Answers plan k from to s → OneWay plan s to
-    → Farthest plan s 1 k to D' → FarthestBack plan k from to s D'
+    → (Farthest plan s 1 k to D' → FarthestBack plan k from to s D') × (FarthestBack plan k from to s D' → Farthest plan s 1 k to D')

@@ -1,5 +1,5 @@
--- RULES, "How an acknowledge goes back": two plans in which a source has two ways. In one of them a device that it reaches is not found from the handler;
--- and what T-01 would say of it.
+-- RULES, "How an acknowledge goes back": two plans in which a source has two ways, and T-01 without its condition. In one of them a device that the
+-- source reaches is not found from the handler.
 use mathlib.Core.Bool.{Bool, cond, _&&_}
 use mathlib.Core.List.{[], _∷_, _++_}
 use Prim.Native.Nat.{ℕ, _+_, _-_, _^_}
