@@ -141,9 +141,9 @@ by_judge() {
     printf '#include "%s"\n' "$here/conformance/judge/judge.h" bench.h >"$parts/alike.c"
     object "$1" "$parts/program.o"
     set --
-    for call in $(sed -n 's/^bench_u32 bench_for_header_\([a-z_]*\)(.*/\1/p' "$here/include/bench.h"); do
-        echo "__typeof__(judge_$call) bench_for_header_$call;" >>"$parts/alike.c"
-        set -- "$@" "--defsym=bench_for_header_$call=judge_$call"
+    for call in $(sed -n 's/^bench_u32 bench_for_header_\([a-z_0-9]*\)(.*/\1/p' "$here/include/bench.h"); do
+        echo "__typeof__(judge_${call%_[0-9]}) bench_for_header_$call;" >>"$parts/alike.c"
+        set -- "$@" "--defsym=bench_for_header_$call=judge_${call%_[0-9]}"
     done
     for source in "$parts/alike.c" "$here"/conformance/judge/*.c; do object "$source" "$parts/judge-${source##*/}.o"; done
     linked "$program" "$@" "$parts"/*.o

@@ -2,14 +2,16 @@
  * `rt staticlib door` makes; it needs memcpy, memmove and memset, and nothing else.
  *
  * Every call takes any input, ends, and touches nothing but what it is lent. It returns a number: 0 for done, or that of
- * the first refusal, in the order given at the call:
+ * the first refusal, in the order given at the call. (bench_code_read returns a kind, and bench_react what a device does: these
+ * two refuse nothing.)
  *
  *    2 a state that is not sound                8 none that runs may send the kind
  *    3 an area of the wrong length, or one      9 the bit is already so
  *      that cannot be lent (see below)         10 the link is already so
  *    4 no such device or port                  11 an allowance above BENCH_ROUNDS
- *    5 an identifier or a value too great      12 still waiting after the allowance
- *    6 no source or no handler of it           20 to 26 a plan file that is not accepted
+ *    5 an identifier or a value too great,     12 still waiting after the allowance
+ *      or a code that nobody writes            20 to 26 a plan file that is not accepted
+ *    6 no source or no handler of it
  *    7 no port runs, or the port leads nowhere
  *
  * What is wrong with the file: 20 its length; of a block 21 the check, 22 the kind or the number, 23 a field, 24 a byte that has
@@ -70,11 +72,13 @@ enum {
     BENCH_STACK_PROGRAM_SETTLE = 73728, BENCH_STACK_PROGRAM_DECODE = 92160
 };
 
-/* ---- the archive's own symbols: for the functions below, which test what is lent, and for no other caller in C */
+/* ---- the archive's own symbols: for the functions below, which test what is lent, and for no other caller in C. One that had
+ * other parameters once has a number behind its name, so that an object compiled with an older header does not link. */
 
-bench_u32 bench_for_header_code_read(bench_u8 byte, bench_u32 *value);
+bench_u32 bench_for_header_code_read_2(bench_u8 byte, bench_u32 *top, bench_u32 *value);
 bench_u32 bench_for_header_code_write(bench_u32 kind, bench_u32 value, bench_u32 *byte);
-bench_u32 bench_for_header_react(bench_u32 role, bench_u32 running, bench_u32 permissions, bench_u32 *bits, bench_u8 byte);
+bench_u32 bench_for_header_react_2(bench_u32 role, bench_u32 running, bench_u32 permissions, bench_u32 *bits, bench_u8 byte,
+                                 bench_u32 *kind, bench_u32 *top, bench_u32 *value);
 bench_u32 bench_for_header_plan_read(const bench_u8 *file, bench_size file_length, bench_u32 *block);
 bench_u32 bench_for_header_start(const bench_u8 *plan, bench_size plan_length, bench_u32 *state, bench_size state_length);
 bench_u32 bench_for_header_request(const bench_u8 *plan, bench_size plan_length, bench_u32 *state, bench_size state_length,
@@ -159,16 +163,20 @@ static inline void bench_put_none(const struct bench_lent *all, int count, int i
     bench_put(place, 0);
 }
 
-/* ---- codes, and one device: nothing is refused by 3 */
+/* ---- codes, and one device: nothing is refused by 3. A register is read before anything is put. Where places share bytes, the
+ * register is put first, and then the values in the order of the parameters, so that the last one stands. */
 
-/* The kind of the code in a byte; its value, 0 for reserved, goes to *value. */
-static inline bench_u32 bench_code_read(bench_u8 byte, bench_u32 *value) {
-    bench_u32 given, kind = bench_for_header_code_read(byte, &given);
+/* The kind of the code in a byte. Its two top bits go to *top: 0 for a Time-Code, 2 for an interrupt or an acknowledge, 1 or 3 for
+ * reserved. To *value goes the Time-Code's value, the identifier, or the low six bits of a reserved byte; that byte is 64 x top +
+ * value. */
+static inline bench_u32 bench_code_read(bench_u8 byte, bench_u32 *top, bench_u32 *value) {
+    bench_u32 high, given, kind = bench_for_header_code_read_2(byte, &high, &given);
+    bench_put(top, high);
     bench_put(value, given);
     return kind;
 }
 
-/* The byte of a code of a kind goes to *byte. 5: a Time-Code above 63, an identifier above 31, no kind that is written. */
+/* The byte of a code of a kind goes to *byte. 5: a Time-Code above 63, an identifier above 31, reserved, no kind at all. */
 static inline bench_u32 bench_code_write(bench_u32 kind, bench_u32 value, bench_u32 *byte) {
     bench_u32 given, number = bench_for_header_code_write(kind, value, &given);
     bench_put(byte, given);
@@ -176,15 +184,20 @@ static inline bench_u32 bench_code_write(bench_u32 kind, bench_u32 value, bench_
 }
 
 /* One device gets a byte at a port: role 0 for a node, else a router; running 0 for no. Its register is updated where it
- * stands, at bits; null is a register of 0 that nobody wants back. Returns what the device does. */
-static inline bench_u32 bench_react(bench_u32 role, bench_u32 running, bench_u32 permissions, bench_u32 *bits, bench_u8 byte) {
+ * stands, at bits; null is a register of 0 that nobody wants back. Returns what the device does; kind, top and value are those of
+ * the byte, as bench_code_read gives them, whatever is done with it. */
+static inline bench_u32 bench_react(bench_u32 role, bench_u32 running, bench_u32 permissions, bench_u32 *bits, bench_u8 byte,
+                                    bench_u32 *kind, bench_u32 *top, bench_u32 *value) {
     const bench_u8 *from = (const bench_u8 *)bits;
-    bench_u32 held = 0, action;
+    bench_u32 held = 0, of, high, given, action;
     unsigned i;
     for (i = 0; bits && i < sizeof held; i++)
         ((bench_u8 *)&held)[i] = from[i];
-    action = bench_for_header_react(role, running, permissions, &held, byte);
+    action = bench_for_header_react_2(role, running, permissions, &held, byte, &of, &high, &given);
     bench_put(bits, held);
+    bench_put(kind, of);
+    bench_put(top, high);
+    bench_put(value, given);
     return action;
 }
 

@@ -39,7 +39,7 @@ static void say(const char *what, u32 where, size length) {
     done = what;
     place = where;
     copy.length = length;
-    u32 number = try_plan_read(&copy), block = value_given();
+    u32 number = try_plan_read(&copy), block = value_given(0);
     printf("%s %u: %u %u\n", done, place, number, block);
     if (keeps && number)
         keep(number, block);

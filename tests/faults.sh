@@ -57,7 +57,7 @@ slowly() {
     done
 }
 slowly | ends bin/decode
-printed '5 time 5\n128 interrupt 0\n191 acknowledge 31\n192 reserved\n'
+printed '5 time 5\n128 interrupt 0\n191 acknowledge 31\n192 reserved 3 0\n'
 slowly | ends bin/settle
 printed 'bad 20 0\n'
 

@@ -1,7 +1,8 @@
 /* What C can lend and a language with lending would not: areas that share bytes, words that are not aligned, null.
  *
  *     lending pairs < PLAN     every pair of what a call is lent, sharing all, a word or a byte; no alignment; null; lengths
- *                              that no memory has. PLAN is examples/three.plan.
+ *                              that no memory has; for codes and one device, all places of their values together. PLAN is
+ *                              examples/three.plan.
  *     lending text < PLAN      what the program settle prints, by the calls of the header
  *
  * What has to happen is worked out here by another method than the header's: each byte lent is counted. */
@@ -305,23 +306,56 @@ static void try_call(const struct call *of) {
     }
 }
 
-/* Codes and one device refuse nothing by 3: a value goes anywhere, or nowhere. */
+/* ---- codes and one device: nothing is refused by 3, and each value goes anywhere or nowhere */
+
+enum { VALUES = 4, OFFSETS = 8, ANYWHERE = OFFSETS + 1 };
+static bench_u32 *place[VALUES];
+
+/* The front of the arena is filled anew. Each of the values has any place in it, aligned or not, shared or not, or none at all. */
+static void choose(unsigned way) {
+    for (unsigned i = 0; i < VALUES; i++, way /= ANYWHERE)
+        place[i] = way % ANYWHERE < OFFSETS ? (void *)(arena + way % ANYWHERE) : 0;
+    for (unsigned i = 0; i < 2 * OFFSETS; i++)
+        arena[i] = 37 * i + 11;
+    memcpy(wanted, arena, 2 * OFFSETS);
+}
+
+/* Of the values of a call each is to stand where it has a place, over what was put before it, and no other byte has changed. */
+static void must_stand(const bench_u32 *values, unsigned count, bench_u32 returned, bench_u32 due) {
+    for (unsigned i = 0; i < count; i++)
+        if (place[i])
+            memcpy(wanted + ((bench_u8 *)place[i] - arena), &values[i], 4);
+    if (returned != due)
+        fail("what a call over a code returns (should be, is)", due, returned);
+    for (unsigned i = 0; i < 2 * OFFSETS; i++)
+        if (wanted[i] != arena[i])
+            fail("a byte of what a call over a code gives (place, byte)", i, arena[i]);
+}
+
+/* A byte is read; a code is written; a byte comes to a router, whose register stands at the first place and is put there again. */
+static void try_code(bench_u8 byte, bench_u32 kind, bench_u32 top, bench_u32 value, unsigned way) {
+    bench_u32 held = 0;
+    choose(way);
+    must_stand((bench_u32[]){top, value}, 2, bench_code_read(byte, place[0], place[1]), kind);
+    choose(way);
+    must_stand((bench_u32[]){kind == BENCH_RESERVED ? 0 : byte}, 1, bench_code_write(kind, value, place[0]),
+               kind == BENCH_RESERVED ? 5 : 0);
+    choose(way);
+    if (place[0])
+        memcpy(&held, place[0], 4);
+    bench_u32 bit = kind == BENCH_INTERRUPT ? 1u << value : 0;
+    must_stand((bench_u32[]){held | bit, kind, top, value}, 4,
+               bench_react(1, 1, 15, place[0], byte, place[1], place[2], place[3]),
+               !bit ? BENCH_NAMED : held & bit ? BENCH_IGNORED : BENCH_FORWARDED);
+}
+
 static void try_codes(void) {
     call = 0;
-    for (unsigned off = 0; off < 4; off++) {
-        bench_u32 *place = (void *)(arena + off), value = 0;
-        if (bench_code_read(191, place) != BENCH_ACKNOWLEDGE || (memcpy(&value, place, 4), value) != 31)
-            fail("a value at any place (offset, value)", off, value);
-        if (bench_code_write(BENCH_INTERRUPT, 31, place) || (memcpy(&value, place, 4), value) != 159)
-            fail("a byte at any place (offset, value)", off, value);
-        memcpy(place, &(bench_u32){1 << 9}, 4);
-        if (bench_react(1, 1, 15, place, 128 + 5) != BENCH_FORWARDED || (memcpy(&value, place, 4), value) != (1 << 9 | 1 << 5))
-            fail("a register at any place (offset, value)", off, value);
+    for (unsigned way = 0; way < ANYWHERE * ANYWHERE * ANYWHERE * ANYWHERE; way++) {
+        try_code(128 + 9, BENCH_INTERRUPT, 2, 9, way);
+        try_code(64 + 5, BENCH_RESERVED, 1, 5, way);
+        try_code(192 + 63, BENCH_RESERVED, 3, 63, way);
     }
-    if (bench_code_read(191, 0) != BENCH_ACKNOWLEDGE || bench_code_write(BENCH_INTERRUPT, 32, 0) != 5)
-        fail("a value that nobody wants", 0, 0);
-    if (bench_react(0, 1, 15, 0, 128) != BENCH_TOLD_HOST || bench_react(0, 1, 15, 0, 160) != BENCH_IGNORED)
-        fail("a register that nobody wants", 0, 0);
 }
 
 /* ---- the incident: old and next were one area, and all settled after one round */

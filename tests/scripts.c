@@ -1,5 +1,5 @@
 /* Plays a script through the door, and beside it by the judge; prints every call's answer and, round by round, every byte
- * sent and every word told.
+ * sent and every word told; and of a byte that is read, or that arrives, all that is said of it.
  *
  *     scripts < SCRIPT     in the folder of the plans that SCRIPT names
  *
@@ -146,7 +146,31 @@ static void play_rounds(void) {
 
 static void settle_all(void) {
     u32 allowance = number(), answer = try_settle(&plan, &state, allowance);
-    printf("settle %u %u: %u\n", answer, allowance, value_given());
+    printf("settle %u %u: %u\n", answer, allowance, value_given(0));
+}
+
+static const char *const kinds[] = {"time", "interrupt", "acknowledge", "reserved"};
+static const char *const actions[] = {"named", "link-error", "ignored", "forwarded", "told"};
+
+static u8 byte(void) {
+    u32 value = number();
+    if (value > 255)
+        wrong("a byte is at most 255");
+    return value;
+}
+
+/* A byte's kind, its top bits and its value. */
+static void read_byte(void) {
+    u32 kind = try_code_read(byte());
+    printf("%s: %s %u %u\n", line, kinds[kind], value_given(0), value_given(1));
+}
+
+/* A byte arrives at a port of a device with this role and register: what is done, the register afterwards, and the code that is
+ * handed on, as above. */
+static void arrive(void) {
+    u32 role = number(), running = number(), permissions = number(), bits = number();
+    u32 action = try_react(role, running, permissions, &bits, byte());
+    printf("%s: %s %u %s %u %u\n", line, actions[action], bits, kinds[value_given(0)], value_given(1), value_given(2));
 }
 
 /* Areas of the wrong length, several at once, beside a state that is sound. */
@@ -175,7 +199,7 @@ static const struct word {
 } words[] = {
     {"--", print_title}, {"#", pass_over}, {"plan", take_plan}, {"start", start_afresh}, {"request", ask},
     {"acknowledge", acknowledge}, {"link", link}, {"reset", reset}, {"last", put_last}, {"rounds", play_rounds},
-    {"settle", settle_all}, {"lengths", try_lengths}, {"report", print_report},
+    {"settle", settle_all}, {"byte", read_byte}, {"arrives", arrive}, {"lengths", try_lengths}, {"report", print_report},
 };
 
 static const struct word *word_of_line(void) {

@@ -24,13 +24,13 @@ static _Alignas(16) bench_u8 stack[STACK];
 /* What the calls are given. */
 static bench_u8 file[BENCH_FILE + 1], text[BENCH_TEXT];
 static bench_size length, device, handler;
-static bench_u32 k, value, set, answer;
+static bench_u32 k, value, set, bits, kind, top, answer;
 static bench_u32 before[BENCH_STATE], state[BENCH_STATE], next[BENCH_STATE], sent[BENCH_SENT], told[BENCH_TOLD];
 
 /* ---- the calls */
 
 static void code_read(void) {
-    bench_code_read(191, &value);
+    bench_code_read(255, &top, &value);
 }
 
 static void code_write(void) {
@@ -38,7 +38,7 @@ static void code_write(void) {
 }
 
 static void react(void) {
-    bench_react(1, 1, 15, &value, 133);
+    bench_react(1, 1, 15, &bits, 133, &kind, &top, &value);
 }
 
 static void plan_read(void) {

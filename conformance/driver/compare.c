@@ -128,19 +128,25 @@ static u32 finish(u32 judge, u32 bench) {
     return bench;
 }
 
-u32 value_given(void) {
-    u32 value = 0, i = 0;
-    while (i + 1 < lent_count && lents[i].use != VALUE)
-        i++;
-    memcpy(&value, by_bench(&lents[i]), sizeof value);
+u32 value_given(u32 which) {
+    u32 value = 0, values = 0;
+    for (u32 i = 0; i < lent_count; i++)
+        if (lents[i].use == VALUE && values++ == which)
+            memcpy(&value, by_bench(&lents[i]), sizeof value);
+    if (which >= values)
+        fail("a value that the call does not give (which, of how many)", which, values);
     return value;
 }
 
+/* What stands where parts of a code go: no part of any, so that a place which neither of the two writes is seen by what the driver
+ * knows of codes. It takes no random number, so that case 0 goes on to the network that it had before there were these parts. */
+static const u32 no_part = 256;
+
 u32 try_code_read(u8 byte) {
     begin(CODE_READ, byte, 0, 0, 0, 0);
-    struct lent *value = lend("value", VALUE, 4, 0, 1);
-    u32 judge = judge_code_read(byte, by_judge(value));
-    return finish(judge, bench_code_read(byte, by_bench(value)));
+    struct lent *top = lend("top", VALUE, 4, &no_part, 1), *value = lend("value", VALUE, 4, 0, 1);
+    u32 judge = judge_code_read(byte, by_judge(top), by_judge(value));
+    return finish(judge, bench_code_read(byte, by_bench(top), by_bench(value)));
 }
 
 u32 try_code_write(u32 kind, u32 value) {
@@ -150,11 +156,15 @@ u32 try_code_write(u32 kind, u32 value) {
     return finish(judge, bench_code_write(kind, value, by_bench(byte)));
 }
 
-u32 try_react(u32 role, u32 running, u32 permissions, u32 device_register, u8 byte) {
-    begin(REACT, role, running, permissions, device_register, byte);
-    struct lent *bits = lend("register", AREA, 4, &device_register, 1);
-    u32 judge = judge_react(role, running, permissions, by_judge(bits), byte);
-    return finish(judge, bench_react(role, running, permissions, by_bench(bits), byte));
+u32 try_react(u32 role, u32 running, u32 permissions, u32 *device_register, u8 byte) {
+    begin(REACT, role, running, permissions, *device_register, byte);
+    struct lent *bits = lend("register", AREA, 4, device_register, 1), *kind = lend("kind", VALUE, 4, &no_part, 1);
+    struct lent *top = lend("top", VALUE, 4, &no_part, 1), *value = lend("value", VALUE, 4, &no_part, 1);
+    u32 judge = judge_react(role, running, permissions, by_judge(bits), byte, by_judge(kind), by_judge(top), by_judge(value));
+    u32 bench = bench_react(role, running, permissions, by_bench(bits), byte, by_bench(kind), by_bench(top), by_bench(value));
+    finish(judge, bench);
+    memcpy(device_register, by_bench(bits), bits->bytes);
+    return bench;
 }
 
 u32 try_plan_read(const struct plan *plan) {

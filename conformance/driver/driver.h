@@ -62,13 +62,13 @@ struct change {
 
 _Noreturn void fail(const char *what, size one, size other);
 void must_be(const char *what, size wanted, size given);
-u32 value_given(void); /* by the call just tried: plan read its block, settle its rounds */
+u32 value_given(u32 which); /* by the call just tried, from 0 on: plan read its block, settle its rounds, react kind, top, value */
 size compared(void);
 flag all_hit(void);
 void table(void);
 u32 try_code_read(u8 byte);
 u32 try_code_write(u32 kind, u32 value);
-u32 try_react(u32 role, u32 running, u32 permissions, u32 device_register, u8 byte);
+u32 try_react(u32 role, u32 running, u32 permissions, u32 *device_register, u8 byte);
 u32 try_plan_read(const struct plan *plan);
 u32 judge_change(struct change change, const u8 *plan, size plan_length, u32 *state, size state_length);
 u32 try_change(struct change change, const struct plan *plan, struct state *state);
@@ -172,7 +172,7 @@ void try_ports(const struct plan *plan);
 void ports_table(void);
 flag all_ports_tried(void);
 
-/* trials.c, known.c, demand.c, cycle.c and drop.c: what is tried. */
+/* known.c, codes.c, trials.c, demand.c, cycle.c and drop.c: what is tried. */
 void known_values(void);
 void try_tables(void);
 void try_files(struct plan *plan);

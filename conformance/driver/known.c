@@ -160,7 +160,7 @@ static void not_past_a_node(void) {
     seal_devices();
     must_be("the start", 0, try_start(&plan, &state));
     must_be("reach from both ports", 0, try_reach(&plan, &state, 0, 5));
-    must_be("the devices reached", 3, value_given());
+    must_be("the devices reached", 3, value_given(0));
     must_be("the request", 0, try_change((struct change){.call = REQUEST, .device = 0, .other = 5}, &plan, &state));
     must_be("it settles", 0, try_settle(&plan, &state, MOST_ALLOWED));
     must_be("the acknowledge", 0, try_change((struct change){.call = ACKNOWLEDGES, .device = 1, .other = 5}, &plan, &state));
@@ -190,7 +190,7 @@ static void known_ports(void) {
         be_node(&plan, 0, ports);
         seal(&plan, 1);
         must_be("the ports of a node", ports == 1 || ports == 2 ? 0 : 23, try_plan_read(&plan));
-        must_be("the block", ports == 1 || ports == 2 ? 0 : 1, value_given());
+        must_be("the block", ports == 1 || ports == 2 ? 0 : 1, value_given(0));
         be_router(&plan, 0, ports);
         seal(&plan, 1);
         must_be("the ports of a router", ports >= 1 && ports <= 8 ? 0 : 23, try_plan_read(&plan));

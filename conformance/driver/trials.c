@@ -1,27 +1,6 @@
 /* What is tried on a network: files, calls from any state, runs of rounds, settling, reach and reports. */
 #include "driver.h"
 
-/* The whole of what a byte means, and the edges of all else that codes and a device take. */
-void try_tables(void) {
-    const u32 edges[] = {0, 1, 2, 3, 4, 31, 32, 33, 63, 64, 127, 128, 159, 160, 191, 192, 255, 256, 257, 0x10000, 0x80000000,
-                         0x80000001, 0xFFFFFFFF};
-    const u32 truths[] = {0, 1, 0x80000000};
-    enum { EDGES = sizeof edges / sizeof *edges, TRUTHS = sizeof truths / sizeof *truths };
-    for (u32 byte = 0; byte < 256; byte++)
-        try_code_read(byte);
-    for (u32 kind = 0; kind < EDGES; kind++)
-        for (u32 value = 0; value < 70 + EDGES; value++)
-            try_code_write(edges[kind], value < 70 ? value : edges[value - 70]);
-    for (u32 role = 0; role < TRUTHS; role++)
-        for (u32 running = 0; running < TRUTHS; running++)
-            for (u32 permissions = 0; permissions < 16; permissions++)
-                for (u32 byte = 0; byte < 256; byte++) {
-                    u32 bit = 1u << byte % 32, any = random_word(), above = once_in(2) ? random_word() << 4 : 0;
-                    try_react(truths[role], truths[running], permissions | above, any | bit, byte);
-                    try_react(truths[role], truths[running], permissions | above, any & ~bit, byte);
-                }
-}
-
 static size wrong_length(size right) {
     const size lengths[] = {0, 1, right - 1, right + 1, right / 2, 2 * right, pick(2 * right)};
     return lengths[pick(sizeof lengths / sizeof *lengths)];

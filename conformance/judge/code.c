@@ -1,21 +1,27 @@
 /* "Code bytes" and "One device". */
 #include "judge.h"
 
-/* The byte of a code of a kind is this, and its value more. */
-static const u32 first_byte[] = {[TIME_CODE] = 0, [INTERRUPT] = 128, [ACKNOWLEDGE] = 160};
+/* The bytes, row by row, with the two top bits that all bytes of a row have. What a byte is above the first of its row is its
+ * value; of a reserved byte that is the low six. Reserved has two rows, so that only the top bits say which byte it was. */
+static const struct row {
+    u32 first;
+    enum kind kind;
+    u32 top;
+} rows[] = {{0, TIME_CODE, 0}, {64, RESERVED, 1}, {128, INTERRUPT, 2}, {160, ACKNOWLEDGE, 2}, {192, RESERVED, 3}};
 
-struct code code_read(u8 byte) {
-    if (byte <= 63)
-        return (struct code){TIME_CODE, byte};
-    if (byte >= 128 && byte <= 159)
-        return (struct code){INTERRUPT, byte - 128};
-    if (byte >= 160 && byte <= 191)
-        return (struct code){ACKNOWLEDGE, byte - 160};
-    return (struct code){RESERVED, 0};
+static const struct row *row_of(u8 byte) {
+    const struct row *row = rows + sizeof rows / sizeof *rows - 1;
+    while (byte < row->first)
+        row--;
+    return row;
 }
 
+/* Of a kind that is written, which has one row. */
 u32 code_byte(struct code code) {
-    return first_byte[code.kind] + code.value;
+    const struct row *row = rows;
+    while (row->kind != code.kind)
+        row++;
+    return row->first + code.value;
 }
 
 void permit(u32 permissions, flag may_send[], flag may_receive[]) {
@@ -40,10 +46,11 @@ enum action react(flag router, flag running, const flag may_receive[], flag set[
     return router ? FORWARDED : TELLS_HOST;
 }
 
-u32 judge_code_read(u8 byte, u32 *value) {
-    struct code code = code_read(byte);
-    *value = code.value;
-    return code.kind;
+u32 judge_code_read(u8 byte, u32 *top, u32 *value) {
+    const struct row *row = row_of(byte);
+    *top = row->top;
+    *value = byte - row->first;
+    return row->kind;
 }
 
 u32 judge_code_write(u32 kind, u32 value, u32 *byte) {
@@ -56,12 +63,14 @@ u32 judge_code_write(u32 kind, u32 value, u32 *byte) {
     return 0;
 }
 
-u32 judge_react(u32 role, u32 running, u32 permissions, u32 *device_register, u8 byte) {
+/* The code is handed on as it was read, whatever is done with it. */
+u32 judge_react(u32 role, u32 running, u32 permissions, u32 *device_register, u8 byte, u32 *kind, u32 *top, u32 *value) {
     flag may_send[ACKNOWLEDGE + 1], may_receive[ACKNOWLEDGE + 1], set[IDENTIFIERS];
+    *kind = judge_code_read(byte, top, value);
     permit(permissions, may_send, may_receive);
     for (u32 k = 0; k < IDENTIFIERS; k++)
         set[k] = *device_register >> k & 1;
-    enum action action = react(role != 0, running != 0, may_receive, set, code_read(byte));
+    enum action action = react(role != 0, running != 0, may_receive, set, (struct code){*kind, *value});
     *device_register = 0;
     for (u32 k = 0; k < IDENTIFIERS; k++)
         *device_register |= (u32)set[k] << k;

@@ -61,7 +61,6 @@ struct told {
 };
 
 /* code.c: codes, and one device's reaction, which changes the register and says what is done. */
-struct code code_read(u8 byte);
 u32 code_byte(struct code code);
 void permit(u32 permissions, flag may_send[], flag may_receive[]);
 enum action react(flag router, flag running, const flag may_receive[], flag set[], struct code code);
@@ -90,9 +89,9 @@ enum { UNREACHED = DEVICES };
 u32 crossings(const struct network *net, u32 start, enum kind kind, const u32 *within, u32 distance[DEVICES]);
 
 /* The calls, as in include/bench.h. */
-u32 judge_code_read(u8 byte, u32 *value);
+u32 judge_code_read(u8 byte, u32 *top, u32 *value);
 u32 judge_code_write(u32 kind, u32 value, u32 *byte);
-u32 judge_react(u32 role, u32 running, u32 permissions, u32 *device_register, u8 byte);
+u32 judge_react(u32 role, u32 running, u32 permissions, u32 *device_register, u8 byte, u32 *kind, u32 *top, u32 *value);
 u32 judge_plan_read(const u8 *file, size length, u32 *block);
 u32 judge_start(const u8 *plan, size plan_length, u32 *state, size state_length);
 u32 judge_request(const u8 *plan, size plan_length, u32 *state, size state_length, size device, u32 k);

@@ -1,8 +1,8 @@
 -- A round keeps a sound state sound.
-use mathlib.Core.Path.{_≡_, refl, sym, ap, _∙_}
+use mathlib.Core.Path.{_≡_, refl}
 use mathlib.Core.Bool.{Bool, true, false, cond}
 use mathlib.Core.List.{List, [], _∷_, _++_}
-use Prim.Native.Nat.{ℕ, zero, suc, _+_, _*_, _/_, _<_}
+use Prim.Native.Nat.{ℕ, _+_, _*_, _/_, _<_}
 use native.Mathlib.Omega.{arith}
 use lib.Dec.{ltb}
 use lib.ListN.{getD}
@@ -12,7 +12,7 @@ use Rattle.bits.specs.Set.{bit}
 use Rattle.codes.specs.Codes.{byteOf, reads}
 use Rattle.codes.specs.declared.Code.{Code}
 use Rattle.codes.specs.declared.Code.the-variants.{Time, Interrupt, Acknowledge, Reserved}
-use Rattle.codes.proofs.BothWays.{Stands, stands, time, interrupt, acknowledge, reads-interrupt, reads-acknowledge}
+use Rattle.codes.proofs.BothWays.{Stands, stands, time, interrupt, acknowledge, reserved-apart}
 use Rattle.device.specs.Permissions.{mayReceive}
 use Rattle.device.specs.Reaction.{marked, ruled, reactsTo, reacts}
 use Rattle.device.specs.declared.Action.the-variants.{Forwarded, Told}
@@ -59,12 +59,6 @@ takes plan kind k q hands w =
       told = cond hands (w .told) (w .told ++ (toldWord (ofInterrupt + kind) (q / 8) k ∷ []));
     }
 
--- no byte of a code reads as reserved
-not-reserved : (kind k : ℕ) → kind < 2 → k < 32 → reads (byteOf kind k) ≡ Reserved → ⊥
-not-reserved zero k g l e = let z : _≡_ {A = ℕ} 0 1 = cc (reads-interrupt k l) in omega arith
-not-reserved (suc zero) k g l e = let z : _≡_ {A = ℕ} 0 1 = cc (reads-acknowledge k l) in omega arith
-not-reserved (suc (suc n)) k g l e = absurd (omega arith)
-
 -- a code comes that the port is open to, and the device takes it in, and hands it on if it is a router; or none comes, and nothing changes; what is so
 -- in both cases is so of what arrives
 module _ (plan : Plan) (sent : List ℕ) (q : ℕ) (w : World) (P : World → Type 0)
@@ -110,12 +104,12 @@ module _ (plan : Plan) (sent : List ℕ) (q : ℕ) (w : World) (P : World → Ty
         ruled-cases (λ r. P (after plan q w r)) side bits kind k code refused refused
         (λ o. by-role (router plan (q / 8)) (taken kind k g l e (record { runs = eqb-true (running (w .state) q) 1 (o .runs); may = o .may; stood = o .stood })))
 
-  reacts-taken : (code : Code) → reads byte ≡ code → Stands byte code → P (after plan q w (reactsTo side bits code))
+  reacts-taken : (code : Code) → Stands byte code → P (after plan q w (reactsTo side bits code))
   unfolding reactsTo acted timed forwarded tells mark
-  reacts-taken (Time v) is (time h) = unchanged (left (λ kind k g l e. absurd (omega arith)))
-  reacts-taken Reserved is p = unchanged (left (λ kind k g l e o. not-reserved kind k g l (ap reads (sym e) ∙ is)))
-  reacts-taken (Interrupt k) is (interrupt l e) = ruled-taken 0 k (omega arith) (omega arith) (omega arith) (Interrupt k) refl (λ t. refl) refl
-  reacts-taken (Acknowledge k) is (acknowledge l e) = ruled-taken 1 k (omega arith) (omega arith) (omega arith) (Acknowledge k) refl (λ t. refl) refl
+  reacts-taken (Time v) (time h) = unchanged (left (λ kind k g l e. absurd (omega arith)))
+  reacts-taken (Reserved top low) p = unchanged (left (λ kind k g l e o. reserved-apart kind k p g l e))
+  reacts-taken (Interrupt k) (interrupt l e) = ruled-taken 0 k (omega arith) (omega arith) (omega arith) (Interrupt k) refl (λ t. refl) refl
+  reacts-taken (Acknowledge k) (acknowledge l e) = ruled-taken 1 k (omega arith) (omega arith) (omega arith) (Acknowledge k) refl (λ t. refl) refl
 
   pub arrives-taken : P (arrives plan sent q w)
   unfolding arrives arrived reacts
@@ -123,7 +117,7 @@ module _ (plan : Plan) (sent : List ℕ) (q : ℕ) (w : World) (P : World → Ty
     where
       by-test : (t : Bool) → ltb byte nothing ≡ t → P (arrives plan sent q w)
       by-test false e = rw e (left (λ kind k g l o. absurd (omega (arith, ltb-false byte nothing e))))
-      by-test true e = rw e (reacts-taken (reads byte) refl (stands byte))
+      by-test true e = rw e (reacts-taken (reads byte) (stands byte))
 
 -- nothing changes; or a router marks the code and queues it at its other ports; or a node marks it and tells its host
 module _ (plan : Plan) (sent : List ℕ) (q : ℕ) (w : World) (P : World → Type 0) (left : P w)

@@ -42,7 +42,7 @@ most load permissions q (Forwarded code) w = omega arith
 most load permissions q (Told (Interrupt k)) w = simp length-append (omega arith)
 most load permissions q (Told (Acknowledge k)) w = simp length-append (omega arith)
 most load permissions q (Told (Time v)) w = simp length-append (omega arith)
-most load permissions q (Told Reserved) w = simp length-append (omega arith)
+most load permissions q (Told (Reserved top low)) w = simp length-append (omega arith)
 most load permissions q (Named code) w = omega arith
 most load permissions q (LinkError code) w = omega arith
 most load permissions q (Ignored code) w = omega arith
@@ -57,7 +57,7 @@ module _ (load : ℕ → ℕ) (permissions : List ℕ) (q : ℕ) (side : Side) (
   reacts-silent : (code : Code) → acted load permissions q (reactsTo side register code .action) w .told ≡ w .told
   unfolding acted reactsTo
   reacts-silent (Time v) = refl
-  reacts-silent Reserved = refl
+  reacts-silent (Reserved top low) = refl
   reacts-silent (Interrupt k) = ruled-silent 0 k (Interrupt k)
   reacts-silent (Acknowledge k) = ruled-silent 1 k (Acknowledge k)
 

@@ -90,21 +90,21 @@ unfoldable pub timed : (ℕ → ℕ) → ℕ → Code → State → State
 timed load d (Interrupt k) s = put s (timerAt d k) (load k)
 timed load d (Acknowledge k) s = put s (timerAt d k) 0
 timed load d (Time v) s = s
-timed load d Reserved s = s
+timed load d (Reserved top low) s = s
 
 -- a forwarded code waits at every other port of the device
 unfoldable pub forwarded : List ℕ → ℕ → Code → State → State
 forwarded permissions q (Interrupt k) s = queueAllAt permissions 0 k (q / 8) q s
 forwarded permissions q (Acknowledge k) s = queueAllAt permissions 1 k (q / 8) q s
 forwarded permissions q (Time v) s = s
-forwarded permissions q Reserved s = s
+forwarded permissions q (Reserved top low) s = s
 
 -- what a host is told of a code
 unfoldable pub tells : ℕ → Code → List ℕ
 tells d (Interrupt k) = toldWord ofInterrupt d k ∷ []
 tells d (Acknowledge k) = toldWord ofAcknowledge d k ∷ []
 tells d (Time v) = []
-tells d Reserved = []
+tells d (Reserved top low) = []
 
 -- port q's side of a reaction
 abbrev pub sideAt : Bool → List ℕ → ℕ → State → Side

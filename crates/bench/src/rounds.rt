@@ -184,7 +184,7 @@ fn time(code: Code, loads: [u16; 2], role: u8, d: usize, state: &mut [u32])
         }
         Code::Acknowledge(k) => state[DEVICE * d + 1 + k as usize] = 0,
         Code::Time(_) => {}
-        Code::Reserved => {}
+        Code::Reserved(_, _) => {}
     }
 }
 
@@ -197,7 +197,7 @@ fn forward(code: Code, permissions: &[u8; 256], q: usize, state: &mut [u32])
         Code::Interrupt(k) => state::queue_all(state, permissions, q / 8, q, 0, k as u32),
         Code::Acknowledge(k) => state::queue_all(state, permissions, q / 8, q, 1, k as u32),
         Code::Time(_) => {}
-        Code::Reserved => {}
+        Code::Reserved(_, _) => {}
     }
 }
 
@@ -210,7 +210,7 @@ fn inform(code: Code, d: usize, told: &mut [u32], count: usize) -> usize
         Code::Interrupt(k) => tell(told, count, OF_INTERRUPT, d, k as u32),
         Code::Acknowledge(k) => tell(told, count, OF_ACKNOWLEDGE, d, k as u32),
         Code::Time(_) => count,
-        Code::Reserved => count,
+        Code::Reserved(_, _) => count,
     }
 }
 

@@ -1,4 +1,5 @@
--- RULES, "Code bytes": the two numbers of a code, its kind and its value.
+-- RULES, "Code bytes": the three numbers of a code, its kind, its top bits and its value.
+use mathlib.Core.Path.{_≡_}
 use mathlib.Core.Bool.{cond}
 use Prim.Native.Nat.{ℕ}
 use lib.Dec.{eqb}
@@ -10,15 +11,26 @@ abbrev pub kindOf : Code → ℕ
 kindOf (Time v) = 0
 kindOf (Interrupt k) = 1
 kindOf (Acknowledge k) = 2
-kindOf Reserved = 3
+kindOf (Reserved top low) = 3
 
--- the value: that of a Time-Code, or the identifier; 0 for reserved
+-- the two top bits of its byte
+abbrev pub topOf : Code → ℕ
+topOf (Time v) = 0
+topOf (Interrupt k) = 2
+topOf (Acknowledge k) = 2
+topOf (Reserved top low) = top
+
+-- the value: that of a Time-Code, the identifier, or the low six bits of a reserved byte
 abbrev pub valueOf : Code → ℕ
 valueOf (Time v) = v
 valueOf (Interrupt k) = k
 valueOf (Acknowledge k) = k
-valueOf Reserved = 0
+valueOf (Reserved top low) = low
 
--- the code of a kind and a value; 3, and a number that is no kind, stand for reserved
-unfoldable pub codeOf : ℕ → ℕ → Code
-codeOf kind v = cond (eqb kind 0) (Time v) (cond (eqb kind 1) (Interrupt v) (cond (eqb kind 2) (Acknowledge v) Reserved))
+-- three numbers are those of a code
+abbrev pub Says : Code → ℕ → ℕ → ℕ → Type 0
+Says code kind top value = (kind ≡ kindOf code) × (top ≡ topOf code) × (value ≡ valueOf code)
+
+-- the code of three numbers; the top bits count for reserved only, which is kind 3 and any number that is no kind
+unfoldable pub codeOf : ℕ → ℕ → ℕ → Code
+codeOf kind top v = cond (eqb kind 0) (Time v) (cond (eqb kind 1) (Interrupt v) (cond (eqb kind 2) (Acknowledge v) (Reserved top v)))

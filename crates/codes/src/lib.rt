@@ -8,12 +8,13 @@ pub const INTERRUPTS: u8 = 128;
 
 pub const ACKNOWLEDGES: u8 = 160;
 
-// What a byte says. A value above 63 or an identifier above 31 has no byte.
+// What a byte says. A value above 63 or an identifier above 31 has no byte. A reserved byte says its two
+// top bits, 1 or 3, and its low six.
 pub enum Code {
     Time(u8),
     Interrupt(u8),
     Acknowledge(u8),
-    Reserved,
+    Reserved(u8, u8),
 }
 
 // What writing a code gives: its byte, or refusal 5.
@@ -30,7 +31,7 @@ pub fn read(byte: u8) -> Code
         return Code::Time(byte);
     }
     if byte < INTERRUPTS {
-        return Code::Reserved;
+        return Code::Reserved(1, byte - 64);
     }
     if byte < ACKNOWLEDGES {
         return Code::Interrupt(byte - INTERRUPTS);
@@ -38,7 +39,7 @@ pub fn read(byte: u8) -> Code
     if byte < 192 {
         return Code::Acknowledge(byte - ACKNOWLEDGES);
     }
-    Code::Reserved
+    Code::Reserved(3, byte - 192)
 }
 
 // The byte of a code: the one that reads as it. Reserved has no writer.
@@ -49,7 +50,7 @@ pub fn write(code: Code) -> Written
         Code::Time(value) => placed(0, 63, value),
         Code::Interrupt(k) => placed(INTERRUPTS, 31, k),
         Code::Acknowledge(k) => placed(ACKNOWLEDGES, 31, k),
-        Code::Reserved => Written::Refused,
+        Code::Reserved(_, _) => Written::Refused,
     }
 }
 

@@ -1,5 +1,5 @@
 -- What a reaction can change: only the bit of the identifier concerned; nothing for a Time-Code or a reserved byte; and nothing for
--- an accepted code that comes again.
+-- an accepted code that comes again. What it hands on: the code that was read.
 use mathlib.Core.Path.{_≡_, refl, sym, ap, _∙_}
 use mathlib.Core.Bool.{Bool, true, false, cond}
 use mathlib.Core.Logic.{_⊎_, inl, inr, _≢_}
@@ -8,11 +8,11 @@ use native.Mathlib.Omega.{arith}
 use lib.Dec.{eqb}
 use Rattle.bits.specs.Set.{bit, join, leave}
 use Rattle.bits.proofs.Sets.{join-same, join-other, leave-same, leave-other}
-use Rattle.codes.specs.Codes.{reads}
+use Rattle.codes.specs.Codes.{reads, cameAs}
 use Rattle.codes.specs.declared.Code.{Code}
 use Rattle.codes.specs.declared.Code.the-variants.{Time, Interrupt, Acknowledge, Reserved}
-use Rattle.codes.proofs.BothWays.{Stands, stands, interrupt, acknowledge}
-use Rattle.device.specs.Reaction.{marked, kept, ruled, reactsTo, reacts}
+use Rattle.codes.proofs.BothWays.{Stands, stands, interrupt, acknowledge, byte-comes-back}
+use Rattle.device.specs.Reaction.{marked, kept, ruled, reactsTo, reacts, codeIn}
 use Rattle.device.specs.declared.Action.{Action}
 use Rattle.device.specs.declared.Action.the-variants.{Named, LinkError, Ignored, Forwarded, Told}
 use Rattle.device.specs.declared.Reaction.{Reaction}
@@ -82,7 +82,7 @@ module _ (side : Side) (register : ℕ) where
     where
       by-code : (c : Code) → (c ≡ Interrupt j → ⊥) → (c ≡ Acknowledge j → ⊥) → bit (reactsTo side register c .register) j ≡ bit register j
       by-code (Time v) n m = refl
-      by-code Reserved n m = refl
+      by-code (Reserved top low) n m = refl
       by-code (Interrupt k) n m = ruled-other 0 k (Interrupt k) j h (λ e. n (ap Interrupt (sym e)))
       by-code (Acknowledge k) n m = ruled-other 1 k (Acknowledge k) j h (λ e. m (ap Acknowledge (sym e)))
 
@@ -92,9 +92,33 @@ module _ (side : Side) (register : ℕ) where
   unfolding reacts reactsTo
   time-changes-nothing byte v e = ap (reactsTo side register) e
 
-  pub reserved-changes-nothing : (byte : ℕ) → reads byte ≡ Reserved → reacts side register byte ≡ kept register (Named Reserved)
+  pub reserved-changes-nothing : (byte top low : ℕ) → reads byte ≡ Reserved top low → reacts side register byte ≡ kept register (Named (Reserved top low))
   unfolding reacts reactsTo
-  reserved-changes-nothing byte e = ap (reactsTo side register) e
+  reserved-changes-nothing byte top low e = ap (reactsTo side register) e
+
+  -- ---- whatever is done with a byte, its code is handed on
+
+  ruled-hands-on : (kind k : ℕ) (code : Code) → codeIn (ruled side register kind k code .action) ≡ code
+  ruled-hands-on kind k code =
+      ruled-cases (λ r. codeIn (r .action) ≡ code) side register kind k code (λ n. refl) (λ n. refl) (λ o. by-role (side .router))
+    where
+      by-role : (router : Bool) → codeIn (cond router (Forwarded code) (Told code)) ≡ code
+      by-role true = refl
+      by-role false = refl
+
+  pub hands-on : (byte : ℕ) → codeIn (reacts side register byte .action) ≡ reads byte
+  unfolding reacts reactsTo
+  hands-on byte = by-code (reads byte)
+    where
+      by-code : (c : Code) → codeIn (reactsTo side register c .action) ≡ c
+      by-code (Time v) = refl
+      by-code (Reserved top low) = refl
+      by-code (Interrupt k) = ruled-hands-on 0 k (Interrupt k)
+      by-code (Acknowledge k) = ruled-hands-on 1 k (Acknowledge k)
+
+  -- so that it shows which byte came
+  pub shows-the-byte : (byte : ℕ) → cameAs (codeIn (reacts side register byte .action)) ≡ byte
+  shows-the-byte byte = ap cameAs (hands-on byte) ∙ byte-comes-back byte
 
   -- ---- an accepted code that comes again at once is ignored
 
@@ -128,6 +152,6 @@ module _ (side : Side) (register : ℕ) where
       by-code : (c : Code) → Stands byte c → Accepted (reactsTo side register c .action) code
           → reactsTo side (reactsTo side register c .register) c ≡ kept (reactsTo side register c .register) (Ignored code)
       by-code (Time v) s a = absurd (not-accepted (Named (Time v)) code (omega arith) a)
-      by-code Reserved s a = absurd (not-accepted (Named Reserved) code (omega arith) a)
+      by-code (Reserved top low) s a = absurd (not-accepted (Named (Reserved top low)) code (omega arith) a)
       by-code (Interrupt k) (interrupt l e) a = ruled-twice 0 k (Interrupt k) code (omega arith) (omega arith) a
       by-code (Acknowledge k) (acknowledge l e) a = ruled-twice 1 k (Acknowledge k) code (omega arith) (omega arith) a

@@ -37,7 +37,7 @@ module _ (side : Side) (register : ℕ) where
 
   unfoldable pub reactsTo : Code → Reaction
   reactsTo (Time v) = kept register (Named (Time v))
-  reactsTo Reserved = kept register (Named Reserved)
+  reactsTo (Reserved top low) = kept register (Named (Reserved top low))
   reactsTo (Interrupt k) = ruled 0 k (Interrupt k)
   reactsTo (Acknowledge k) = ruled 1 k (Acknowledge k)
 
@@ -51,3 +51,11 @@ actionOf (LinkError code) = 1
 actionOf (Ignored code) = 2
 actionOf (Forwarded code) = 3
 actionOf (Told code) = 4
+
+-- the code that it hands on
+abbrev pub codeIn : Action → Code
+codeIn (Named code) = code
+codeIn (LinkError code) = code
+codeIn (Ignored code) = code
+codeIn (Forwarded code) = code
+codeIn (Told code) = code

@@ -1,3 +1,4 @@
 pub mod Files
 pub mod Own
 pub mod Unique
+pub mod Handed

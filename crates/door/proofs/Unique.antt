@@ -6,8 +6,9 @@ use Prim.Native.Nat.{ℕ}
 use native.Mathlib.Decide.{ℕ-discrete}
 use Rattle.answers.specs.Answer.{Answer}
 use Rattle.codes.specs.Codes.{reads, writes}
-use Rattle.codes.specs.Numbers.{kindOf, valueOf, codeOf}
-use Rattle.device.specs.Reaction.{reacts, actionOf}
+use Rattle.codes.specs.Numbers.{Says, codeOf}
+use Rattle.codes.specs.declared.Code.{Code}
+use Rattle.device.specs.Reaction.{reacts, codeIn}
 use Rattle.device.specs.declared.Reaction.{Reaction}
 use Rattle.plan.specs.Refusals.{verdict}
 use Rattle.plan.specs.Reading.{planOf}
@@ -25,33 +26,32 @@ use Rattle.reach.specs.Reach.{Reaches}
 use Rattle.reach.proofs.Unique.{reach-unique}
 use Rattle.report.specs.Report.{Areas as Texts, lent}
 use Rattle.report.proofs.Unique.{report-unique}
-use Rattle.door.specs.Numbers.{nonzero, sideOf}
+use Rattle.door.specs.Numbers.{nonzero, sideOf, Reacts}
 use Rattle.door.specs.OnFile.{OnFile, Changes, Gives}
 use Rattle.door.specs.Own.{own, SettlesOwn, ReportsOwn}
 
--- two numbers that a definition gives
-abbrev pub Two : ℕ → ℕ → Type 0
-Two x y = (r s v w : ℕ) → (r ≡ x) × (v ≡ y) → (s ≡ x) × (w ≡ y) → (r ≡ s) × (v ≡ w)
-
-two : (x y : ℕ) → Two x y
-two x y r s v w p q = (p .0 ∙ sym (q .0), p .1 ∙ sym (q .1))
-
 -- ---- codes, and one device
 
-pub bench-for-header-code-read-unique : (byte : ℕ) → Two (kindOf (reads byte)) (valueOf (reads byte))
-bench-for-header-code-read-unique byte = two (kindOf (reads byte)) (valueOf (reads byte))
+-- the three numbers of a code
+says-once : (code : Code) {k l t u v w : ℕ} → Says code k t v → Says code l u w → (k ≡ l) × (t ≡ u) × (v ≡ w)
+says-once code p q = (p .0 ∙ sym (q .0), p .1 ∙ sym (q .1), p .2 ∙ sym (q .2))
 
-pub bench-for-header-code-write-unique : (kind value r s v w : ℕ)
-    → record { number = r; value = v } ≡ writes (codeOf kind value) → record { number = s; value = w } ≡ writes (codeOf kind value) → (r ≡ s) × (v ≡ w)
+pub bench-for-header-code-read-2-unique : (byte k l t u v w : ℕ) → Says (reads byte) k t v → Says (reads byte) l u w → (k ≡ l) × (t ≡ u) × (v ≡ w)
+bench-for-header-code-read-2-unique byte k l t u v w = says-once (reads byte)
+
+pub bench-for-header-code-write-unique : (kind value r s v w : ℕ) → ((top : ℕ) → record { number = r; value = v } ≡ writes (codeOf kind top value))
+    → ((top : ℕ) → record { number = s; value = w } ≡ writes (codeOf kind top value)) → (r ≡ s) × (v ≡ w)
 bench-for-header-code-write-unique kind value r s v w p q =
-    let e = p ∙ sym q in (ap (λ (a : Answer). a .number) e, ap (λ (a : Answer). a .value) e)
+    let e = p 0 ∙ sym (q 0) in (ap (λ (a : Answer). a .number) e, ap (λ (a : Answer). a .value) e)
 
 module _ (role running permissions register byte : ℕ) where
   abbrev reaction : Reaction
   reaction = reacts (sideOf role running permissions) register byte
 
-  pub bench-for-header-react-unique : Two (actionOf (reaction .action)) (reaction .register)
-  bench-for-header-react-unique = two (actionOf (reaction .action)) (reaction .register)
+  pub bench-for-header-react-2-unique : (r s b c k l t u v w : ℕ) → Reacts reaction r b k t v → Reacts reaction s c l u w
+      → (r ≡ s) × (b ≡ c) × ((k ≡ l) × (t ≡ u) × (v ≡ w))
+  bench-for-header-react-2-unique r s b c k l t u v w p q =
+      (p .0 ∙ sym (q .0), p .1 ∙ sym (q .1), says-once (codeIn (reaction .action)) (p .2) (q .2))
 
 -- ---- the calls over a file
 
@@ -78,8 +78,9 @@ module _ (file : List ℕ) where
       on-file-once file (λ plan. call plan before m v a) (λ plan. call plan before n w b) m n (once before m n v w a b)
       (λ e x y. (e, x .0 ∙ sym (y .0), x .1 ∙ sym (y .1)))
 
-  pub bench-for-header-plan-read-unique : Two (verdict file .number) (verdict file .at)
-  bench-for-header-plan-read-unique = two (verdict file .number) (verdict file .at)
+  pub bench-for-header-plan-read-unique : (r s v w : ℕ) → (r ≡ verdict file .number) × (v ≡ verdict file .at)
+      → (s ≡ verdict file .number) × (w ≡ verdict file .at) → (r ≡ s) × (v ≡ w)
+  bench-for-header-plan-read-unique r s v w p q = (p .0 ∙ sym (q .0), p .1 ∙ sym (q .1))
 
   pub bench-for-header-start-unique : Once (Changes file Starts)
   bench-for-header-start-unique = changes-once Starts (start-unique (planOf file))

@@ -1,7 +1,11 @@
--- RULES, "The C door": the numbers that stand in C for yes and no, and for a port's side.
+-- RULES, "The C door": the numbers that stand in C for yes and no, for a port's side, and for a reaction.
+use mathlib.Core.Path.{_≡_}
 use mathlib.Core.Bool.{Bool, not}
 use Prim.Native.Nat.{ℕ}
 use lib.Dec.{eqb}
+use Rattle.codes.specs.Numbers.{Says}
+use Rattle.device.specs.Reaction.{actionOf, codeIn}
+use Rattle.device.specs.declared.Reaction.{Reaction}
 use Rattle.device.specs.declared.Side.{Side}
 
 -- 0 is no, and any other number yes
@@ -11,3 +15,8 @@ nonzero n = not (eqb n 0)
 -- the port's side of a reaction
 abbrev pub sideOf : ℕ → ℕ → ℕ → Side
 sideOf role running permissions = record { router = nonzero role; running = nonzero running; permissions = permissions }
+
+-- numbers for what is done, for the register afterwards, and for the code that is handed on
+abbrev pub Reacts : Reaction → ℕ → ℕ → ℕ → ℕ → ℕ → Type 0
+Reacts reaction action register kind top value =
+    (action ≡ actionOf (reaction .action)) × (register ≡ reaction .register) × Says (codeIn (reaction .action)) kind top value

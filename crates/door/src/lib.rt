@@ -3,16 +3,17 @@
 // does not; the header tests it. A plan is the bytes of its file, which each call reads first: it answers
 // the reader's number where the file is not accepted, so that no call meets a plan that it refuses by 1.
 ghost use mathlib.Core.Path.{_≡_};
+ghost use Prim.Native.Nat.{ℕ};
 ghost use Rattle.codes.specs.Codes.{reads, writes};
-ghost use Rattle.codes.specs.Numbers.{kindOf, valueOf, codeOf};
-ghost use Rattle.device.specs.Reaction.{reacts, actionOf};
+ghost use Rattle.codes.specs.Numbers.{kindOf, topOf, valueOf, Says, codeOf};
+ghost use Rattle.device.specs.Reaction.{reacts, actionOf, codeIn};
 ghost use Rattle.plan.specs.Refusals.{verdict};
 ghost use Rattle.state.specs.Start.{Starts};
 ghost use Rattle.calls.specs.Calls.{Takes, Links, Resets};
 ghost use Rattle.bench.specs.RoundCall.{Plays};
 ghost use Rattle.bench.specs.Round.{areas};
 ghost use Rattle.reach.specs.Reach.{Reaches};
-ghost use Rattle.door.specs.Numbers.{nonzero, sideOf};
+ghost use Rattle.door.specs.Numbers.{nonzero, sideOf, Reacts};
 ghost use Rattle.door.specs.OnFile.{OnFile, Changes, Gives};
 ghost use Rattle.door.specs.Own.{SettlesOwn, ReportsOwn};
 use codes::Code;
@@ -29,7 +30,18 @@ fn kind_of(code: Code) -> u32
         Code::Time(_) => 0,
         Code::Interrupt(_) => 1,
         Code::Acknowledge(_) => 2,
-        Code::Reserved => 3,
+        Code::Reserved(_, _) => 3,
+    }
+}
+
+fn top_of(code: Code) -> u32
+    ensures { λ r. ⌜ r ≡ topOf code ⌝ }
+{
+    match code {
+        Code::Time(_) => 0,
+        Code::Interrupt(_) => 2,
+        Code::Acknowledge(_) => 2,
+        Code::Reserved(top, _) => top as u32,
     }
 }
 
@@ -40,18 +52,19 @@ fn value_of(code: Code) -> u32
         Code::Time(v) => v as u32,
         Code::Interrupt(k) => k as u32,
         Code::Acknowledge(k) => k as u32,
-        Code::Reserved => 0,
+        Code::Reserved(_, low) => low as u32,
     }
 }
 
+// Top bits are left out: only a reserved code has some that its kind does not say, and none is written.
 fn code_of(kind: u32, value: u8) -> Code
-    ensures { λ r. ⌜ r ≡ codeOf kind value ⌝ }
+    ensures { λ r. ⌜ r ≡ codeOf kind 0 value ⌝ }
 {
     match kind {
         0 => Code::Time(value),
         1 => Code::Interrupt(value),
         2 => Code::Acknowledge(value),
-        _ => Code::Reserved,
+        _ => Code::Reserved(0, value),
     }
 }
 
@@ -67,22 +80,36 @@ fn action_of(action: Action) -> u32
     }
 }
 
+fn code_in(action: Action) -> Code
+    ensures { λ r. ⌜ r ≡ codeIn action ⌝ }
+{
+    match action {
+        Action::Named(code) => code,
+        Action::LinkError(code) => code,
+        Action::Ignored(code) => code,
+        Action::Forwarded(code) => code,
+        Action::Told(code) => code,
+    }
+}
+
 // ---- codes, and one device
 
-// The kind of the code in a byte, and its value.
+// The kind of the code in a byte, its top bits and its value.
 #[no_mangle]
-pub extern "C" fn bench_for_header_code_read(byte: u8, value: &mut u32) -> u32
-    ensures { λ r. ⌜ (r ≡ kindOf (reads byte)) × (now (value .exit) ≡ valueOf (reads byte)) ⌝ }
+pub extern "C" fn bench_for_header_code_read_2(byte: u8, top: &mut u32, value: &mut u32) -> u32
+    ensures { λ r. ⌜ Says (reads byte) r (now (top .exit)) (now (value .exit)) ⌝ }
 {
     let code = codes::read(byte);
+    *top = top_of(code);
     *value = value_of(code);
     kind_of(code)
 }
 
-// The byte of a code, or refusal 5. No code has a value above 63.
+// The byte of a code, or refusal 5: whatever top bits it would have, a reserved code is not written. No
+// code has a value above 63.
 #[no_mangle]
 pub extern "C" fn bench_for_header_code_write(kind: u32, value: u32, byte: &mut u32) -> u32
-    ensures { λ r. ⌜ record { number = r; value = now (byte .exit) } ≡ writes (codeOf kind value) ⌝ }
+    ensures { λ r. ⌜ ((top : ℕ) → record { number = r; value = now (byte .exit) } ≡ writes (codeOf kind top value)) ⌝ }
 {
     if 63 < value {
         *byte = 0;
@@ -96,16 +123,19 @@ pub extern "C" fn bench_for_header_code_write(kind: u32, value: u32, byte: &mut 
     0
 }
 
-// What a device does with a byte that arrives; its register is updated.
+// What a device does with a byte that arrives, and the code that it hands on; its register is updated.
 #[no_mangle]
-pub extern "C" fn bench_for_header_react(
+pub extern "C" fn bench_for_header_react_2(
     role: u32,
     running: u32,
     permissions: u32,
     bits: &mut u32,
     byte: u8,
+    kind: &mut u32,
+    top: &mut u32,
+    value: &mut u32,
 ) -> u32
-    ensures { λ r. ⌜ (r ≡ actionOf (reacts (sideOf role running permissions) (now (bits .entry)) byte .action)) × (now (bits .exit) ≡ reacts (sideOf role running permissions) (now (bits .entry)) byte .register) ⌝ }
+    ensures { λ r. ⌜ Reacts (reacts (sideOf role running permissions) (now (bits .entry)) byte) r (now (bits .exit)) (now (kind .exit)) (now (top .exit)) (now (value .exit)) ⌝ }
 {
     let side = Side {
         router: role != 0,
@@ -115,6 +145,10 @@ pub extern "C" fn bench_for_header_react(
     let reaction = device::react(side, *bits, byte);
     *bits = reaction.register;
     let action = reaction.action;
+    let code = code_in(action);
+    *kind = kind_of(code);
+    *top = top_of(code);
+    *value = value_of(code);
     action_of(action)
 }
 

@@ -89,7 +89,7 @@ computed = valuesFrom sixth
 pub stated : Values
 stated =
     record {
-      codes = Time 63 ∷ Reserved ∷ Reserved ∷ Interrupt 0 ∷ Interrupt 31 ∷ Acknowledge 0 ∷ Acknowledge 31 ∷ Reserved ∷ [];
+      codes = Time 63 ∷ Reserved 1 0 ∷ Reserved 1 63 ∷ Interrupt 0 ∷ Interrupt 31 ∷ Acknowledge 0 ∷ Acknowledge 31 ∷ Reserved 3 0 ∷ [];
       choices =
           record { byte = byteOf 0 9; next = 10 }
           ∷ record { byte = byteOf 0 5; next = 6 }

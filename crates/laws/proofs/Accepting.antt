@@ -42,7 +42,7 @@ module _ (side : Side) (bits : ℕ) where
   bits-left : (code : Code) → accepts (reactsTo side bits code .action) ≡ false → reactsTo side bits code .register ≡ bits
   unfolding reactsTo
   bits-left (Time v) e = refl
-  bits-left Reserved e = refl
+  bits-left (Reserved top low) e = refl
   bits-left (Interrupt k) e = ruled-left 0 k (Interrupt k) e
   bits-left (Acknowledge k) e = ruled-left 1 k (Acknowledge k) e
 
@@ -57,7 +57,7 @@ module _ (side : Side) (bits : ℕ) where
       → Accepts side bits kind k
   unfolding reactsTo accepts
   opened byte kind k e g l (Time v) s a = absurd (false≢true a)
-  opened byte kind k e g l Reserved s a = absurd (false≢true a)
+  opened byte kind k e g l (Reserved top low) s a = absurd (false≢true a)
   opened byte kind k e g l (Interrupt j) (interrupt m o) a = opened-by kind k 0 j (omega arith) (omega arith) (Interrupt j) a
   opened byte kind k e g l (Acknowledge j) (acknowledge m o) a = opened-by kind k 1 j (omega arith) (omega arith) (Acknowledge j) a
 
@@ -66,7 +66,7 @@ module _ (side : Side) (bits : ℕ) where
       → reactsTo side bits code ≡ accepted side bits 0 k (Interrupt k)
   unfolding reactsTo accepts
   taken byte k e l (Time v) s a = absurd (false≢true a)
-  taken byte k e l Reserved s a = absurd (false≢true a)
+  taken byte k e l (Reserved top low) s a = absurd (false≢true a)
   taken byte k e l (Acknowledge j) (acknowledge m o) a = absurd (omega arith)
   taken byte k e l (Interrupt j) (interrupt m o) a =
       let here : j ≡ k = omega arith in

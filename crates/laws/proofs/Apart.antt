@@ -280,7 +280,7 @@ module _ {k : ℕ} (l : k < 32) (plan : Plan) (q : ℕ) (h : q < 256) where
         → Follow (reactsTo side a code) (reactsTo side b code)
     unfolding reactsTo acted timed forwarded mark
     reacts-both side byte kind g e (Time n) c = unchanged
-    reacts-both side byte kind g e Reserved c = unchanged
+    reacts-both side byte kind g e (Reserved top low) c = unchanged
     reacts-both side byte kind g e (Interrupt j) (interrupt m o) =
         let is : j ≡ k = omega arith in
         rw is

@@ -3,3 +3,4 @@ pub mod Apart
 pub mod Timers
 pub mod Telling
 pub mod Requested
+pub mod Emitted

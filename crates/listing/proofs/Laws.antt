@@ -13,18 +13,19 @@ use Rattle.text.specs.Text.{ascii}
 use Rattle.text.proofs.Decimal.{decimal-short}
 use Rattle.listing.specs.Listing.{name, line, lines, longest}
 
-name-short : (b : ℕ) (c : Code) → Stands b c → length (name c) ≤ 14
+name-short : (b : ℕ) (c : Code) → b < 256 → Stands b c → length (name c) ≤ 14
 unfolding name ascii
-name-short b _ (time l) = omega (arith, decimal-short 1 b (omega arith))
-name-short b _ (interrupt {k} l e) = omega (arith, decimal-short 1 k (omega arith))
-name-short b _ (acknowledge {k} l e) = omega (arith, decimal-short 1 k (omega arith))
-name-short b _ reserved = omega arith
+name-short b _ h (time l) = omega (arith, decimal-short 1 b (omega arith))
+name-short b _ h (interrupt {k} l e) = omega (arith, decimal-short 1 k (omega arith))
+name-short b _ h (acknowledge {k} l e) = omega (arith, decimal-short 1 k (omega arith))
+name-short b _ h (reserved {top} {low} u l e) =
+    simp length-append (omega (arith, decimal-short 0 top (omega arith), decimal-short 1 low (omega arith)))
 
 -- no line of a byte is longer than the longest
 pub line-short : (b : ℕ) → b < 256 → length (line b) ≤ longest
 unfolding line ascii
 line-short b h =
-    simp length-append (omega (arith, decimal-short 2 b (omega arith), name-short b (reads b) (stands b)))
+    simp length-append (omega (arith, decimal-short 2 b (omega arith), name-short b (reads b) h (stands b)))
 
 lines-append : (a b : List ℕ) → lines (a ++ b) ≡ lines a ++ lines b
 unfolding lines

@@ -9,12 +9,12 @@ use Rattle.codes.specs.declared.Code.the-variants.{Time, Interrupt, Acknowledge
 use Rattle.areas.specs.Put.{over}
 use Rattle.text.specs.Text.{ascii, decimal}
 
--- what a code is called, with its value
+-- what a code is called, with its value, or with the top bits and the low six of a reserved byte
 unfoldable pub name : Code → List ℕ
 name (Time v) = ascii "time " ++ decimal v
 name (Interrupt k) = ascii "interrupt " ++ decimal k
 name (Acknowledge k) = ascii "acknowledge " ++ decimal k
-name Reserved = ascii "reserved"
+name (Reserved top low) = ascii "reserved " ++ decimal top ++ (ascii " " ++ decimal low)
 
 -- the byte, a space, what it says, and the line's end
 unfoldable pub line : ℕ → List ℕ

@@ -4,6 +4,7 @@ ghost use Prim.Native.Nat.{_+_, _≤_};
 ghost use lib.ListN.{length};
 ghost use Rattle.areas.specs.Put.{Puts};
 ghost use Rattle.text.specs.Text.{decimal};
+ghost use Rattle.codes.specs.declared.Code.the-variants.{Reserved};
 ghost use Rattle.listing.specs.Listing.{name, line, Lists};
 use codes::Code;
 
@@ -52,8 +53,17 @@ fn put_name(page: &mut [u8], at: usize, code: Code) -> usize
         Code::Time(value) => put_valued(page, at, b"time ", value),
         Code::Interrupt(k) => put_valued(page, at, b"interrupt ", k),
         Code::Acknowledge(k) => put_valued(page, at, b"acknowledge ", k),
-        Code::Reserved => areas::put(page, at, b"reserved"),
+        Code::Reserved(top, low) => put_reserved(page, at, top, low),
     }
+}
+
+// What a reserved byte says: its two top bits, and its low six.
+fn put_reserved(page: &mut [u8], at: usize, top: u8, low: u8) -> usize
+    requires { ⌜ at + length (name (Reserved top low)) ≤ length (now page) ⌝ }
+    ensures { λ r. ⌜ Puts (now (page .entry)) at (name (Reserved top low)) (now (page .exit)) r ⌝ }
+{
+    let after = put_valued(page, at, b"reserved ", top);
+    put_valued(page, after, b" ", low)
 }
 
 // A word, and a number after it.

@@ -20,7 +20,7 @@ neither : (side : Side) (register : ℕ) (code : Code) → OneOf (0 ∷ 2 ∷ 3 
     → kept register (Named code) ≡ reactsTo side register code
 unfolding reactsTo
 neither side register (Time v) p q = refl
-neither side register Reserved p q = refl
+neither side register (Reserved top low) p q = refl
 neither side register (Interrupt k) p q = absurd (⊎-elim (λ e. omega arith) (λ o. ⊎-elim (λ e. omega arith) (λ e. omega arith) o) p)
 neither side register (Acknowledge k) p q = absurd (⊎-elim (λ e. omega arith) (λ o. ⊎-elim (λ e. omega arith) (λ e. omega arith) o) q)
 

@@ -1,20 +1,20 @@
 use mathlib.Core.Path.{sym, ap, _∙_}
 use borrow.Author.Needs.{needs}
 use Rattle.codes.specs.Codes.{writes, answerOf}
-use Rattle.codes.proofs.Numbers.{no-byte}
+use Rattle.codes.proofs.Numbers.{any-top, no-byte}
 use Rattle.door.proofs.bench_for_header_code_write.Statement.{statement}
 use Rattle.door.proofs.bench_for_header_code_write.Tie as tie
 
 returns : tie.Need-returns
-returns c = sym (no-byte _ _ (c .if1 .taken))
+returns c top = sym (no-byte _ top _ (c .if1 .taken))
 
 returns-2 : tie.Need-returns-2
 unfolding answerOf
-returns-2 c = sym (ap answerOf (c .enum-told .given .1)) ∙ c .before .before .write .ensures ∙ ap writes (c .before .before .before .code-of .ensures)
+returns-2 c top = sym (ap answerOf (c .enum-told .given .1)) ∙ c .before .before .write .ensures ∙ ap writes (c .before .before .before .code-of .ensures) ∙ any-top _ 0 top _
 
 returns-3 : tie.Need-returns-3
 unfolding answerOf
-returns-3 c = sym (ap answerOf (c .before .b .given .1)) ∙ c .before .before .before .write .ensures ∙ ap writes (c .before .before .before .before .code-of .ensures)
+returns-3 c top = sym (ap answerOf (c .before .b .given .1)) ∙ c .before .before .before .write .ensures ∙ ap writes (c .before .before .before .before .code-of .ensures) ∙ any-top _ 0 top _
 
 code-of-requires : tie.Need-code-of-requires
 code-of-requires c κs = search needs

@@ -32,11 +32,10 @@ unfolding name ascii
 returns-3 c = rw (c .before .before .before .before .before .before .code3 .given .1) (c .before .before .put-valued3 .ensures)
 
 returns-4 : tie.Need-returns-4
-unfolding name ascii
-returns-4 c = rw (c .before .before .before .before .before .enum-told .given .1) (c .before .before .put .ensures)
+returns-4 c = rw (c .before .before .before .before .before .code4 .given .1) (c .before .before .put-reserved .ensures)
 
-put-requires : tie.Need-put-requires
-put-requires c κs = search needs
+put-reserved-requires : tie.Need-put-reserved-requires
+put-reserved-requires c κs = omega (arith, ap (λ x. length (name x)) (c .before .before .code4 .given .1))
 
 pub put-name-spec : {M : Type 1} → statement M
 put-name-spec =
@@ -52,8 +51,7 @@ put-name-spec =
     (λ c. search needs)
     put-valued-requires-3
     (λ c. search needs)
-    (λ c. search needs)
-    put-requires
+    put-reserved-requires
     (λ c. search needs)
     returns
     (λ c. search needs)

@@ -1,0 +1,112 @@
+/* The whole of what a byte means, and the edges of all else that codes and one device take. What has to be so is said by known
+ * values, by single bits and by sums, and not by the judge: so an error that judge and bench share is found as well. */
+#include "driver.h"
+
+enum { BYTES = 256, VALUES = 70 };
+
+struct reading {
+    u32 kind, top, value;
+};
+
+static struct reading readings[BYTES]; /* what the bench read in each byte */
+
+static const u32 edges[] = {0, 1, 2, 3, 4, 31, 32, 33, 63, 64, 127, 128, 159, 160, 191, 192, 255, 256, 257, 0x10000, 0x80000000,
+                            0x80000001, 0xFFFFFFFF};
+static const u32 truths[] = {0, 1, 0x80000000};
+enum { EDGES = sizeof edges / sizeof *edges, TRUTHS = sizeof truths / sizeof *truths };
+
+static const struct known {
+    u8 byte;
+    struct reading reading;
+} knowns[] = {{0, {0, 0, 0}}, {63, {0, 0, 63}}, {64, {3, 1, 0}}, {127, {3, 1, 63}}, {128, {1, 2, 0}}, {159, {1, 2, 31}},
+              {160, {2, 2, 0}}, {191, {2, 2, 31}}, {192, {3, 3, 0}}, {255, {3, 3, 63}}};
+
+static void must_read(const struct reading *wanted, const struct reading *given) {
+    must_be("the kind in a byte", wanted->kind, given->kind);
+    must_be("its two top bits", wanted->top, given->top);
+    must_be("its value", wanted->value, given->value);
+}
+
+static void check_known(u32 byte) {
+    for (u32 i = 0; i < sizeof knowns / sizeof *knowns; i++)
+        if (knowns[i].byte == byte)
+            must_read(&knowns[i].reading, &readings[byte]);
+}
+
+/* Bit 6 makes a byte reserved. Without it bit 7 says that it is no Time-Code, and beside that bit 5 that it is an acknowledge. */
+static u32 kind_by_bits(u32 byte) {
+    return byte & 64 ? RESERVED : !(byte & 128) ? TIME_CODE : byte & 32 ? ACKNOWLEDGE : INTERRUPT;
+}
+
+/* The parts give the byte back, and none goes over into the next. An acknowledge is 32 above the interrupt of its identifier. */
+static void check_parts(u32 byte) {
+    const struct reading *read = &readings[byte];
+    flag handled = read->kind == INTERRUPT || read->kind == ACKNOWLEDGE;
+    must_be("the kind by the byte's bits", kind_by_bits(byte), read->kind);
+    must_be("its value is below 64, or 32 for an identifier", 1, read->value < (handled ? 32 : 64));
+    must_be("its parts together", byte, 64 * read->top + (read->kind == ACKNOWLEDGE ? 32 : 0) + read->value);
+    if (read->kind == RESERVED)
+        must_be("its two top bits are 1 or 3", 1, read->top == 1 || read->top == 3);
+}
+
+/* No byte below this one reads as the same. */
+static void check_alone(u32 byte) {
+    for (u32 other = 0; other < byte; other++)
+        if (!memcmp(&readings[other], &readings[byte], sizeof *readings))
+            fail("two bytes that read as the same", other, byte);
+}
+
+static void try_reading(u32 byte) {
+    u32 kind = try_code_read(byte);
+    readings[byte] = (struct reading){kind, value_given(0), value_given(1)};
+    check_known(byte);
+    check_parts(byte);
+    check_alone(byte);
+}
+
+/* The byte in which a code was read, or BYTES for none. For reserved it is none too, as nobody writes that. */
+static u32 byte_of(u32 kind, u32 value) {
+    u32 byte = 0;
+    while (byte < BYTES && (kind == RESERVED || readings[byte].kind != kind || readings[byte].value != value))
+        byte++;
+    return byte;
+}
+
+/* What was read is written as its byte, and all else is refused. */
+static void try_writing(u32 kind, u32 value) {
+    u32 byte = byte_of(kind, value);
+    must_be("a code is written, or refused", byte < BYTES ? 0 : 5, try_code_write(kind, value));
+    must_be("the byte of a code, or 0", byte < BYTES ? byte : 0, value_given(0));
+}
+
+/* Whatever is done with a code, it is handed on as it was read. A Time-Code and a reserved byte are named, and nothing else is.
+ * What is forwarded or told has turned its bit round, and all else leaves the register as it was. */
+static void try_reaction(u32 role, u32 running, u32 permissions, u32 before, u32 byte) {
+    u32 after = before, action = try_react(role, running, permissions, &after, byte);
+    const struct reading *read = &readings[byte];
+    must_read(read, &(struct reading){value_given(0), value_given(1), value_given(2)});
+    must_be("whether a byte is named", read->kind == TIME_CODE || read->kind == RESERVED, action == NAMED);
+    flag taken = action == FORWARDED || action == TELLS_HOST;
+    must_be("the register then", taken ? before ^ 1u << read->value : before, after);
+}
+
+/* With the bit of the byte's identifier, and without it, among any others, among none and among all. */
+static void try_registers(u32 role, u32 running, u32 permissions, u32 byte) {
+    u32 bit = 1u << byte % 32, any = random_word(), above = once_in(2) ? random_word() << 4 : 0;
+    const u32 registers[] = {any | bit, any & ~bit, bit, ~bit, 0, 0xFFFFFFFF};
+    for (u32 i = 0; i < sizeof registers / sizeof *registers; i++)
+        try_reaction(role, running, permissions | above, registers[i], byte);
+}
+
+void try_tables(void) {
+    for (u32 byte = 0; byte < BYTES; byte++)
+        try_reading(byte);
+    for (u32 kind = 0; kind < EDGES; kind++)
+        for (u32 value = 0; value < VALUES + EDGES; value++)
+            try_writing(edges[kind], value < VALUES ? value : edges[value - VALUES]);
+    for (u32 role = 0; role < TRUTHS; role++)
+        for (u32 running = 0; running < TRUTHS; running++)
+            for (u32 permissions = 0; permissions < 16; permissions++)
+                for (u32 byte = 0; byte < BYTES; byte++)
+                    try_registers(truths[role], truths[running], permissions, byte);
+}
