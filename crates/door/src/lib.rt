@@ -2,6 +2,8 @@
 // nobody else in C. A promise here holds where what is lent is apart, which the language sees to and C
 // does not; the header tests it. A plan is the bytes of its file, which each call reads first: it answers
 // the reader's number where the file is not accepted, so that no call meets a plan that it refuses by 1.
+// A number behind a name: the function had other parameters once, and what was compiled for those must
+// not link.
 ghost use mathlib.Core.Path.{_≡_};
 ghost use Prim.Native.Nat.{ℕ};
 ghost use Rattle.codes.specs.Codes.{reads, writes};
