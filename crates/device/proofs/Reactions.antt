@@ -1,18 +1,19 @@
--- What a reaction can change: only the bit of the identifier concerned; nothing for a Time-Code or a reserved byte; and nothing for
--- an accepted code that comes again. What it hands on: the code that was read.
-use mathlib.Core.Path.{_≡_, refl, sym, ap, _∙_}
+-- What a reaction can change: of the register only the bit of the identifier concerned; the counter where a Time-Code comes, and nothing else
+-- then; nothing for a reserved byte, or for an accepted code that comes again. What it hands on: the code that was read.
+use mathlib.Core.Path.{_≡_, refl, sym, ap, subst, _∙_}
 use mathlib.Core.Bool.{Bool, true, false, cond}
 use mathlib.Core.Logic.{_⊎_, inl, inr, _≢_}
 use Prim.Native.Nat.{ℕ, zero, suc, _-_, _<_}
 use native.Mathlib.Omega.{arith}
 use lib.Dec.{eqb}
+use borrow.Author.Tests.{ne-eqb}
 use Rattle.bits.specs.Set.{bit, join, leave}
 use Rattle.bits.proofs.Sets.{join-same, join-other, leave-same, leave-other}
 use Rattle.codes.specs.Codes.{reads, cameAs}
 use Rattle.codes.specs.declared.Code.{Code}
 use Rattle.codes.specs.declared.Code.the-variants.{Time, Interrupt, Acknowledge, Reserved}
-use Rattle.codes.proofs.BothWays.{Stands, stands, interrupt, acknowledge, byte-comes-back}
-use Rattle.device.specs.Reaction.{marked, kept, ruled, reactsTo, reacts, codeIn}
+use Rattle.codes.proofs.BothWays.{Stands, stands, time, interrupt, acknowledge, byte-comes-back}
+use Rattle.device.specs.Reaction.{marked, kept, nextTime, passedOn, ruled, counted, reactsTo, reacts, codeIn}
 use Rattle.device.specs.declared.Action.{Action}
 use Rattle.device.specs.declared.Action.the-variants.{Named, LinkError, Ignored, Forwarded, Told}
 use Rattle.device.specs.declared.Reaction.{Reaction}
@@ -61,97 +62,125 @@ unfolding rank
 not-accepted action code h (inl e) = omega (arith, ap rank e)
 not-accepted action code h (inr e) = omega (arith, ap rank e)
 
--- and it carries the code
-carries : (router : Bool) (code of : Code) → Accepted (cond router (Forwarded code) (Told code)) of → code ≡ of
-carries true code of (inl e) = cc
-carries true code of (inr e) = absurd (let z : _≡_ {A = ℕ} 0 1 = cc in omega arith)
-carries false code of (inl e) = absurd (let z : _≡_ {A = ℕ} 0 1 = cc in omega arith)
-carries false code of (inr e) = cc
-
-module _ (side : Side) (register : ℕ) where
+module _ (side : Side) (register counter : ℕ) where
   -- ---- only the bit of the identifier concerned can change
 
-  ruled-other : (kind k : ℕ) (code : Code) (j : ℕ) → j < 32 → j ≢ k → bit (ruled side register kind k code .register) j ≡ bit register j
+  ruled-other : (kind k : ℕ) (code : Code) (j : ℕ) → j < 32 → j ≢ k → bit (ruled side register counter kind k code .register) j ≡ bit register j
   ruled-other kind k code j h ne =
-      ruled-cases (λ r. bit (r .register) j ≡ bit register j) side register kind k code (λ n. refl) (λ n. refl) (λ o. marked-other kind register k j h ne)
+      ruled-cases (λ r. bit (r .register) j ≡ bit register j) side register counter kind k code (λ n. refl) (λ n. refl) (λ o. marked-other kind register k j h ne)
 
   pub only-its-own-bit : (byte j : ℕ) → j < 32 → (reads byte ≡ Interrupt j → ⊥) → (reads byte ≡ Acknowledge j → ⊥)
-      → bit (reacts side register byte .register) j ≡ bit register j
-  unfolding reacts reactsTo
+      → bit (reacts side register counter byte .register) j ≡ bit register j
+  unfolding reacts reactsTo counted
   only-its-own-bit byte j h n m = by-code (reads byte) n m
     where
-      by-code : (c : Code) → (c ≡ Interrupt j → ⊥) → (c ≡ Acknowledge j → ⊥) → bit (reactsTo side register c .register) j ≡ bit register j
+      by-code : (c : Code) → (c ≡ Interrupt j → ⊥) → (c ≡ Acknowledge j → ⊥) → bit (reactsTo side register counter c .register) j ≡ bit register j
       by-code (Time v) n m = refl
       by-code (Reserved top low) n m = refl
       by-code (Interrupt k) n m = ruled-other 0 k (Interrupt k) j h (λ e. n (ap Interrupt (sym e)))
       by-code (Acknowledge k) n m = ruled-other 1 k (Acknowledge k) j h (λ e. m (ap Acknowledge (sym e)))
 
-  -- ---- time and reserved bytes change nothing
+  -- ---- a Time-Code changes the counter alone, any other code no counter, and a reserved byte nothing
 
-  pub time-changes-nothing : (byte v : ℕ) → reads byte ≡ Time v → reacts side register byte ≡ kept register (Named (Time v))
-  unfolding reacts reactsTo
-  time-changes-nothing byte v e = ap (reactsTo side register) e
+  pub time-counts : (byte v : ℕ) → reads byte ≡ Time v → (reacts side register counter byte .register ≡ register) × (reacts side register counter byte .counter ≡ v)
+  unfolding reacts reactsTo counted
+  time-counts byte v e = rw e (refl, refl)
 
-  pub reserved-changes-nothing : (byte top low : ℕ) → reads byte ≡ Reserved top low → reacts side register byte ≡ kept register (Named (Reserved top low))
+  pub only-time-counts : (byte : ℕ) → ((v : ℕ) → reads byte ≡ Time v → ⊥) → reacts side register counter byte .counter ≡ counter
   unfolding reacts reactsTo
-  reserved-changes-nothing byte top low e = ap (reactsTo side register) e
+  only-time-counts byte n = by-code (reads byte) n
+    where
+      by-rule : (kind k : ℕ) (code : Code) → ruled side register counter kind k code .counter ≡ counter
+      by-rule kind k code = ruled-cases (λ r. r .counter ≡ counter) side register counter kind k code (λ n. refl) (λ n. refl) (λ o. refl)
+
+      by-code : (c : Code) → ((v : ℕ) → c ≡ Time v → ⊥) → reactsTo side register counter c .counter ≡ counter
+      by-code (Time v) n = absurd (n v refl)
+      by-code (Reserved top low) n = refl
+      by-code (Interrupt k) n = by-rule 0 k (Interrupt k)
+      by-code (Acknowledge k) n = by-rule 1 k (Acknowledge k)
+
+  pub reserved-changes-nothing : (byte top low : ℕ) → reads byte ≡ Reserved top low
+      → reacts side register counter byte ≡ kept register counter (Named (Reserved top low))
+  unfolding reacts reactsTo
+  reserved-changes-nothing byte top low e = ap (reactsTo side register counter) e
 
   -- ---- whatever is done with a byte, its code is handed on
 
-  ruled-hands-on : (kind k : ℕ) (code : Code) → codeIn (ruled side register kind k code .action) ≡ code
-  ruled-hands-on kind k code =
-      ruled-cases (λ r. codeIn (r .action) ≡ code) side register kind k code (λ n. refl) (λ n. refl) (λ o. by-role (side .router))
-    where
-      by-role : (router : Bool) → codeIn (cond router (Forwarded code) (Told code)) ≡ code
-      by-role true = refl
-      by-role false = refl
+  passed-hands-on : (router : Bool) (code : Code) → codeIn (cond router (Forwarded code) (Told code)) ≡ code
+  passed-hands-on true code = refl
+  passed-hands-on false code = refl
 
-  pub hands-on : (byte : ℕ) → codeIn (reacts side register byte .action) ≡ reads byte
-  unfolding reacts reactsTo
+  ruled-hands-on : (kind k : ℕ) (code : Code) → codeIn (ruled side register counter kind k code .action) ≡ code
+  ruled-hands-on kind k code =
+      ruled-cases (λ r. codeIn (r .action) ≡ code) side register counter kind k code (λ n. refl) (λ n. refl) (λ o. passed-hands-on (side .router) code)
+
+  pub hands-on : (byte : ℕ) → codeIn (reacts side register counter byte .action) ≡ reads byte
+  unfolding reacts reactsTo counted
   hands-on byte = by-code (reads byte)
     where
-      by-code : (c : Code) → codeIn (reactsTo side register c .action) ≡ c
-      by-code (Time v) = refl
+      by-value : (v : ℕ) (new : Bool) → codeIn (cond new (passedOn side register counter (Time v)) (Named (Time v))) ≡ Time v
+      by-value v true = passed-hands-on (side .router) (Time v)
+      by-value v false = refl
+
+      by-code : (c : Code) → codeIn (reactsTo side register counter c .action) ≡ c
+      by-code (Time v) = by-value v (eqb v (nextTime counter))
       by-code (Reserved top low) = refl
       by-code (Interrupt k) = ruled-hands-on 0 k (Interrupt k)
       by-code (Acknowledge k) = ruled-hands-on 1 k (Acknowledge k)
 
   -- so that it shows which byte came
-  pub shows-the-byte : (byte : ℕ) → cameAs (codeIn (reacts side register byte .action)) ≡ byte
+  pub shows-the-byte : (byte : ℕ) → cameAs (codeIn (reacts side register counter byte .action)) ≡ byte
   shows-the-byte byte = ap cameAs (hands-on byte) ∙ byte-comes-back byte
 
-  -- ---- an accepted code that comes again at once is ignored
+  -- ---- an accepted code that comes again at once changes nothing: it is ignored, and a Time-Code named
 
   -- what the rule saw where it accepted, and what it made of it
-  record Saw (kind k : ℕ) (code of : Code) (r : Reaction) : Type 0 where
+  record Saw (kind k : ℕ) (r : Reaction) : Type 0 where
     accepts : Accepts side register kind k
     next : r .register ≡ marked kind register k
-    same : code ≡ of
+    counts : r .counter ≡ counter
 
-  saw : (kind k : ℕ) (code of : Code) → Accepted (ruled side register kind k code .action) of → Saw kind k code of (ruled side register kind k code)
+  saw : (kind k : ℕ) (code : Code) → Accepted (ruled side register counter kind k code .action) code → Saw kind k (ruled side register counter kind k code)
   unfolding rank
-  saw kind k code of =
-      ruled-cases (λ r. Accepted (r .action) of → Saw kind k code of r) side register kind k code
-      (λ n a. absurd (not-accepted (LinkError code) of (omega arith) a))
-      (λ n a. absurd (not-accepted (Ignored code) of (omega arith) a))
-      (λ o a. record { accepts = o; next = refl; same = carries (side .router) code of a })
+  saw kind k code =
+      ruled-cases (λ r. Accepted (r .action) code → Saw kind k r) side register counter kind k code
+      (λ n a. absurd (not-accepted (LinkError code) code (omega arith) a))
+      (λ n a. absurd (not-accepted (Ignored code) code (omega arith) a))
+      (λ o a. record { accepts = o; next = refl; counts = refl })
 
-  ruled-twice : (kind k : ℕ) (code of : Code) → kind < 2 → k < 32 → Accepted (ruled side register kind k code .action) of
-      → ruled side (ruled side register kind k code .register) kind k code ≡ kept (ruled side register kind k code .register) (Ignored of)
-  ruled-twice kind k code of h g a =
-      let w = saw kind k code of a in
-      rw (w .next)
-      (sym (opposite side (marked kind register k) kind k code (w .accepts .runs) (w .accepts .may) (omega (arith, marked-same kind register k h g)))
-      ∙ ap (λ (c : Code). kept (marked kind register k) (Ignored c)) (w .same))
+  -- what comes of it once more
+  abbrev Again : (ℕ → ℕ → Reaction) → Action → Type 0
+  Again rule action = let r = rule register counter in rule (r .register) (r .counter) ≡ kept (r .register) (r .counter) action
 
-  pub accepted-twice : (byte : ℕ) (code : Code) → Accepted (reacts side register byte .action) code
-      → reacts side (reacts side register byte .register) byte ≡ kept (reacts side register byte .register) (Ignored code)
-  unfolding reacts reactsTo rank
-  accepted-twice byte code a = by-code (reads byte) (stands byte) a
+  ruled-twice : (kind k : ℕ) (code : Code) → kind < 2 → k < 32 → Accepted (ruled side register counter kind k code .action) code
+      → Again (λ bits count. ruled side bits count kind k code) (Ignored code)
+  ruled-twice kind k code h g a =
+      let w = saw kind k code a in
+      rw (w .next, w .counts)
+      (sym (opposite side (marked kind register k) counter kind k code (w .accepts .runs) (w .accepts .may) (omega (arith, marked-same kind register k h g))))
+
+  counted-twice : (v : ℕ) → v < 64 → Again (λ bits count. counted side bits count v) (Named (Time v))
+  unfolding counted
+  counted-twice v h = rw (ne-eqb v (nextTime v) (omega arith))
+
+  -- so a code that was accepted just before is dropped
+  pub dropped : Code → Action
+  dropped (Time v) = Named (Time v)
+  dropped (Reserved top low) = Ignored (Reserved top low)
+  dropped (Interrupt k) = Ignored (Interrupt k)
+  dropped (Acknowledge k) = Ignored (Acknowledge k)
+
+  pub accepted-twice : (byte : ℕ) (code : Code) → Accepted (reacts side register counter byte .action) code
+      → Again (λ bits count. reacts side bits count byte) (dropped code)
+  unfolding reacts reactsTo rank dropped
+  accepted-twice byte code a = subst (λ c. Accepted (reacts side register counter byte .action) c → Again (λ bits count. reacts side bits count byte) (dropped c)) (carried a) (by-code (reads byte) (stands byte)) a
     where
-      by-code : (c : Code) → Stands byte c → Accepted (reactsTo side register c .action) code
-          → reactsTo side (reactsTo side register c .register) c ≡ kept (reactsTo side register c .register) (Ignored code)
-      by-code (Time v) s a = absurd (not-accepted (Named (Time v)) code (omega arith) a)
-      by-code (Reserved top low) s a = absurd (not-accepted (Named (Reserved top low)) code (omega arith) a)
-      by-code (Interrupt k) (interrupt l e) a = ruled-twice 0 k (Interrupt k) code (omega arith) (omega arith) a
-      by-code (Acknowledge k) (acknowledge l e) a = ruled-twice 1 k (Acknowledge k) code (omega arith) (omega arith) a
+      carried : Accepted (reacts side register counter byte .action) code → reads byte ≡ code
+      carried (inl e) = sym (hands-on byte) ∙ ap codeIn e
+      carried (inr e) = sym (hands-on byte) ∙ ap codeIn e
+
+      by-code : (c : Code) → Stands byte c → Accepted (reactsTo side register counter c .action) c → Again (λ bits count. reactsTo side bits count c) (dropped c)
+      by-code (Time v) (time h) a = counted-twice v (omega arith)
+      by-code (Reserved top low) s a = absurd (not-accepted (Named (Reserved top low)) (Reserved top low) (omega arith) a)
+      by-code (Interrupt k) (interrupt l e) a = ruled-twice 0 k (Interrupt k) (omega arith) (omega arith) a
+      by-code (Acknowledge k) (acknowledge l e) a = ruled-twice 1 k (Acknowledge k) (omega arith) (omega arith) a

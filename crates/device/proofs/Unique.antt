@@ -16,5 +16,5 @@ may-receive-unique kind permissions r s p q = p ∙ sym q
 pub marked-unique : (kind register k r s : ℕ) → r ≡ marked kind register k → s ≡ marked kind register k → r ≡ s
 marked-unique kind register k r s p q = p ∙ sym q
 
-pub react-unique : (side : Side) (register byte : ℕ) (r s : Reaction) → r ≡ reacts side register byte → s ≡ reacts side register byte → r ≡ s
-react-unique side register byte r s p q = p ∙ sym q
+pub react-unique : (side : Side) (register counter byte : ℕ) (r s : Reaction) → r ≡ reacts side register counter byte → s ≡ reacts side register counter byte → r ≡ s
+react-unique side register counter byte r s p q = p ∙ sym q

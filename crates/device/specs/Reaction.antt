@@ -1,6 +1,6 @@
 -- RULES, "One device": the reaction to a byte (000, 2.2 o and w, 2.3.2 d and e, 2.3.3 e and f).
 use mathlib.Core.Bool.{cond}
-use Prim.Native.Nat.{ℕ}
+use Prim.Native.Nat.{ℕ, _+_, _%_}
 use lib.Dec.{eqb}
 use Rattle.bits.specs.Set.{bit, join, leave}
 use Rattle.codes.specs.Codes.{reads}
@@ -17,27 +17,39 @@ unfoldable pub marked : ℕ → ℕ → ℕ → ℕ
 marked kind register k = cond (eqb kind 0) (join register k) (cond (eqb kind 1) (leave register k) register)
 
 -- nothing changes
-abbrev pub kept : ℕ → Action → Reaction
-kept register action = record { register = register; action = action }
+abbrev pub kept : ℕ → ℕ → Action → Reaction
+kept register counter action = record { register = register; counter = counter; action = action }
+
+-- the value of a Time-Code that follows upon a counter
+abbrev pub nextTime : ℕ → ℕ
+nextTime counter = (counter + 1) % 64
 
 -- a port's side: whether its device is a router, whether it runs, its permissions
-module _ (side : Side) (register : ℕ) where
-  -- accepted: the bit changes, a router forwards, a node tells its host
+module _ (side : Side) (register counter : ℕ) where
+  -- a router forwards, a node tells its host
+  abbrev pub passedOn : Code → Action
+  passedOn code = cond (side .router) (Forwarded code) (Told code)
+
+  -- accepted: the bit changes, and the code is passed on
   abbrev pub accepted : ℕ → ℕ → Code → Reaction
-  accepted kind k code = record { register = marked kind register k; action = cond (side .router) (Forwarded code) (Told code) }
+  accepted kind k code = record { register = marked kind register k; counter = counter; action = passedOn code }
 
   -- a code of a kind: a port not running, no permission, then the bit, which an interrupt finds 0 and an acknowledge 1
   unfoldable pub ruled : ℕ → ℕ → Code → Reaction
   ruled kind k code =
       cond (side .running)
       (cond (mayReceive kind (side .permissions))
-      (cond (eqb (bit register k) kind) (accepted kind k code) (kept register (Ignored code)))
-      (kept register (Ignored code)))
-      (kept register (LinkError code))
+      (cond (eqb (bit register k) kind) (accepted kind k code) (kept register counter (Ignored code)))
+      (kept register counter (Ignored code)))
+      (kept register counter (LinkError code))
+
+  -- a Time-Code becomes the counter's value, and is passed on where that is one more than it was; the register stays
+  unfoldable pub counted : ℕ → Reaction
+  counted v = kept register v (cond (eqb v (nextTime counter)) (passedOn (Time v)) (Named (Time v)))
 
   unfoldable pub reactsTo : Code → Reaction
-  reactsTo (Time v) = kept register (Named (Time v))
-  reactsTo (Reserved top low) = kept register (Named (Reserved top low))
+  reactsTo (Time v) = counted v
+  reactsTo (Reserved top low) = kept register counter (Named (Reserved top low))
   reactsTo (Interrupt k) = ruled 0 k (Interrupt k)
   reactsTo (Acknowledge k) = ruled 1 k (Acknowledge k)
 

@@ -1,8 +1,10 @@
 // What one device does with a byte that arrives at one of its ports (draft 000, 2.2 and 2.3).
 // An Interrupt-Code and an acknowledge go by one rule, over the kind: 0 interrupt, 1 acknowledge.
 ghost use mathlib.Core.Path.{_≡_};
+ghost use mathlib.Core.Bool.{cond};
 ghost use Rattle.device.specs.Permissions.{maySend, mayReceive};
-ghost use Rattle.device.specs.Reaction.{marked as Reaction·marked, ruled as Reaction·ruled, reacts};
+ghost use Rattle.device.specs.declared.Action.the-variants.{Forwarded, Told};
+ghost use Rattle.device.specs.Reaction.{marked as Reaction·marked, ruled as Reaction·ruled, counted as Reaction·counted, reacts};
 use codes::Code;
 
 // What becomes of the code.
@@ -21,8 +23,10 @@ pub struct Side {
     pub permissions: u32,
 }
 
+// The register and the counter afterwards, and what becomes of the code.
 pub struct Reaction {
     pub register: u32,
+    pub counter: u32,
     pub action: Action,
 }
 
@@ -61,55 +65,70 @@ pub fn marked(kind: u8, register: u32, k: u8) -> u32
     register
 }
 
-// The reaction to a byte. Only an Interrupt-Code and an acknowledge get as far as the register.
-pub fn react(side: Side, register: u32, byte: u8) -> Reaction
-    ensures { λ r. ⌜ r ≡ reacts side register byte ⌝ }
+// The reaction to a byte. Only an Interrupt-Code and an acknowledge get as far as the register, and
+// only a Time-Code changes the counter; one above 63 counts as its remainder by 64.
+pub fn react(side: Side, register: u32, counter: u32, byte: u8) -> Reaction
+    ensures { λ r. ⌜ r ≡ reacts side register counter byte ⌝ }
 {
     let code = codes::read(byte);
     let Code::Interrupt(k) = code else {
         let Code::Acknowledge(k) = code else {
-            return Reaction {
-                register: register,
-                action: Action::Named(code),
+            let Code::Time(v) = code else {
+                return kept(register, counter, Action::Named(code));
             };
+            return counted(side, register, counter, v);
         };
-        return ruled(side, register, 1, k, code);
+        return ruled(side, register, counter, 1, k, code);
     };
-    ruled(side, register, 0, k, code)
+    ruled(side, register, counter, 0, k, code)
+}
+
+// Nothing changes.
+fn kept(register: u32, counter: u32, action: Action) -> Reaction
+    ensures { λ r. ⌜ r ≡ record { register = register; counter = counter; action = action } ⌝ }
+{
+    Reaction {
+        register: register,
+        counter: counter,
+        action: action,
+    }
+}
+
+// A router forwards a code, a node tells its host.
+fn passed_on(router: bool, code: Code) -> Action
+    ensures { λ r. ⌜ r ≡ cond router (Forwarded code) (Told code) ⌝ }
+{
+    if router {
+        return Action::Forwarded(code);
+    }
+    Action::Told(code)
+}
+
+// A Time-Code: its value is the counter's from now on, and it is passed on where it is one more.
+fn counted(side: Side, register: u32, counter: u32, v: u8) -> Reaction
+    ensures { λ r. ⌜ r ≡ Reaction·counted side register counter v ⌝ }
+{
+    let code = Code::Time(v);
+    if v as u32 != (counter % 64 + 1) % 64 {
+        return kept(register, v as u32, Action::Named(code));
+    }
+    kept(register, v as u32, passed_on(side.router, code))
 }
 
 // The rule for a code of a kind with its identifier. The bit has to stand as the kind's own number:
 // 0 before an interrupt, 1 before an acknowledge.
-fn ruled(side: Side, register: u32, kind: u8, k: u8, code: Code) -> Reaction
-    ensures { λ r. ⌜ r ≡ Reaction·ruled side register kind k code ⌝ }
+fn ruled(side: Side, register: u32, counter: u32, kind: u8, k: u8, code: Code) -> Reaction
+    ensures { λ r. ⌜ r ≡ Reaction·ruled side register counter kind k code ⌝ }
 {
     if !side.running {
-        return Reaction {
-            register: register,
-            action: Action::LinkError(code),
-        };
+        return kept(register, counter, Action::LinkError(code));
     }
     if !may_receive(kind, side.permissions) {
-        return Reaction {
-            register: register,
-            action: Action::Ignored(code),
-        };
+        return kept(register, counter, Action::Ignored(code));
     }
     if bits::get(register, k as u32) != kind as u32 {
-        return Reaction {
-            register: register,
-            action: Action::Ignored(code),
-        };
+        return kept(register, counter, Action::Ignored(code));
     }
     let next = marked(kind, register, k);
-    if side.router {
-        return Reaction {
-            register: next,
-            action: Action::Forwarded(code),
-        };
-    }
-    Reaction {
-        register: next,
-        action: Action::Told(code),
-    }
+    kept(next, counter, passed_on(side.router, code))
 }

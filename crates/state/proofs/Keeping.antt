@@ -11,10 +11,10 @@ use Rattle.device.specs.Permissions.{maySend}
 use Rattle.plan.specs.Fields.{nobody}
 use Rattle.plan.specs.Reading.{Held}
 use Rattle.plan.specs.declared.Plan.{Plan}
-use Rattle.state.specs.State.{State, words, word, put, deviceWords, portsAt, portsEnd, portWords, registerAt, timerAt, portAt, register, timer, waiting, nextAt, next, runningAt, running}
+use Rattle.state.specs.State.{State, words, word, put, deviceWords, portsAt, portsEnd, portWords, registerAt, timerAt, portAt, register, timer, waiting, nextAt, next, runningAt, running, counterAt, timeAt, timeWaits}
 use Rattle.state.specs.Network.{devices, exists, peer, permissions}
-use Rattle.state.specs.Sound.{Timed, Kept, Sound}
-use Rattle.state.proofs.Words.{word-past, length-put, word-same, word-other}
+use Rattle.state.specs.Sound.{Timed, Kept, Clocked, Sound}
+use Rattle.state.proofs.Words.{length-put, word-same, word-other}
 use Rattle.state.proofs.Plans.{FarEnd, few, far-end}
 
 -- what is so of both kinds
@@ -42,10 +42,6 @@ put-fits {s} f i v h g =
 pub sound-fits : {plan : Plan} {s : State} → Sound plan s → Fits s
 sound-fits x = record { size = x .size; fits = x .fits }
 
--- nothing stands behind the ports
-pub sound-behind : {plan : Plan} {s : State} → Sound plan s → (i : ℕ) → portsEnd ≤ i → word s i ≡ 0
-sound-behind {s = s} x i h = word-past s i (omega (arith, x .size))
-
 -- ---- words that are as they were
 
 timed-same : {s t : State} {d k : ℕ} → Timed s d k → register t d ≡ register s d → timer t d k ≡ timer s d k → Timed t d k
@@ -53,16 +49,28 @@ timed-same x r e = record { on = rw (r, e) (x .on); off = rw (r, e) (x .off) }
 
 -- a port, and the flag at its far end
 kept-same : {plan : Plan} {s t : State} {q : ℕ} → Kept plan s q → ((i : ℕ) → i < portWords → word t (portAt q i) ≡ word s (portAt q i))
-    → running t (peer plan q) ≡ running s (peer plan q) → Kept plan t q
+    → (peer plan q < nobody → running t (peer plan q) ≡ running s (peer plan q)) → Kept plan t q
 kept-same {q} x e f =
     record {
       next-below = rw (e 2 (omega arith)) (x .next-below);
       flag = rw (e 3 (omega arith)) (x .flag);
-      both-ends = rw (e 3 (omega arith), f) (x .both-ends);
+      both-ends = λ l. e 3 (omega arith) ∙ x .both-ends l ∙ sym (f l);
       loose = rw (e 3 (omega arith)) (x .loose);
       apart = rw (e 0 (omega arith), e 1 (omega arith)) (x .apart);
       stopped = λ z kind h. e kind (omega arith) ∙ x .stopped (sym (e 3 (omega arith)) ∙ z) kind h;
       mute = λ kind h z. e kind (omega arith) ∙ x .mute kind h z;
+    }
+
+-- the counters, and what ports have of Time-Codes; no port has stopped at which one waits
+clock-same : {plan : Plan} {s t : State} → Clocked plan s → ((i : ℕ) → portsEnd ≤ i → word t i ≡ word s i)
+    → ((q : ℕ) → q < 256 → running t q ≡ 0 → timeWaits s q ≡ 0) → Clocked plan t
+clock-same x e f =
+    record {
+      counters = λ d h. rw (e (counterAt d) (omega arith)) (x .counters d h);
+      ranges = λ q h. rw (e (timeAt q) (omega arith)) (x .ranges q h);
+      stopped = λ q h z. rw (e (timeAt q) (omega arith)) (f q h z);
+      no-counter = λ d l h. e (counterAt d) (omega arith) ∙ x .no-counter d l h;
+      no-word = λ q h y. e (timeAt q) (omega arith) ∙ x .no-word q h y;
     }
 
 -- two sets that may wait at port q: interrupts (kind 0) and acknowledges (kind 1)
@@ -86,16 +94,33 @@ module _ (plan : Plan) (held : Held plan) {s : State} (x : Sound plan s) where
           | yes q ↦ rw q (timed k m)
           | no ne ↦ timed-same (x .timers e k l g m) (same (registerAt e) (omega arith)) (same (timerAt e k) (omega arith))
         ];
-        ports = λ q l y. kept-same (x .ports q l y) (λ i m. same (portAt q i) (omega arith)) (same (portAt (peer plan q) runningAt) (omega arith));
+        ports = λ q l y. kept-same (x .ports q l y) (λ i m. same (portAt q i) (omega arith)) (λ o. same (portAt (peer plan q) runningAt) (omega arith));
         no-device = λ e i l m o. same (deviceWords * e + i) (omega arith) ∙ x .no-device e i l m o;
         no-port = λ q i l y m. same (portAt q i) (omega arith) ∙ x .no-port q i l y m;
+        clock = clock-same (x .clock) (λ i l. same i (omega arith)) (λ q l z. x .clock .stopped q l (sym (same (portAt q runningAt) (omega arith)) ∙ z));
+      }
+
+  -- ---- a step in the words behind the ports
+
+  pub clock-step : {t : State} → Fits t → ((i : ℕ) → i < portsEnd → word t i ≡ word s i) → Clocked plan t → Sound plan t
+  clock-step f same clock =
+      let n = few plan held in
+      record {
+        size = f .size;
+        fits = f .fits;
+        timers = λ e k l g m. timed-same (x .timers e k l g m) (same (registerAt e) (omega arith)) (same (timerAt e k) (omega arith));
+        ports = λ q l y. kept-same (x .ports q l y) (λ i m. same (portAt q i) (omega arith)) (λ o. same (portAt (peer plan q) runningAt) (omega arith));
+        no-device = λ e i l m o. same (deviceWords * e + i) (omega arith) ∙ x .no-device e i l m o;
+        no-port = λ q i l y m. same (portAt q i) (omega arith) ∙ x .no-port q i l y m;
+        clock = clock;
       }
 
   -- ---- a step in the words of ports
 
   ports-step : {t : State} → Fits t → ((i : ℕ) → (portsAt ≤ i → i < portsEnd → ⊥) → word t i ≡ word s i) → ((q : ℕ) → q < 256 → exists plan q ≡ true → Kept plan t q)
-      → ((q : ℕ) → q < 256 → exists plan q ≡ false → (i : ℕ) → i < portWords → word t (portAt q i) ≡ word s (portAt q i)) → Sound plan t
-  ports-step f same kept gone =
+      → ((q : ℕ) → q < 256 → exists plan q ≡ false → (i : ℕ) → i < portWords → word t (portAt q i) ≡ word s (portAt q i))
+      → ((q : ℕ) → q < 256 → running t q ≡ 0 → timeWaits s q ≡ 0) → Sound plan t
+  ports-step f same kept gone still =
       let n = few plan held in
       record {
         size = f .size;
@@ -104,6 +129,7 @@ module _ (plan : Plan) (held : Held plan) {s : State} (x : Sound plan s) where
         ports = kept;
         no-device = λ e i l m o. same (deviceWords * e + i) (omega arith) ∙ x .no-device e i l m o;
         no-port = λ q i l y m. gone q l y i m ∙ x .no-port q i l y m;
+        clock = clock-same (x .clock) (λ i l. same i (λ a b. omega arith)) still;
       }
 
   -- waiting sets and next become 0, at any ports
@@ -131,6 +157,7 @@ module _ (plan : Plan) (held : Held plan) {s : State} (x : Sound plan s) where
         | yes e ↦ rw e (flags q)
         | no ne ↦ let z = x .no-port q i l y m in none q i l (omega arith) z ∙ sym z
       ])
+      (λ q l z. x .clock .stopped q l (sym (flags q) ∙ z))
 
   module _ (q : ℕ) (small : q < 256) (there : exists plan q ≡ true) where
     -- a port that its device lacks is another one
@@ -148,7 +175,7 @@ module _ (plan : Plan) (held : Held plan) {s : State} (x : Sound plan s) where
         let flags : (p : ℕ) → running _ p ≡ running s p = λ p. same (portAt p runningAt) (omega arith) in
         ports-step f (λ i l. same i (λ a b. l (omega arith) (omega arith)))
         (λ p l y. elim (ℕ-discrete p q) [
-          | no ne ↦ kept-same (x .ports p l y) (λ i m. same (portAt p i) (omega arith)) (flags (peer plan p))
+          | no ne ↦ kept-same (x .ports p l y) (λ i m. same (portAt p i) (omega arith)) (λ o. flags (peer plan p))
           | yes e ↦ rw e (record {
             next-below = below;
             flag = rw (flags q) (own .flag);
@@ -160,6 +187,7 @@ module _ (plan : Plan) (held : Held plan) {s : State} (x : Sound plan s) where
           })
         ])
         (λ p l y i m. let ne = not-here p y in same (portAt p i) (omega arith))
+        (λ p l z. x .clock .stopped p l (sym (flags p) ∙ z))
 
     -- the search starts elsewhere
     pub next-step : (n : ℕ) → n < 32 → Sound plan (put s (portAt q nextAt) n)
@@ -237,14 +265,22 @@ module _ (plan : Plan) (held : Held plan) {s : State} (x : Sound plan s) where
           (λ m. let back = far-end plan held p l y m .back in (λ e. b (sym back ∙ ap (peer plan) e), λ e. a (sym back ∙ ap (peer plan) e ∙ end .back)))
           (λ m. omega arith)
 
-      pub flags-step : ((kind : ℕ) → kind < 2 → v ≡ 0 → (waiting s kind q ≡ 0) × (waiting s kind (peer plan q) ≡ 0)) → Sound plan flagged
-      flags-step empty =
+      pub flags-step : ((kind : ℕ) → kind < 2 → v ≡ 0 → (waiting s kind q ≡ 0) × (waiting s kind (peer plan q) ≡ 0))
+          → (v ≡ 0 → (timeWaits s q ≡ 0) × (timeWaits s (peer plan q) ≡ 0)) → Sound plan flagged
+      flags-step empty timeless =
           let r = peer plan q in
           ports-step (put-fits near-fits (portAt r runningAt) v (omega arith) (omega arith)) (λ i l. flagged-other i (λ e. l (omega arith) (omega arith)) (λ e. l (omega arith) (omega arith))) kept
           (λ p l y i m.
           let a = not-here p y in
           let b : p ≢ r = λ e. false≢true (sym y ∙ ap (exists plan) e ∙ end .far) in
           flagged-other (portAt p i) (omega arith) (omega arith))
+          (λ p l z. elim (ℕ-discrete p q) [
+            | yes e ↦ rw e (timeless (sym flagged-near ∙ rw e at z) .0)
+            | no a ↦ elim (ℕ-discrete p r) [
+              | yes e ↦ rw e (timeless (sym flagged-far ∙ rw e at z) .1)
+              | no b ↦ x .clock .stopped p l (sym (flagged-other (portAt p runningAt) (omega arith) (omega arith)) ∙ z)
+            ]
+          ])
         where
           kept : (p : ℕ) → p < 256 → exists plan p ≡ true → Kept plan flagged p
           kept p l y =
@@ -256,6 +292,6 @@ module _ (plan : Plan) (held : Held plan) {s : State} (x : Sound plan s) where
                       (flagged-end (peer plan q) q (x .ports (peer plan q) link (end .far)) (end .back) small flagged-far flagged-near (λ kind m z. empty kind m z .1))
                   | no b ↦
                       let c = leads-elsewhere p l y a b in
-                      kept-same (x .ports p l y) (λ i m. flagged-other (portAt p i) (omega arith) (omega arith)) (flagged-other (portAt (peer plan p) runningAt) (omega arith) (omega arith))
+                      kept-same (x .ports p l y) (λ i m. flagged-other (portAt p i) (omega arith) (omega arith)) (λ o. flagged-other (portAt (peer plan p) runningAt) (omega arith) (omega arith))
                 ]
               ]

@@ -5,6 +5,7 @@ pub mod Plans
 pub mod Queues
 pub mod Started
 pub mod Tested
+pub mod Times
 pub mod Unique
 pub mod Waits
 pub mod Walks

@@ -9,7 +9,7 @@ use lib.ListN.{length, getD, length-append, List·getD-append}
 use lib.Seq.{ext-getD, getD-append-add}
 use Rattle.lists.specs.Table.{table, joined}
 use Rattle.lists.proofs.Tables.{length-table, getD-table, length-joined, getD-joined}
-use Rattle.state.specs.State.{State, words, word, deviceWords, portsAt, portsEnd, portWords, registerAt, timerAt, portAt, register, timer, Parts, stateOf}
+use Rattle.state.specs.State.{State, words, word, deviceWords, portsAt, portsEnd, portWords, registerAt, timerAt, portAt, register, timer, counterAt, counter, timeAt, time, Parts, stateOf}
 use Rattle.state.proofs.Words.{word-past}
 
 -- every place is that of a register, of a timer, of a port's word, or behind the ports
@@ -29,6 +29,16 @@ by-place P registers timers ports behind i =
     at : (j : ℕ) → i ≡ j → P j → P i
     at j e p = rw e p
 
+-- and behind the ports, that of a counter, of a port's word of Time-Codes, or past the end
+pub by-behind : (P : ℕ → Type 0) → ((d : ℕ) → d < 32 → P (counterAt d)) → ((q : ℕ) → q < 256 → P (timeAt q)) → ((i : ℕ) → words ≤ i → P i)
+    → (i : ℕ) → portsEnd ≤ i → P i
+by-behind P counters times past i h =
+    dite (decLt i (timeAt 0)) (λ l. at (counterAt (i - portsEnd)) (omega arith) (counters (i - portsEnd) (omega arith)))
+    (λ l. dite (decLt i words) (λ m. at (timeAt (i - timeAt 0)) (omega arith) (times (i - timeAt 0) (omega arith))) (λ m. past i (omega arith)))
+  where
+    at : (j : ℕ) → i ≡ j → P j → P i
+    at j e p = rw e p
+
 module _ (parts : Parts) where
   abbrev device : ℕ → List ℕ
   device d = parts .registers d ∷ table 32 (parts .timers d)
@@ -43,7 +53,7 @@ module _ (parts : Parts) where
   port-long q h = length-table portWords (parts .ports q)
 
   abbrev behind : List ℕ
-  behind = table (words - portsEnd) (parts .others)
+  behind = table 32 (parts .counters) ++ table 256 (parts .times)
 
   abbrev rest : List ℕ
   rest = joined 256 port ++ behind
@@ -58,7 +68,15 @@ module _ (parts : Parts) where
   unfolding stateOf
   length-state =
       length-append (joined 32 device) rest
-      ∙ omega (arith, devices-long, ports-long, length-append (joined 256 port) behind, length-table (words - portsEnd) (parts .others))
+      ∙ omega (
+        arith,
+        devices-long,
+        ports-long,
+        length-append (joined 256 port) behind,
+        length-append (table 32 (parts .counters)) (table 256 (parts .times)),
+        length-table 32 (parts .counters),
+        length-table 256 (parts .times),
+      )
 
   -- word i of device d
   device-word : (d i : ℕ) → d < 32 → i < deviceWords → word (stateOf parts) (deviceWords * d + i) ≡ getD (device d) i 0
@@ -82,34 +100,45 @@ module _ (parts : Parts) where
       ∙ getD-joined portWords port 256 port-long q i 0 h l
       ∙ getD-table portWords (parts .ports q) i 0 l
 
-  pub others-of : (i : ℕ) → portsEnd + i < words → word (stateOf parts) (portsEnd + i) ≡ parts .others i
+  behind-word : (i : ℕ) → word (stateOf parts) (portsEnd + i) ≡ getD behind i 0
   unfolding stateOf word
-  others-of i h =
+  behind-word i =
       ap (λ j. getD (joined 32 device ++ rest) j 0) (omega (arith, devices-long, ports-long))
       ∙ getD-append-add (joined 32 device) rest (length (joined 256 port) + i) 0
       ∙ getD-append-add (joined 256 port) behind i 0
-      ∙ getD-table (words - portsEnd) (parts .others) i 0 (omega arith)
+
+  pub counter-of : (d : ℕ) → d < 32 → counter (stateOf parts) d ≡ parts .counters d
+  counter-of d h =
+      behind-word d
+      ∙ List·getD-append (table 32 (parts .counters)) (table 256 (parts .times)) 0 d (omega (arith, length-table 32 (parts .counters)))
+      ∙ getD-table 32 (parts .counters) d 0 h
+
+  pub time-of : (q : ℕ) → q < 256 → time (stateOf parts) q ≡ parts .times q
+  time-of q h =
+      ap (word (stateOf parts)) {x = timeAt q} {y = portsEnd + (32 + q)} (omega arith)
+      ∙ behind-word (32 + q)
+      ∙ ap (λ j. getD behind j 0) (omega (arith, length-table 32 (parts .counters)))
+      ∙ getD-append-add (table 32 (parts .counters)) (table 256 (parts .times)) q 0
+      ∙ getD-table 256 (parts .times) q 0 h
 
   -- behind the ports it is as another state
-  pub others-kept : (s : State) → length s ≡ words → ((i : ℕ) → parts .others i ≡ word s (portsEnd + i)) → (i : ℕ) → portsEnd ≤ i → word (stateOf parts) i ≡ word s i
-  others-kept s long e i h =
-      dite (decLt i words)
-      (λ l. let is : portsEnd + (i - portsEnd) ≡ i = omega arith in rw is at (others-of (i - portsEnd) (omega arith) ∙ e (i - portsEnd)))
-      (λ l. word-past (stateOf parts) i (omega (arith, length-state)) ∙ sym (word-past s i (omega (arith, long))))
+  pub behind-kept : (s : State) → length s ≡ words → ((d : ℕ) → d < 32 → parts .counters d ≡ counter s d) → ((q : ℕ) → q < 256 → parts .times q ≡ time s q)
+      → (i : ℕ) → portsEnd ≤ i → word (stateOf parts) i ≡ word s i
+  behind-kept s long counters times =
+      by-behind (λ i. word (stateOf parts) i ≡ word s i) (λ d h. counter-of d h ∙ counters d h) (λ q h. time-of q h ∙ times q h)
+      (λ i h. word-past (stateOf parts) i (omega (arith, length-state)) ∙ sym (word-past s i (omega (arith, long))))
 
   -- a state with these parts
   module _ (s : State) (long : length s ≡ words) (registers : (d : ℕ) → d < 32 → register s d ≡ parts .registers d)
       (timers : (d k : ℕ) → d < 32 → k < 32 → timer s d k ≡ parts .timers d k)
       (ports : (q i : ℕ) → q < 256 → i < portWords → word s (portAt q i) ≡ parts .ports q i)
-      (others : (i : ℕ) → portsEnd + i < words → word s (portsEnd + i) ≡ parts .others i)
+      (counters : (d : ℕ) → d < 32 → counter s d ≡ parts .counters d) (times : (q : ℕ) → q < 256 → time s q ≡ parts .times q)
     where
       same : (i : ℕ) → word s i ≡ word (stateOf parts) i
       same =
           by-place (λ i. word s i ≡ word (stateOf parts) i) (λ d h. registers d h ∙ sym (register-of d h))
           (λ d k h l. timers d k h l ∙ sym (timer-of d k h l)) (λ q i h l. ports q i h l ∙ sym (port-of q i h l))
-          (λ i h. dite (decLt i words)
-          (λ l. let is : portsEnd + (i - portsEnd) ≡ i = omega arith in rw is at (others (i - portsEnd) (omega arith) ∙ sym (others-of (i - portsEnd) (omega arith))))
-          (λ l. word-past s i (omega (arith, long)) ∙ sym (word-past (stateOf parts) i (omega (arith, length-state)))))
+          (λ i h. sym (behind-kept s long (λ d l. sym (counters d l)) (λ q l. sym (times q l)) i h))
 
       pub is-state : s ≡ stateOf parts
       unfolding word

@@ -1,9 +1,8 @@
 -- The start state is sound.
 use mathlib.Core.Path.{_≡_, sym, ap, _∙_}
 use mathlib.Core.Bool.{Bool, true, false, cond, not}
-use mathlib.Core.Logic.{dite}
-use Prim.Native.Nat.{ℕ, _+_, _-_, _*_, _^_, _≤_, _<_}
-use native.Mathlib.Decide.{decLt, ℕ-discrete}
+use Prim.Native.Nat.{ℕ, _+_, _*_, _^_, _≤_, _<_}
+use native.Mathlib.Decide.{ℕ-discrete}
 use native.Mathlib.Omega.{arith}
 use lib.Dec.{eqb}
 use lib.ListN.{length}
@@ -13,12 +12,12 @@ use Rattle.bits.proofs.Sets.{bit-zero}
 use Rattle.plan.specs.Fields.{nobody}
 use Rattle.plan.specs.Reading.{Held}
 use Rattle.plan.specs.declared.Plan.{Plan}
-use Rattle.state.specs.State.{words, word, deviceWords, portsAt, portsEnd, registerAt, timerAt, portAt, runningAt, running}
+use Rattle.state.specs.State.{words, word, deviceWords, portsAt, portsEnd, registerAt, timerAt, portAt, runningAt, running, counterAt, timeAt}
 use Rattle.state.specs.Network.{peer}
 use Rattle.state.specs.Sound.{Sound}
 use Rattle.state.specs.Start.{started}
 use Rattle.state.proofs.Words.{word-past}
-use Rattle.state.proofs.Parts.{by-place, length-state, register-of, timer-of, port-of, others-of}
+use Rattle.state.proofs.Parts.{by-place, by-behind, length-state, register-of, timer-of, port-of, counter-of, time-of}
 use Rattle.state.proofs.Plans.{few, absent-loose, far-end}
 
 module _ (plan : Plan) where
@@ -54,10 +53,8 @@ module _ (plan : Plan) where
     start-joined l = start-running ∙ rw (ne-eqb (peer plan q) nobody (omega arith))
 
   -- nothing behind the ports
-  start-behind : (i : ℕ) → portsEnd ≤ i → word (started plan) i ≡ 0
-  start-behind i h =
-      dite (decLt i words) (λ l. ap (word (started plan)) {x = i} {y = portsEnd + (i - portsEnd)} (omega arith) ∙ others-of _ (i - portsEnd) (omega arith))
-      (λ l. word-past (started plan) i (omega (arith, start-length)))
+  pub start-behind : (i : ℕ) → portsEnd ≤ i → word (started plan) i ≡ 0
+  start-behind = by-behind (λ i. word (started plan) i ≡ 0) (λ d h. counter-of _ d h) (λ q h. time-of _ q h) (λ i h. word-past (started plan) i (omega (arith, start-length)))
 
   start-small : (i : ℕ) → word (started plan) i < 2 ^ 32
   start-small =
@@ -95,4 +92,11 @@ module _ (plan : Plan) where
           | yes z ↦ ap (λ j. word (started plan) (portAt q j)) z ∙ start-loose q h (absent-loose plan held q h e)
           | no ne ↦ start-port q h i (omega arith)
         ];
+        clock = record {
+          counters = λ d h. omega (arith, start-behind (counterAt d) (omega arith));
+          ranges = λ q h. let z = start-behind (timeAt q) (omega arith) in (omega (arith, z), omega (arith, z));
+          stopped = λ q h z. rw (start-behind (timeAt q) (omega arith));
+          no-counter = λ d l h. start-behind (counterAt d) (omega arith);
+          no-word = λ q h y. start-behind (timeAt q) (omega arith);
+        };
       }

@@ -7,18 +7,18 @@ use native.Mathlib.Decide.{decLt, ℕ-discrete}
 use native.Mathlib.Omega.{arith}
 use lib.Dec.{eqb, ltb}
 use lib.ListN.{getD}
-use borrow.Author.Tests.{eq-eqb, eqb-true, ne-eqb, lt-ltb, le-ltb, le-leb}
+use borrow.Author.Tests.{eq-eqb, eqb-true, ne-eqb, lt-ltb, ltb-true, le-ltb, le-leb}
 use Rattle.lists.proofs.Tests.{and-right, or-left, or-right, every-at, every-all}
 use Rattle.bits.specs.Set.{bit}
 use Rattle.bits.proofs.Sets.{bit-two}
 use Rattle.device.specs.Permissions.{maySend}
 use Rattle.plan.specs.declared.Plan.{Plan}
 use Rattle.lists.proofs.Facts.{facts}
-use Rattle.state.specs.State.{State, word, deviceWords, portsAt, portAt, register, timer, waiting, running}
-use Rattle.state.specs.Network.{devices, exists, peer, permissions}
-use Rattle.state.specs.Sound.{Timed, Kept, Sound}
+use Rattle.state.specs.State.{State, word, deviceWords, portsAt, portAt, register, timer, waiting, running, counter, time, timeWaits}
+use Rattle.state.specs.Network.{devices, portsOf, exists, peer, permissions}
+use Rattle.state.specs.Sound.{Timed, Kept, Clocked, Sound}
 use Rattle.state.proofs.Keeping.{both-kinds}
-use Rattle.state.specs.inner.Tests.{timerSound, deviceTimed, allTimed, zerosIn, restZero, flagSound, mayWait, waitingSound, portKept, portZero, portSound, portsSound, sounds}
+use Rattle.state.specs.inner.Tests.{timerSound, deviceTimed, allTimed, zerosIn, restZero, flagSound, mayWait, waitingSound, portKept, portZero, portSound, portsSound, counterSound, countersSound, timeKept, timeSound, timesSound, sounds}
 
 is-true : (b : Bool) → (b ≡ false → ⊥) → b ≡ true
 is-true true h = refl
@@ -147,10 +147,69 @@ module _ (plan : Plan) (s : State) where
       zeros-test (deviceWords * devices plan) portsAt
       (λ i g l. ap (word s) (omega arith) ∙ h (i / deviceWords) (i % deviceWords) (omega arith) (omega arith) (omega arith))
 
+  -- ---- Time-Codes
+
+  module _ (d : ℕ) where
+    counter-says : counterSound s (devices plan) d ≡ true → (counter s d < 64) × (devices plan ≤ d → counter s d ≡ 0)
+    unfolding counterSound
+    counter-says e =
+        dite (decLt d (devices plan)) (λ l. (ltb-true (counter s d) 64 (simp (lt-ltb d (devices plan) l) at e), λ h. absurd (omega arith)))
+        (λ l. let z = eqb-true (counter s d) 0 (simp (le-ltb d (devices plan) (omega arith)) at e) in (omega (arith, z), λ h. z))
+
+    counter-test : counter s d < 64 → (devices plan ≤ d → counter s d ≡ 0) → counterSound s (devices plan) d ≡ true
+    unfolding counterSound
+    counter-test small none =
+        dite (decLt d (devices plan)) (λ l. simp (lt-ltb d (devices plan) l) (lt-ltb (counter s d) 64 small))
+        (λ l. simp (le-ltb d (devices plan) (omega arith)) (eq-eqb (counter s d) 0 (none (omega arith))))
+
+  -- a port's word, by whether the port is there
+  module _ (q : ℕ) where
+    abbrev Timely : Bool → Type 0
+    Timely there = (timeWaits s q ≤ 64) × (time s q < 256) × (running s q ≡ 0 → timeWaits s q ≡ 0) × (there ≡ false → time s q ≡ 0)
+
+    time-says : (there : Bool) → exists plan q ≡ there → timeSound s q (portsOf plan (q / 8)) ≡ true → Timely there
+    unfolding timeSound timeKept
+    time-says false y e = let z = eqb-true (time s q) 0 (simp y at e) in (omega (arith, z), omega (arith, z), λ _. omega (arith, z), λ _. z)
+    time-says true y e =
+        let f = simp facts at (simp y at e) in
+        (f .0 .0, f .0 .1, λ z. eqb-true (timeWaits s q) 0 (simp (eq-eqb (running s q) 0 z) at (f .1)), λ n. absurd (false≢true (sym n)))
+
+    time-test : (there : Bool) → exists plan q ≡ there → Timely there → timeSound s q (portsOf plan (q / 8)) ≡ true
+    unfolding timeSound timeKept
+    time-test false y t = simp y (eq-eqb (time s q) 0 (t .3 refl))
+    time-test true y t =
+        simp (y, le-leb (timeWaits s q) 64 (t .0), lt-ltb (time s q) 256 (t .1)) (elim (ℕ-discrete (running s q) 0) [
+          | yes z ↦ or-right (not (eqb (running s q) 0)) _ (eq-eqb (timeWaits s q) 0 (t .2 z))
+          | no n ↦ simp (ne-eqb (running s q) 0 n)
+        ])
+
+  clocked : countersSound (devices plan) s ≡ true → timesSound (plan .core .ports) s ≡ true → Clocked plan s
+  unfolding countersSound timesSound
+  clocked e f =
+      let count : (d : ℕ) → d < 32 → (counter s d < 64) × (devices plan ≤ d → counter s d ≡ 0) = λ d h. counter-says d (every-at 32 _ e d h) in
+      let word : (q : ℕ) → q < 256 → Timely q (exists plan q) = λ q h. time-says q (exists plan q) refl (every-at 256 _ f q h) in
+      record {
+        counters = λ d h. count d h .0;
+        ranges = λ q h. (word q h .0, word q h .1);
+        stopped = λ q h. word q h .2;
+        no-counter = λ d l h. count d h .1 l;
+        no-word = λ q h. word q h .3;
+      }
+
+  counters-test : Clocked plan s → countersSound (devices plan) s ≡ true
+  unfolding countersSound
+  counters-test c = every-all 32 _ (λ d h. counter-test d (c .counters d h) (λ l. c .no-counter d l h))
+
+  times-test : Clocked plan s → timesSound (plan .core .ports) s ≡ true
+  unfolding timesSound
+  times-test c =
+      every-all 256 _ (λ q h. time-test q (exists plan q) refl (c .ranges q h .0, c .ranges q h .1, c .stopped q h, c .no-word q h))
+
   pub sounds-sound : ((i : ℕ) → word s i < 2 ^ 32) → sounds plan s ≡ true → Sound plan s
   unfolding sounds portsSound portSound portZero
   sounds-sound fit e =
-      let f = simp facts at e in
+      let all = simp facts at e in
+      let f = all .0 .0 in
       record {
         size = f .0 .0 .0;
         fits = fit;
@@ -158,12 +217,16 @@ module _ (plan : Plan) (s : State) where
         ports = λ q l there. kept q (simp there at (f .1 q l));
         no-device = rest (f .0 .1);
         no-port = λ q i l there g. eqb-true (word s (portAt q i)) 0 (every-at 4 _ (simp there at (f .1 q l)) i g);
+        clock = clocked (all .0 .1) (all .1);
       }
 
   pub sound-sounds : Sound plan s → sounds plan s ≡ true
   unfolding sounds portsSound
   sound-sounds h =
       simp facts (
-        ((h .size, timed-test (h .timers)), rest-test (h .no-device)),
-        λ q l. port-test q (exists plan q) refl (h .ports q l) (λ z i g. h .no-port q i l z g),
+        (
+          (((h .size, timed-test (h .timers)), rest-test (h .no-device)), λ q l. port-test q (exists plan q) refl (h .ports q l) (λ z i g. h .no-port q i l z g)),
+          counters-test (h .clock),
+        ),
+        times-test (h .clock),
       )

@@ -11,7 +11,7 @@ use Rattle.device.specs.Permissions.{maySend}
 use Rattle.plan.specs.Fields.{nobody}
 use Rattle.plan.specs.Reading.{Held}
 use Rattle.plan.specs.declared.Plan.{Plan}
-use Rattle.state.specs.State.{State, words, word, deviceWords, portWords, register, timer, waiting, next, running, portAt}
+use Rattle.state.specs.State.{State, words, word, deviceWords, portWords, register, timer, waiting, next, running, portAt, counter, time, timeWaits}
 use Rattle.state.specs.Network.{devices, exists, peer, permissions}
 
 -- a timer runs where its bit is 1, within 65,535, and is 0 where it is 0
@@ -29,6 +29,16 @@ pub record Kept (plan : Plan) (s : State) (q : ℕ) : Type 0 where
   pub stopped : running s q ≡ 0 → (kind : ℕ) → kind < 2 → waiting s kind q ≡ 0
   pub mute : (kind : ℕ) → kind < 2 → maySend kind (permissions plan q) ≡ false → waiting s kind q ≡ 0
 
+-- the counters and the ports' words of Time-Codes
+pub record Clocked (plan : Plan) (s : State) : Type 0 where
+  pub counters : (d : ℕ) → d < 32 → counter s d < 64
+  -- 0 to 64, or 128 more
+  pub ranges : (q : ℕ) → q < 256 → (timeWaits s q ≤ 64) × (time s q < 256)
+  pub stopped : (q : ℕ) → q < 256 → running s q ≡ 0 → timeWaits s q ≡ 0
+  -- what belongs to no device and no port of the plan is 0
+  pub no-counter : (d : ℕ) → devices plan ≤ d → d < 32 → counter s d ≡ 0
+  pub no-word : (q : ℕ) → q < 256 → exists plan q ≡ false → time s q ≡ 0
+
 pub record Sound (plan : Plan) (s : State) : Type 0 where
   pub size : length s ≡ words
   pub fits : (i : ℕ) → word s i < 2 ^ 32
@@ -37,6 +47,7 @@ pub record Sound (plan : Plan) (s : State) : Type 0 where
   -- what belongs to no device and no port of the plan is 0
   pub no-device : (d i : ℕ) → devices plan ≤ d → d < 32 → i < deviceWords → word s (deviceWords * d + i) ≡ 0
   pub no-port : (q i : ℕ) → q < 256 → exists plan q ≡ false → i < portWords → word s (portAt q i) ≡ 0
+  pub clock : Clocked plan s
 
 -- what every call on a state asks first
 abbrev pub stateAsks : Plan → State → List Condition

@@ -20,7 +20,8 @@ startOf peers =
       registers = λ d. 0;
       timers = λ d k. 0;
       ports = λ q i. cond (eqb i runningAt && not (eqb (peerIn peers q) nobody)) 1 0;
-      others = λ i. 0;
+      counters = λ d. 0;
+      times = λ q. 0;
     })
 
 -- it is written into an area of a state's words; one of another length stays as it was

@@ -1,7 +1,7 @@
 -- RULES, "State": how many words of 32 bits it has, and where each stands.
 use mathlib.Core.Path.{_≡_}
 use mathlib.Core.List.{List, _∷_, _++_}
-use Prim.Native.Nat.{ℕ, _+_, _-_, _*_}
+use Prim.Native.Nat.{ℕ, _+_, _*_, _/_, _%_}
 use lib.ListN.{getD, set}
 use Rattle.lists.specs.Table.{table, joined}
 
@@ -9,7 +9,7 @@ abbrev pub State : Type 0
 State = List ℕ
 
 abbrev pub words : ℕ
-words = 2080
+words = 2368
 
 -- two areas are each as long as a state
 abbrev pub BothFit : ℕ → ℕ → Type 0
@@ -69,16 +69,38 @@ runningAt = 3
 abbrev pub running : State → ℕ → ℕ
 running s q = word s (portAt q runningAt)
 
+-- ---- behind the ports are the Time-Codes: a counter for each device, and then a word for each port
+
+abbrev pub counterAt : ℕ → ℕ
+counterAt d = portsEnd + d
+
+abbrev pub counter : State → ℕ → ℕ
+counter s d = word s (counterAt d)
+
+abbrev pub timeAt : ℕ → ℕ
+timeAt q = portsEnd + 32 + q
+
+abbrev pub time : State → ℕ → ℕ
+time s q = word s (timeAt q)
+
+-- the Time-Code that waits at the port, as its value plus 1; 0 is none
+abbrev pub timeWaits : State → ℕ → ℕ
+timeWaits s q = time s q % 128
+
+-- and 128 more where the last code that it sent was a Time-Code: 1 for that, else 0
+abbrev pub lately : State → ℕ → ℕ
+lately s q = time s q / 128 % 2
+
 -- ---- a state made of its parts
 
 pub record Parts : Type 0 where
   pub registers : ℕ → ℕ
   pub timers : ℕ → ℕ → ℕ
   pub ports : ℕ → ℕ → ℕ
-  -- all words behind the ports; as yet there are none
-  pub others : ℕ → ℕ
+  pub counters : ℕ → ℕ
+  pub times : ℕ → ℕ
 
 unfoldable pub stateOf : Parts → State
 stateOf parts =
     joined 32 (λ d. parts .registers d ∷ table 32 (parts .timers d))
-    ++ (joined 256 (λ q. table portWords (parts .ports q)) ++ table (words - portsEnd) (parts .others))
+    ++ (joined 256 (λ q. table portWords (parts .ports q)) ++ (table 32 (parts .counters) ++ table 256 (parts .times)))

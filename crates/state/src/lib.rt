@@ -12,11 +12,12 @@ mod sound;
 pub use first::begin;
 pub use first::start;
 pub use port::queue_all;
+pub use port::queue_time;
 pub use sound::is_sound;
 pub use sound::refusal;
 pub use sound::word;
 
-pub const WORDS: usize = 2080;
+pub const WORDS: usize = 2368;
 
 // A device has its register and its 32 timers, from 33 x d on.
 pub const DEVICE: usize = 33;
@@ -34,6 +35,14 @@ pub const ACKNOWLEDGES: usize = 1;
 pub const NEXT: usize = 2;
 
 pub const RUNNING: usize = 3;
+
+// Behind the ports are the Time-Codes: a counter for each device, and a word for each port, which has
+// the waiting value plus 1, or 0, and LATELY more where the last code sent was a Time-Code.
+pub const COUNTERS: usize = 2080;
+
+pub const TIMES: usize = 2112;
+
+pub const LATELY: u32 = 128;
 
 // Is each of two areas, of which the lengths are given, as long as a state?
 pub fn both_fit(state: usize, second: usize) -> bool

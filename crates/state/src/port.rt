@@ -1,16 +1,18 @@
-// A port's four words, and queueing at it.
+// A port's words, and queueing at it.
 ghost use mathlib.Core.Path.{_≡_};
 ghost use Prim.Native.Nat.{_<_};
 ghost use lib.ListN.{length};
 ghost use Rattle.state.specs.State.{words};
-ghost use Rattle.state.specs.Queue.{queueAt, queueAllAt, queueIn};
+ghost use Rattle.state.specs.Queue.{queueAt, queueAllAt, queueIn, queueTime, queueTimeIn};
 ghost use Rattle.state.specs.inner.Port.{queuedPort};
 use crate::ACKNOWLEDGES;
 use crate::INTERRUPTS;
+use crate::LATELY;
 use crate::NEXT;
 use crate::PORT;
 use crate::PORTS;
 use crate::RUNNING;
+use crate::TIMES;
 use crate::WORDS;
 
 // What waits at a port, where its search starts, and whether it runs.
@@ -107,6 +109,41 @@ fn queue_each(state: &mut [u32], permissions: &[u8; 256], d: usize, but: usize, 
         let q = 8 * d + p;
         if q != but {
             queue(state, q, kind, k, permissions[q]);
+        }
+        p += 1;
+    }
+}
+
+// ---- Time-Codes
+
+// The Time-Code with the value v waits at port q, if it runs, in place of the one that waited there.
+fn wait_time(state: &mut [u32], q: usize, v: u8)
+    requires { ⌜ (length (now state) ≡ words) × (q < 256) ⌝ }
+    ensures { λ _. ⌜ now (state .exit) ≡ queueTime v q (now (state .entry)) ⌝ }
+{
+    if state[PORTS + PORT * q + RUNNING] != 1 {
+        return;
+    }
+    let lately = state[TIMES + q] / LATELY % 2;
+    state[TIMES + q] = LATELY * lately + (v as u32 + 1);
+}
+
+// At every port of device d but one; `but` may be nobody. Where there is no such device, or the area
+// is no state, nothing changes.
+pub fn queue_time(state: &mut [u32], d: usize, but: usize, v: u8)
+    ensures { λ _. ⌜ now (state .exit) ≡ queueTimeIn v d but (now (state .entry)) ⌝ }
+{
+    if state.len() != WORDS {
+        return;
+    }
+    if 31 < d {
+        return;
+    }
+    let mut p = 0;
+    while p < 8 {
+        let q = 8 * d + p;
+        if q != but {
+            wait_time(state, q, v);
         }
         p += 1;
     }

@@ -6,14 +6,17 @@ ghost use Rattle.answers.specs.Decides.{Decides};
 ghost use Rattle.answers.specs.Ordered.{Ordered};
 ghost use Rattle.state.specs.Sound.{Sound, stateAsks};
 ghost use Rattle.state.specs.State.{words, word as State·word};
-ghost use Rattle.state.specs.inner.Tests.{timerSound, deviceTimed, allTimed, zerosIn, restZero, flagSound, mayWait, waitingSound, portKept, portZero, portSound, portsSound};
+ghost use Rattle.state.specs.inner.Tests.{timerSound, deviceTimed, allTimed, zerosIn, restZero, flagSound, mayWait, waitingSound, portKept, portZero, portSound, portsSound, counterSound, countersSound, timeKept, timeSound, timesSound};
 use crate::ACKNOWLEDGES;
+use crate::COUNTERS;
 use crate::DEVICE;
 use crate::INTERRUPTS;
+use crate::LATELY;
 use crate::NEXT;
 use crate::PORT;
 use crate::PORTS;
 use crate::RUNNING;
+use crate::TIMES;
 use crate::WORDS;
 use plan::Plan;
 
@@ -33,7 +36,13 @@ pub fn is_sound(plan: Plan, state: &[u32]) -> bool
     }
     let ports = core.ports;
     let peers = plan::peers_of(plan);
-    ports_sound(&ports, &core.permissions, &peers, state)
+    if !ports_sound(&ports, &core.permissions, &peers, state) {
+        return false;
+    }
+    if !counters_sound(core.devices, state) {
+        return false;
+    }
+    times_sound(&ports, state)
 }
 
 // What every call on a state is refused with first, or 0: a plan that no file holds by 1, a state
@@ -241,4 +250,69 @@ fn may_wait(kind: u8, codes: u32, running: u32, permissions: u8) -> bool
         return false;
     }
     device::may_send(kind, permissions as u32)
+}
+
+// Has each of n devices a counter of six bits, and is it 0 where there is none?
+fn counters_sound(n: usize, state: &[u32]) -> bool
+    requires { ⌜ length (now state) ≡ words ⌝ }
+    ensures { λ r. ⌜ r ≡ countersSound n (now (state .entry)) ⌝ }
+{
+    for d in 0..32 {
+        if !counter_sound(state, n, d) {
+            return false;
+        }
+    }
+    true
+}
+
+fn counter_sound(state: &[u32], n: usize, d: usize) -> bool
+    requires { ⌜ (length (now state) ≡ words) × (d < 32) ⌝ }
+    ensures { λ r. ⌜ r ≡ counterSound (now (state .entry)) n d ⌝ }
+{
+    let counter = inside(state, COUNTERS + d);
+    if d < n {
+        return counter < 64;
+    }
+    counter == 0
+}
+
+// Is every port's word of Time-Codes sound, and 0 where there is no port?
+fn times_sound(ports: &[u8; 32], state: &[u32]) -> bool
+    requires { ⌜ length (now state) ≡ words ⌝ }
+    ensures { λ r. ⌜ r ≡ timesSound (now (ports .entry)) (now (state .entry)) ⌝ }
+{
+    for q in 0..256 {
+        if !time_sound(state, q, ports[q / 8]) {
+            return false;
+        }
+    }
+    true
+}
+
+// Is port q's word of Time-Codes sound, where its device has so many ports, and else 0?
+fn time_sound(state: &[u32], q: usize, ports: u8) -> bool
+    requires { ⌜ (length (now state) ≡ words) × (q < 256) ⌝ }
+    ensures { λ r. ⌜ r ≡ timeSound (now (state .entry)) q ports ⌝ }
+{
+    let time = inside(state, TIMES + q);
+    if q % 8 < ports as usize {
+        return time_kept(time, inside(state, PORTS + PORT * q + RUNNING));
+    }
+    time == 0
+}
+
+// Is the word one of its range, and has it a value only where the port runs?
+fn time_kept(time: u32, running: u32) -> bool
+    ensures { λ r. ⌜ r ≡ timeKept time running ⌝ }
+{
+    if 64 < time % LATELY {
+        return false;
+    }
+    if 2 * LATELY <= time {
+        return false;
+    }
+    if running != 0 {
+        return true;
+    }
+    time % LATELY == 0
 }

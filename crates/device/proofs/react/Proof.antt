@@ -15,30 +15,48 @@ use borrow.Author.Needs.{needs}
 use Rattle.device.proofs.react.Statement.{statement}
 use Rattle.device.proofs.react.Tie as tie
 
--- neither of the two kinds
-neither : (side : Side) (register : ℕ) (code : Code) → OneOf (0 ∷ 2 ∷ 3 ∷ []) (tagOf C.the-type code) → OneOf (0 ∷ 1 ∷ 3 ∷ []) (tagOf C.the-type code)
-    → kept register (Named code) ≡ reactsTo side register code
+-- none of the three
+none : (side : Side) (register counter : ℕ) (code : Code) → OneOf (0 ∷ 2 ∷ 3 ∷ []) (tagOf C.the-type code) → OneOf (0 ∷ 1 ∷ 3 ∷ []) (tagOf C.the-type code)
+    → OneOf (1 ∷ 2 ∷ 3 ∷ []) (tagOf C.the-type code) → kept register counter (Named code) ≡ reactsTo side register counter code
 unfolding reactsTo
-neither side register (Time v) p q = refl
-neither side register (Reserved top low) p q = refl
-neither side register (Interrupt k) p q = absurd (⊎-elim (λ e. omega arith) (λ o. ⊎-elim (λ e. omega arith) (λ e. omega arith) o) p)
-neither side register (Acknowledge k) p q = absurd (⊎-elim (λ e. omega arith) (λ o. ⊎-elim (λ e. omega arith) (λ e. omega arith) o) q)
+none side register counter (Reserved top low) p q r = refl
+none side register counter (Time v) p q r = absurd (⊎-elim (λ e. omega arith) (λ o. ⊎-elim (λ e. omega arith) (λ e. omega arith) o) r)
+none side register counter (Interrupt k) p q r = absurd (⊎-elim (λ e. omega arith) (λ o. ⊎-elim (λ e. omega arith) (λ e. omega arith) o) p)
+none side register counter (Acknowledge k) p q r = absurd (⊎-elim (λ e. omega arith) (λ o. ⊎-elim (λ e. omega arith) (λ e. omega arith) o) q)
 
 returns : tie.Need-returns
 unfolding reacts
 returns c =
-    neither _ _ (c .before .before .read .result) (c .before .match .keys2) (c .match2 .keys2) ∙ ap (reactsTo _ _) (c .before .before .read .ensures)
+    let m = c .before in
+    c .kept .ensures ∙ none _ _ _ (m .before .before .before .read .result) (m .before .before .match .keys2) (m .before .match2 .keys2) (m .match3 .keys2)
+    ∙ ap (reactsTo _ _ _) (m .before .before .before .read .ensures)
 
 returns-2 : tie.Need-returns-2
 unfolding reacts reactsTo
-returns-2 c = c .ruled .ensures ∙ ap (reactsTo _ _) (sym (c .before .before .code2 .given .1) ∙ c .before .before .before .before .before .read .ensures)
+returns-2 c =
+    let m = c .before .before in
+    c .counted .ensures ∙ ap (reactsTo _ _ _) (sym (m .code3 .given .1) ∙ m .before .before .before .before .read .ensures)
 
 returns-3 : tie.Need-returns-3
 unfolding reacts reactsTo
-returns-3 c = c .ruled2 .ensures ∙ ap (reactsTo _ _) (sym (c .before .before .code .given .1) ∙ c .before .before .before .before .read .ensures)
+returns-3 c =
+    let m = c .before .before in
+    c .ruled .ensures ∙ ap (reactsTo _ _ _) (sym (m .code2 .given .1) ∙ m .before .before .before .read .ensures)
+
+returns-4 : tie.Need-returns-4
+unfolding reacts reactsTo
+returns-4 c =
+    let m = c .before .before in
+    c .ruled2 .ensures ∙ ap (reactsTo _ _ _) (sym (m .code .given .1) ∙ m .before .before .read .ensures)
 
 read-requires : tie.Need-read-requires
 read-requires c κs = search needs
+
+kept-requires : tie.Need-kept-requires
+kept-requires c κs = search needs
+
+counted-requires : tie.Need-counted-requires
+counted-requires c κs = search needs
 
 ruled-requires : tie.Need-ruled-requires
 ruled-requires c κs = search needs
@@ -53,8 +71,12 @@ react-spec =
     read-requires
     (λ c. search needs)
     (λ c. search needs)
+    (λ c. search needs)
+    kept-requires
     returns
-    ruled-requires
+    counted-requires
     returns-2
+    ruled-requires
+    returns-3
     ruled-requires-2
-    returns-3)
+    returns-4)

@@ -10,7 +10,7 @@ use Rattle.bits.specs.Set.{bit}
 use Rattle.device.specs.Permissions.{maySend}
 use Rattle.plan.specs.Fields.{nobody}
 use Rattle.plan.specs.declared.Plan.{Plan}
-use Rattle.state.specs.State.{State, words, word, deviceWords, portsAt, portWords, portAt, register, timer, waiting, next, running}
+use Rattle.state.specs.State.{State, words, word, deviceWords, portsAt, portWords, portAt, register, timer, waiting, next, running, counterAt, counter, timeAt, time}
 use Rattle.state.specs.Network.{peerIn}
 
 unfoldable pub timerSound : ℕ → ℕ → Bool
@@ -61,9 +61,28 @@ module _ (ports permissions : List ℕ) (peers : List (List ℕ)) (s : State) wh
   unfoldable pub portsSound : Bool
   portsSound = every 256 placeSound
 
+-- a counter of six bits, and 0 behind n devices; d is one of 32
+unfoldable pub counterSound : State → ℕ → ℕ → Bool
+counterSound s n d = cond (ltb d n) (ltb (counter s d) 64) (eqb (counter s d) 0)
+
+unfoldable pub countersSound : ℕ → State → Bool
+countersSound n s = every 32 (counterSound s n)
+
+-- a port's word of Time-Codes, by whether the port runs
+unfoldable pub timeKept : ℕ → ℕ → Bool
+timeKept time flag = leb (time % 128) 64 && ltb time 256 && (not (eqb flag 0) || eqb (time % 128) 0)
+
+unfoldable pub timeSound : State → ℕ → ℕ → Bool
+timeSound s q ports = cond (ltb (q % 8) ports) (timeKept (time s q) (running s q)) (eqb (time s q) 0)
+
+unfoldable pub timesSound : List ℕ → State → Bool
+timesSound ports s = every 256 (λ q. timeSound s q (getD ports (q / 8) 0))
+
 unfoldable pub sounds : Plan → State → Bool
 sounds plan s =
     eqb (length s) words
     && allTimed (plan .core .devices) s
     && restZero (plan .core .devices) s
     && portsSound (plan .core .ports) (plan .core .permissions) (plan .peers) s
+    && countersSound (plan .core .devices) s
+    && timesSound (plan .core .ports) s

@@ -1,5 +1,5 @@
 -- `state::is_sound` meets its contract: the code computes `sounds`, which is true exactly of sound states. Assumes nothing.
-use mathlib.Core.Path.{_≡_, refl, sym, _∙_}
+use mathlib.Core.Path.{_≡_, refl, sym, subst, _∙_}
 use mathlib.Core.Bool.{Bool, true, false, _&&_}
 use mathlib.Core.List.{List}
 use Prim.Native.Nat.{ℕ, _^_, _<_}
@@ -13,7 +13,7 @@ use Rattle.answers.specs.Decides.{Decides}
 use Rattle.plan.specs.declared.Plan.{Plan}
 use Rattle.state.specs.State.{State, words, word}
 use Rattle.state.specs.Sound.{Sound}
-use Rattle.state.specs.inner.Tests.{allTimed, restZero, portsSound, sounds}
+use Rattle.state.specs.inner.Tests.{allTimed, restZero, portsSound, countersSound, timesSound, sounds}
 use Rattle.state.proofs.Tested.{sounds-sound, sound-sounds}
 use Rattle.state.proofs.sound.is_sound.Statement.{statement}
 use Rattle.state.proofs.sound.is_sound.Tie as tie
@@ -23,13 +23,19 @@ module _ (plan : Plan) (s : State) where
   abbrev allPorts : Bool
   allPorts = portsSound (plan .core .ports) (plan .core .permissions) (plan .peers) s
 
-  -- by the answers to the four tests; those after one that fails do not matter
-  decided : ((i : ℕ) → word s i < 2 ^ 32) → (a b c d : Bool) → eqb (length s) words ≡ a → allTimed (plan .core .devices) s ≡ b
-      → restZero (plan .core .devices) s ≡ c → allPorts ≡ d → Decides (Sound plan s) (a && b && c && d)
+  abbrev allCounters : Bool
+  allCounters = countersSound (plan .core .devices) s
+
+  abbrev allTimes : Bool
+  allTimes = timesSound (plan .core .ports) s
+
+  -- by the answers to the six tests; those after one that fails do not matter
+  decided : ((i : ℕ) → word s i < 2 ^ 32) → (a b c d g h : Bool) → eqb (length s) words ≡ a → allTimed (plan .core .devices) s ≡ b
+      → restZero (plan .core .devices) s ≡ c → allPorts ≡ d → allCounters ≡ g → allTimes ≡ h → Decides (Sound plan s) (a && b && c && d && g && h)
   unfolding sounds
-  decided fit a b c d p q r t =
-      let e : (a && b && c && d) ≡ sounds plan s = rw (p, q, r, t) in
-      record { only = λ f. sounds-sound plan s fit (sym e ∙ f); all = λ h. e ∙ sound-sounds plan s h }
+  decided fit a b c d g h p q r t u v =
+      let e : (a && b && c && d && g && h) ≡ sounds plan s = rw (p, q, r, t, u, v) in
+      record { only = λ f. sounds-sound plan s fit (sym e ∙ f); all = λ x. e ∙ sound-sounds plan s x }
 
   -- among the plan's peers or others that are equal
   all-ports : (peers : List (List ℕ)) (d : Bool) → peers ≡ plan .peers → d ≡ portsSound (plan .core .ports) (plan .core .permissions) peers s → allPorts ≡ d
@@ -41,23 +47,27 @@ unfolding word
 fit c i = omega (arith, c .shared-slice-known .given i)
 
 returns : tie.Need-returns
-returns c = decided _ _ (fit (c .before)) false _ _ _ (ne-eqb _ _ (c .if1 .taken)) refl refl refl
+returns c = decided _ _ (fit (c .before)) false _ _ _ _ _ (ne-eqb _ _ (c .if1 .taken)) refl refl refl refl refl
 
 returns-2 : tie.Need-returns-2
 returns-2 c =
     let e = c .before .before .before in
     let timed = sym (c .before .all-timed .ensures) ∙ not-true _ (c .if2 .taken) in
-    decided _ _ (fit (e .before)) true false _ _ (eq-eqb _ _ (e .if1 .left)) timed refl refl
+    decided _ _ (fit (e .before)) true false _ _ _ _ (eq-eqb _ _ (e .if1 .left)) timed refl refl refl refl
 
 returns-3 : tie.Need-returns-3
 returns-3 c =
     let e = c .before .before .before .before .before in
     let timed = sym (c .before .before .before .all-timed .ensures) ∙ not-false _ (c .before .before .if2 .left) in
     let rest = sym (c .before .rest-zero .ensures) ∙ not-true _ (c .if3 .taken) in
-    decided _ _ (fit (e .before)) true true false _ (eq-eqb _ _ (e .if1 .left)) timed rest refl
+    decided _ _ (fit (e .before)) true true false _ _ _ (eq-eqb _ _ (e .if1 .left)) timed rest refl refl refl
 
-returns-4 : tie.Need-returns-4
-returns-4 c =
+-- the first three tests are passed, when the ports are looked at: the answer is that of the last three
+looked : (c : tie.After-ports-sound) → let e = c .before .before .before .before .before .before .before .before .before .before .before .before .before .before in
+    (r : Bool)
+    → ((g h : Bool) → allCounters (e .args .plan) (now (e .args .state)) ≡ g → allTimes (e .args .plan) (now (e .args .state)) ≡ h → (c .ports-sound .result && g && h) ≡ r)
+    → Decides (Sound (e .args .plan) (now (e .args .state))) r
+looked c r last =
     let t = c .before .before .before .before .before .before .before in
     let e = t .before .before .before .before .before in
     let plan = e .before .before .args .plan in
@@ -65,7 +75,22 @@ returns-4 c =
     let timed = sym (t .before .before .before .all-timed .ensures) ∙ not-false _ (t .before .before .if2 .left) in
     let rest = sym (t .before .rest-zero .ensures) ∙ not-false _ (t .if3 .left) in
     let ports = all-ports plan s _ _ (c .before .before .before .before .before .peers-of .ensures) (c .ports-sound .ensures) in
-    decided plan s (fit (e .before)) true true true _ (eq-eqb _ _ (e .if1 .left)) timed rest ports
+    subst (Decides (Sound plan s)) (last (allCounters plan s) (allTimes plan s) refl refl)
+    (decided plan s (fit (e .before)) true true true (c .ports-sound .result) (allCounters plan s) (allTimes plan s) (eq-eqb _ _ (e .if1 .left)) timed rest ports refl refl)
+
+returns-4 : tie.Need-returns-4
+returns-4 c = looked (c .before) false (λ g h u v. rw (not-true (c .before .ports-sound .result) (c .if4 .taken)))
+
+returns-5 : tie.Need-returns-5
+returns-5 c =
+    looked (c .before .before .before) false
+    (λ g h u v. rw (not-false (c .before .before .before .ports-sound .result) (c .before .before .if4 .left), ← u, ← c .before .counters-sound .ensures, not-true (c .before .counters-sound .result) (c .if5 .taken)))
+
+returns-6 : tie.Need-returns-6
+returns-6 c =
+    let b = c .before .before .before .before in
+    looked (b .before) (c .times-sound .result)
+    (λ g h u v. rw (not-false (b .before .ports-sound .result) (b .if4 .left), ← u, ← c .before .before .before .counters-sound .ensures, not-false (c .before .before .before .counters-sound .result) (c .before .before .if5 .left)) (sym v ∙ sym (c .times-sound .ensures)))
 
 all-timed-requires : tie.Need-all-timed-requires
 all-timed-requires c κs = search needs
@@ -79,6 +104,12 @@ peers-of-requires c κs = search needs
 ports-sound-requires : tie.Need-ports-sound-requires
 ports-sound-requires c κs = search needs
 
+counters-sound-requires : tie.Need-counters-sound-requires
+counters-sound-requires c κs = search needs
+
+times-sound-requires : tie.Need-times-sound-requires
+times-sound-requires c κs = search needs
+
 pub is-sound-spec : {M : Type 1} → statement M
 is-sound-spec =
     tie.close
@@ -90,4 +121,8 @@ is-sound-spec =
     returns-3
     peers-of-requires
     ports-sound-requires
-    returns-4)
+    returns-4
+    counters-sound-requires
+    returns-5
+    times-sound-requires
+    returns-6)

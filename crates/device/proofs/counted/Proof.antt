@@ -1,0 +1,48 @@
+-- `device::counted` meets its contract. Assumes nothing.
+use mathlib.Core.Path.{_≡_, _∙_}
+use Prim.Native.Nat.{ℕ}
+use native.Mathlib.Omega.{arith}
+use borrow.Author.Needs.{needs}
+use borrow.Author.Tests.{eq-eqb, ne-eqb}
+use Rattle.codes.specs.declared.Code.the-variants.{Time}
+use Rattle.device.specs.declared.Action.{Action}
+use Rattle.device.specs.declared.Action.the-variants.{Named}
+use Rattle.device.specs.declared.Side.{Side}
+use Rattle.device.specs.Reaction.{kept, passedOn, counted, nextTime}
+use Rattle.device.proofs.counted.Statement.{statement}
+use Rattle.device.proofs.counted.Tie as tie
+
+module _ (side : Side) (register counter v : ℕ) where
+  another : (v ≡ nextTime counter → ⊥) → kept register v (Named (Time v)) ≡ counted side register counter v
+  unfolding counted
+  another n = rw (ne-eqb v (nextTime counter) n)
+
+  follows : (action : Action) → v ≡ nextTime counter → action ≡ passedOn side register counter (Time v) → kept register v action ≡ counted side register counter v
+  unfolding counted
+  follows action e a = rw (eq-eqb v (nextTime counter) e, a)
+
+returns : tie.Need-returns
+returns c = c .kept .ensures ∙ another _ _ _ _ (λ e. c .before .if1 .taken (omega (arith, e)))
+
+returns-2 : tie.Need-returns-2
+returns-2 c = c .kept2 .ensures ∙ follows _ _ _ _ _ (omega (arith, c .before .before .if1 .left)) (c .before .passed-on .ensures)
+
+kept-requires : tie.Need-kept-requires
+kept-requires c κs = search needs
+
+passed-on-requires : tie.Need-passed-on-requires
+passed-on-requires c κs = search needs
+
+kept-requires-2 : tie.Need-kept-requires-2
+kept-requires-2 c κs = search needs
+
+pub counted-spec : {M : Type 1} → statement M
+counted-spec =
+    tie.close
+    (tie.spec
+    (λ c. search needs)
+    kept-requires
+    returns
+    passed-on-requires
+    kept-requires-2
+    returns-2)
