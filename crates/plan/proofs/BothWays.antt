@@ -1,6 +1,6 @@
 -- The theorems of plan files: what is held is what is right in memory, reading and writing undo each other, and the first refusal found wins.
 use mathlib.Core.Path.{_≡_, refl, sym, ap, _∙_}
-use mathlib.Core.Bool.{Bool, true, false, cond, _&&_, false≢true}
+use mathlib.Core.Bool.{Bool, true, false, cond, _&&_, _||_, false≢true}
 use mathlib.Core.List.{List, [], _∷_}
 use mathlib.Core.Logic.{inr, dite}
 use Prim.Native.Nat.{ℕ, zero, suc, _+_, _*_, _≤_, _<_}
@@ -8,11 +8,11 @@ use native.Mathlib.Decide.{decLt, ℕ-discrete}
 use native.Mathlib.Omega.{arith}
 use lib.Dec.{eqb, leb, ltb}
 use lib.ListN.{length, getD, List·getD-eq-default}
-use borrow.Author.Tests.{ltb-true, eqb-true, eq-eqb, ne-eqb}
+use borrow.Author.Tests.{ltb-true, lt-ltb, eqb-true, eq-eqb, ne-eqb}
 use Rattle.answers.proofs.Unique.{ordered-once}
 use Rattle.lists.proofs.Facts.{facts}
 use Rattle.lists.proofs.Tests.{and-left, and-right}
-use Rattle.plan.specs.Fields.{portsFit, masksFit, nobody}
+use Rattle.plan.specs.Fields.{portsFit, masksFit, masterIsNode, nobody}
 use Rattle.plan.specs.Header.{headerOf}
 use Rattle.plan.specs.Refusals.{Test, test, accepts, first, tests, verdict}
 use Rattle.plan.specs.Reading.{planOf, Accepted, Held, zeros, reads}
@@ -24,7 +24,7 @@ use Rattle.plan.specs.inner.Memory.{portRight, deviceRight, rowRight, ri
 use Rattle.plan.specs.inner.File.{fileOf}
 use Rattle.plan.proofs.Firsts.{fails}
 use Rattle.plan.proofs.Shape.{Shaped}
-use Rattle.plan.proofs.Good.{devices-fit, header-says, zero-accepts}
+use Rattle.plan.proofs.Good.{devices-fit, header-says, master-fits, zero-accepts}
 pub use Rattle.plan.proofs.There.{length-file}
 use Rattle.plan.proofs.There.{right-says, right-good}
 use Rattle.plan.proofs.Back.{shaped, read-right, read-file}
@@ -46,6 +46,15 @@ module _ (file : List ℕ) (plan : Plan) (a : Accepted file plan) where
 -- two accepted files of one plan are the same file
 pub one-file : (file other : List ℕ) (plan : Plan) → Accepted file plan → Accepted other plan → file ≡ other
 one-file file other plan a b = sym (read-and-written file plan a) ∙ read-and-written other plan b
+
+-- the master's role is that of a node
+node-master : (master d role : ℕ) → master ≡ d + 1 → masterIsNode master d role ≡ true → role ≡ 0
+unfolding masterIsNode
+node-master master d role e n = eqb-true role 0 (by-test (eqb role 0) (rw (eq-eqb master (d + 1) e) at n))
+  where
+    by-test : (b : Bool) → (b || false) ≡ true → b ≡ true
+    by-test true n = refl
+    by-test false n = n
 
 module _ (plan : Plan) where
   pub held-right : Held plan → right plan ≡ true
@@ -74,6 +83,18 @@ module _ (plan : Plan) where
   pub held-devices : Held plan → (1 ≤ plan .core .devices) × (plan .core .devices ≤ 32)
   held-devices h = devices-fit (plan .core .devices) (header-says (headerOf (plan .core)) (right-says plan (held-right h) .header) .0)
 
+  -- a master's number plus 1 is no more than there are devices
+  pub held-master : Held plan → plan .core .master ≤ plan .core .devices
+  held-master h = master-fits (plan .core .devices) (plan .core .master) (header-says (headerOf (plan .core)) (right-says plan (held-right h) .header) .2)
+
+  -- the master is one of the devices, and a node
+  pub held-master-node : Held plan → (d : ℕ) → plan .core .master ≡ d + 1 → (d < plan .core .devices) × (getD (plan .core .role) d 0 ≡ 0)
+  unfolding rowRight deviceRight
+  held-master-node h d e =
+      let there : d < plan .core .devices = omega (arith, held-master h) in
+      let row = simp facts at (rw (lt-ltb d (plan .core .devices) there) at (right-says plan (held-right h) .rows d (omega (arith, held-devices h)))) in
+      (there, node-master (plan .core .master) d _ e (row .0 .1))
+
 -- a device is a node or a router, and has few ports; a node has two at most
 pub few-ports : (role ports : ℕ) → portsFit role ports ≡ true → (role < 2) × (ports ≤ 8) × (role ≡ 0 → ports ≤ 2)
 unfolding portsFit
@@ -83,19 +104,19 @@ few-ports role ports e =
       | no n ↦ let f = simp facts at (simp (ne-eqb role 0 n) at e) in (omega arith, omega arith, λ z. absurd (n z))
     ]
 
-device-few : (n d role ports source handler : ℕ) → deviceRight n d role ports source handler ≡ true → (role < 2) × (ports ≤ 8)
+device-few : (n master d role ports source handler : ℕ) → deviceRight n master d role ports source handler ≡ true → (role < 2) × (ports ≤ 8)
 unfolding deviceRight
-device-few n d role ports source handler e = by-test (ltb d n) e
+device-few n master d role ports source handler e = by-test (ltb d n) e
   where
-    by-test : (b : Bool) → cond b (portsFit role ports && masksFit role source handler) (eqb role 0 && eqb ports 0 && eqb source 0 && eqb handler 0) ≡ true → (role < 2) × (ports ≤ 8)
-    by-test true e = let f = few-ports role ports (and-left (portsFit role ports) (masksFit role source handler) e) in (f .0, f .1)
+    by-test : (b : Bool) → cond b (portsFit role ports && masksFit role source handler && masterIsNode master d role) (eqb role 0 && eqb ports 0 && eqb source 0 && eqb handler 0) ≡ true → (role < 2) × (ports ≤ 8)
+    by-test true e = let f = few-ports role ports (and-left _ _ (and-left _ (masterIsNode master d role) e)) in (f .0, f .1)
     by-test false e = let f = simp facts at e in (omega arith, omega arith)
 
 pub held-few : (plan : Plan) → Held plan → (d : ℕ) → d < 32 → (getD (plan .core .role) d 0 < 2) × (getD (plan .core .ports) d 0 ≤ 8)
 unfolding rowRight
 held-few plan h d l =
     let row = simp facts at (right-says plan (held-right plan h) .rows d l) in
-    device-few (plan .core .devices) d _ _ _ _ (row .0)
+    device-few (plan .core .devices) (plan .core .master) d _ _ _ _ (row .0)
 
 -- a peer is a port or nobody
 some-peer : (n ports p peer permissions : ℕ) → n ≤ 32 → portRight n ports p peer permissions ≡ true → peer ≤ nobody

@@ -8,9 +8,9 @@ use native.Mathlib.Omega.{arith}
 use lib.ListN.{length, getD}
 use Rattle.lists.specs.Table.{joined}
 use Rattle.plan.specs.Block.{block, numberIn, restZero, checked, kindField}
-use Rattle.plan.specs.Fields.{devicesFit, loadsFit, numberField, deviceFields, roleIn, portsIn, sourceIn, handlerIn, portsFit, masksFit, entryFits, deviceFits, joins}
+use Rattle.plan.specs.Fields.{devicesFit, loadsFit, masterFits, numberField, deviceFields, roleIn, portsIn, sourceIn, handlerIn, portsFit, masksFit, masterIsNode, entryFits, deviceFits, joins}
 use Rattle.plan.specs.Header.{headerFields, headerIn, headerFits}
-use Rattle.plan.specs.Refusals.{Test, test, accepts, lengthFits, headerTests, deviceTests, joinTests, deviceBlock, countIn, portsOf, peerOf, tests, verdict}
+use Rattle.plan.specs.Refusals.{Test, test, accepts, lengthFits, headerTests, deviceTests, joinTests, deviceBlock, countIn, masterIn, portsOf, peerOf, tests, verdict}
 use Rattle.plan.specs.declared.Header.{Header}
 use Rattle.lists.proofs.Facts.{facts}
 use Rattle.plan.proofs.Firsts.{AllPass, Refusal, Numbered, stops-numbered, passes-or-stops, first-accepts, accepts-all, all-append, all-front, all-back, all-joined, all-at, all-table, all-table-at, numbered-append, numbered-joined, numbered-table}
@@ -23,19 +23,20 @@ pub record GoodHeader (s : List ℕ) : Type 0 where
   pub fits : headerFits (headerIn s) ≡ true
   pub zeros : restZero headerFields s ≡ true
 
-pub record GoodDevice (n d : ℕ) (s : List ℕ) : Type 0 where
+pub record GoodDevice (n master d : ℕ) (s : List ℕ) : Type 0 where
   pub check : checked s ≡ true
   pub mark : numberIn s kindField ≡ 2
   pub number : numberIn s numberField ≡ d
   pub ports : portsFit (roleIn s) (portsIn s) ≡ true
   pub masks : masksFit (roleIn s) (sourceIn s) (handlerIn s) ≡ true
+  pub node : masterIsNode master d (roleIn s) ≡ true
   pub entries : (p : ℕ) → p < 8 → entryFits n s p ≡ true
   pub zeros : restZero deviceFields s ≡ true
 
 pub record Good (file : List ℕ) : Type 0 where
   pub long : length file ≡ 512 * (1 + countIn file)
   pub header : GoodHeader (block file 0)
-  pub device : (d : ℕ) → d < countIn file → GoodDevice (countIn file) d (deviceBlock file d)
+  pub device : (d : ℕ) → d < countIn file → GoodDevice (countIn file) (masterIn file) d (deviceBlock file d)
   pub joined : (d : ℕ) → d < countIn file → (p : ℕ) → p < 8 → joins (portsOf file) (peerOf file) d p ≡ true
 
 -- 1 to 32 devices
@@ -43,9 +44,15 @@ pub devices-fit : (n : ℕ) → devicesFit n ≡ true → (1 ≤ n) × (n ≤ 32
 unfolding devicesFit
 devices-fit n e = simp facts at e
 
--- two of the rules of block 0
-pub header-says : (h : Header) → headerFits h ≡ true → (devicesFit (h .devices) ≡ true) × (loadsFit (getD (h .loads) 1 0) (getD (h .loads) 0 0) ≡ true)
-header-says h e = let f = simp facts at e in (search, search)
+-- the rules of block 0
+pub header-says : (h : Header) → headerFits h ≡ true
+    → (devicesFit (h .devices) ≡ true) × (loadsFit (getD (h .loads) 1 0) (getD (h .loads) 0 0) ≡ true) × (masterFits (h .devices) (h .master) ≡ true)
+header-says h e = let f = simp facts at e in (search, search, search)
+
+-- the master is one of the devices, if there is one
+pub master-fits : (n master : ℕ) → masterFits n master ≡ true → master ≤ n
+unfolding masterFits
+master-fits n master e = simp facts at e
 
 -- ---- the tests of one block
 
@@ -55,8 +62,8 @@ module _ (s : List ℕ) where
   unfolding lengthFits
   fitting n h e = simp facts (omega arith)
 
-  module _ (n d : ℕ) where
-    device-good : AllPass (deviceTests n d s) → GoodDevice n d s
+  module _ (n master d : ℕ) where
+    device-good : AllPass (deviceTests n master d s) → GoodDevice n master d s
     unfolding deviceTests deviceFits
     device-good p =
         let f = simp facts at p in
@@ -64,22 +71,23 @@ module _ (s : List ℕ) where
           check = f .0;
           mark = f .1 .0 .0;
           number = f .1 .0 .1;
-          ports = f .1 .1 .0 .0 .0;
-          masks = f .1 .1 .0 .0 .1;
+          ports = f .1 .1 .0 .0 .0 .0;
+          masks = f .1 .1 .0 .0 .0 .1;
+          node = f .1 .1 .0 .0 .1;
           entries = f .1 .1 .0 .1;
           zeros = f .1 .1 .1 .0;
         }
 
-    good-device : GoodDevice n d s → AllPass (deviceTests n d s)
+    good-device : GoodDevice n master d s → AllPass (deviceTests n master d s)
     unfolding deviceTests deviceFits
-    good-device g = simp facts (g .check, ((g .mark, g .number), (((g .ports, g .masks), g .entries), (g .zeros, tt))))
+    good-device g = simp facts (g .check, ((g .mark, g .number), ((((g .ports, g .masks), g .node), g .entries), (g .zeros, tt))))
 
 -- ---- the tests of a file
 
 module _ (file : List ℕ) where
   -- the tests of the devices' blocks and those of their connections, which follow the six of the length, of block 0 and of the count
   abbrev blocks : List Test
-  blocks = joined (countIn file) (λ d. deviceTests (countIn file) d (deviceBlock file d))
+  blocks = joined (countIn file) (λ d. deviceTests (countIn file) (masterIn file) d (deviceBlock file d))
 
   abbrev connections : List Test
   connections = joined (countIn file) (joinTests (portsOf file) (peerOf file))
@@ -89,7 +97,7 @@ module _ (file : List ℕ) where
   numbered =
       let devices : Numbered (blocks ++ connections) =
       numbered-append blocks connections
-      (numbered-joined (λ d. deviceTests (countIn file) d (deviceBlock file d)) (countIn file) (λ d. omega arith))
+      (numbered-joined (λ d. deviceTests (countIn file) (masterIn file) d (deviceBlock file d)) (countIn file) (λ d. omega arith))
       (numbered-joined (joinTests (portsOf file) (peerOf file)) (countIn file)
       (λ d. numbered-table 8 (λ p. test 26 (1 + d) (joins (portsOf file) (peerOf file) d p)) (λ p. omega arith))) in
       (omega arith, (omega arith, (omega arith, (omega arith, (omega arith, (omega arith, devices))))))
@@ -117,7 +125,7 @@ module _ (file : List ℕ) where
       record {
         long = f .1 .1 .1 .1 .1 .0;
         header = record { check = f .1 .0; mark = f .1 .1 .0; fits = p .1 .1 .1 .0; zeros = f .1 .1 .1 .1 .0 };
-        device = λ d h. device-good (deviceBlock file d) (countIn file) d (all-at _ (countIn file) (all-front blocks connections r) d h);
+        device = λ d h. device-good (deviceBlock file d) (countIn file) (masterIn file) d (all-at _ (countIn file) (all-front blocks connections r) d h);
         joined = λ d h. all-table-at 8 _ (all-at _ (countIn file) (all-back blocks connections r) d h);
       }
 
@@ -126,7 +134,7 @@ module _ (file : List ℕ) where
   accepted g =
       let devices : AllPass (blocks ++ connections) =
       all-append blocks connections
-      (all-joined _ (countIn file) (λ d h. good-device (deviceBlock file d) (countIn file) d (g .device d h)))
+      (all-joined _ (countIn file) (λ d h. good-device (deviceBlock file d) (countIn file) (masterIn file) d (g .device d h)))
       (all-joined _ (countIn file) (λ d h. all-table 8 _ (g .joined d h))) in
       let h : GoodHeader (block file 0) = g .header in
       first-accepts (tests file)

@@ -13,7 +13,7 @@ use Rattle.lists.specs.Table.{table, joined}
 use Rattle.lists.proofs.Tables.{getD-table, is-table, same-joined}
 use Rattle.plan.specs.Block.{block}
 use Rattle.plan.specs.Fields.{roleIn, portsIn, sourceIn, handlerIn, entry, nobody, peerNumber, joins}
-use Rattle.plan.specs.Refusals.{deviceBlock, countIn, portsOf, peerOf}
+use Rattle.plan.specs.Refusals.{deviceBlock, countIn, masterIn, portsOf, peerOf}
 use Rattle.plan.specs.Header.{headerIn, headerOf, headerFits, coreWith}
 use Rattle.plan.specs.Reading.{column, planOf}
 use Rattle.plan.specs.declared.Header.{Header}
@@ -92,8 +92,14 @@ module _ (plan : Plan) (file : List ℕ) (m : Match plan file) where
   abbrev devices : ℕ
   devices = plan .core .devices
 
+  abbrev master : ℕ
+  master = plan .core .master
+
   pub same-count : devices ≡ countIn file
   same-count = ap (λ (h : Header). h .devices) (m .header)
+
+  same-master : master ≡ masterIn file
+  same-master = ap (λ (h : Header). h .master) (m .header)
 
   is-permissions : length (plan .core .permissions) ≡ 256
       → plan .core .permissions ≡ table 256 (λ q. ofDevice (countIn file) (q / 8) (entry (deviceBlock file (q / 8)) (q % 8) 2) 0)
@@ -122,7 +128,7 @@ module _ (plan : Plan) (file : List ℕ) (m : Match plan file) where
     match-row d h = rw (lt-ltb d (countIn file) (omega (arith, same-count))) at (m .says d (omega arith))
 
     -- its connections are good where those of the file are
-    pub match-joins : ((d : ℕ) → d < devices → GoodDevice devices d (deviceBlock file d)) → (d : ℕ) → d < devices → (p : ℕ) → p < 8
+    pub match-joins : ((d : ℕ) → d < devices → GoodDevice devices master d (deviceBlock file d)) → (d : ℕ) → d < devices → (p : ℕ) → p < 8
         → joins (portsOf file) (peerOf file) d p ≡ joins (at (plan .core .ports)) (peerAt (plan .peers)) d p
     match-joins good d h p l =
         joins-same devices (portsOf file) (at (plan .core .ports)) (peerOf file) (peerAt (plan .peers))
@@ -135,8 +141,8 @@ module _ (plan : Plan) (file : List ℕ) (m : Match plan file) where
     few-devices : devices ≤ 32
     few-devices = rw same-count (devices-fit (countIn file) (header-says (headerIn (block file 0)) (g .header .fits) .0) .1)
 
-    device-good : (d : ℕ) → d < devices → GoodDevice devices d (deviceBlock file d)
-    device-good = rw same-count (g .device)
+    device-good : (d : ℕ) → d < devices → GoodDevice devices master d (deviceBlock file d)
+    device-good = rw (same-count, same-master) (g .device)
 
     row-good : (d : ℕ) → d < 32 → rowRight (plan .core) (plan .peers) d ≡ true
     row-good d k =

@@ -9,7 +9,7 @@ use borrow.Author.Tests.{lt-ltb, le-ltb}
 use Rattle.lists.specs.Table.{table, joined}
 use Rattle.lists.proofs.Tables.{is-table}
 use Rattle.plan.specs.Block.{byte}
-use Rattle.plan.specs.Fields.{devicesFit, deviceFields, roleIn, portsIn, sourceIn, handlerIn, entryFields, entry, nobody, peerNumber}
+use Rattle.plan.specs.Fields.{devicesFit, masterFits, deviceFields, roleIn, portsIn, sourceIn, handlerIn, entryFields, entry, nobody, peerNumber}
 use Rattle.plan.specs.Header.{headerFields, headerIn, headerOf, headerFits}
 use Rattle.plan.specs.declared.Core.{Core}
 use Rattle.plan.specs.declared.Header.{Header}
@@ -35,7 +35,7 @@ module _ (core : Core) where
   -- the block that is written of the plan
   module _ (loads : Numbers (core .loads) 2 65536) (fits : headerFits (headerOf core) ≡ true) (s : List ℕ) (e : s ≡ blockOf (headerHoldings (headerOf core))) where
     header-fit : Fit (headerHoldings (headerOf core))
-    unfolding devicesFit
+    unfolding devicesFit masterFits
     header-fit = let f = simp facts at fits in omega (arith, loads .small 0, loads .small 1)
 
     header-holds : Holds s (headerHoldings (headerOf core))
@@ -138,11 +138,11 @@ module _ (core : Core) (peers : List (List ℕ)) (d : ℕ) where
           }
 
     module _ (s : List ℕ) (h : d < core .devices) where
-      pub row-right : Row s → GoodDevice (core .devices) d s → rowRight core peers d ≡ true
+      pub row-right : Row s → GoodDevice (core .devices) (core .master) d s → rowRight core peers d ≡ true
       unfolding rowRight deviceRight
       row-right r g =
           rw (lt-ltb d (core .devices) h, r .role, r .ports, r .source, r .handler)
-          (simp facts ((g .ports, g .masks), λ p l. rw (r .peer p l, r .permissions p l) (port-right few (entry-port (core .devices) few s p (g .entries p l)))))
+          (simp facts (((g .ports, g .masks), g .node), λ p l. rw (r .peer p l, r .permissions p l) (port-right few (entry-port (core .devices) few s p (g .entries p l)))))
 
       -- the block that is written of the plan
       module _ (right : rowRight core peers d ≡ true) (small : (at (core .role) d < 256) × (at (core .ports) d < 256) × (at (core .source) d < 4294967296) × (at (core .handler) d < 4294967296))
@@ -176,7 +176,7 @@ module _ (core : Core) (peers : List (List ℕ)) (d : ℕ) where
               permissions = λ p l. port-permissions (port-at p l);
             }
 
-        pub written-device : GoodDevice (core .devices) d s
+        pub written-device : GoodDevice (core .devices) (core .master) d s
         unfolding rowRight deviceRight
         written-device =
             let f = simp facts at (rw (lt-ltb d (core .devices) h) at right) in
@@ -184,14 +184,15 @@ module _ (core : Core) (peers : List (List ℕ)) (d : ℕ) where
               check = rw e (made-checked (deviceHoldings core peers d));
               mark = device-holds .0 .0;
               number = device-holds .0 .1 .0;
-              ports = rw (written-row .role, written-row .ports) at (f .0 .0);
-              masks = rw (written-row .role, written-row .source, written-row .handler) at (f .0 .1);
+              ports = rw (written-row .role, written-row .ports) at (f .0 .0 .0);
+              masks = rw (written-row .role, written-row .source, written-row .handler) at (f .0 .0 .1);
+              node = rw (written-row .role) at (f .0 .1);
               entries = λ p l. port-entry (core .devices) few s p (rw (written-row .ports) at (port-at p l));
               zeros = rw (e, ← device-fields) (made-rest (deviceHoldings core peers d));
             }
 
       -- a block that was read
-      module _ (e : length s ≡ 512) (small : Bytes s) (r : Row s) (g : GoodDevice (core .devices) d s) where
+      module _ (e : length s ≡ 512) (small : Bytes s) (r : Row s) (g : GoodDevice (core .devices) (core .master) d s) where
         entry-read : (p : ℕ) → p < 8 → Holds s (entries p)
         entry-read p l =
             let f : entryOf p ≡ entry s p 0 ∷ entry s p 1 ∷ entry s p 2 ∷ entry s p 3 ∷ [] =

@@ -14,7 +14,7 @@ use Rattle.lists.proofs.Tests.{and-left}
 use Rattle.plan.specs.Block.{block}
 use Rattle.plan.specs.Fields.{loadsFit, joins}
 use Rattle.plan.specs.Header.{headerIn, headerOf, headerFits}
-use Rattle.plan.specs.Refusals.{deviceBlock, countIn}
+use Rattle.plan.specs.Refusals.{deviceBlock, countIn, masterIn}
 use Rattle.plan.specs.Reading.{Accepted}
 use Rattle.plan.specs.declared.Header.{Header}
 use Rattle.plan.specs.declared.Plan.{Plan}
@@ -92,6 +92,9 @@ module _ (plan : Plan) where
     count : plan .core .devices ≡ countIn (fileOf plan)
     count = ap (λ (h : Header). h .devices) header-read
 
+    same-master : plan .core .master ≡ masterIn (fileOf plan)
+    same-master = ap (λ (h : Header). h .master) header-read
+
     matches : Match plan (fileOf plan)
     matches =
         record {
@@ -101,7 +104,7 @@ module _ (plan : Plan) where
               (λ h. rw (le-ltb d (countIn (fileOf plan)) (omega (arith, count))) (right-absent (plan .core) (plan .peers) d few (omega arith) (r .rows d k)));
         }
 
-    devices-good : (d : ℕ) → d < plan .core .devices → GoodDevice (plan .core .devices) d (deviceBlock (fileOf plan) d)
+    devices-good : (d : ℕ) → d < plan .core .devices → GoodDevice (plan .core .devices) (plan .core .master) d (deviceBlock (fileOf plan) d)
     devices-good d h = written-device (plan .core) (plan .peers) d few (deviceBlock (fileOf plan) d) h (r .rows d (omega (arith, few))) (small d) (row-block d h)
 
     good-file : Good (fileOf plan)
@@ -109,7 +112,7 @@ module _ (plan : Plan) where
         record {
           long = rw (← count) length-file;
           header = good-header (plan .core) (s .loads) (r .header) (block (fileOf plan) 0) head-block;
-          device = rw (← count) devices-good;
+          device = rw (← count, ← same-master) devices-good;
           joined = rw (← count) (λ d h p l. match-joins plan (fileOf plan) matches few devices-good d h p l ∙ r .joined d h p l);
         }
 

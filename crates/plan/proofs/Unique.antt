@@ -5,7 +5,7 @@ use mathlib.Core.List.{List, []}
 use Prim.Native.Nat.{ℕ, min}
 use lib.ListN.{getD}
 use Rattle.lists.specs.Table.{joined}
-use Rattle.plan.specs.Fields.{devicesFit, loadsFit, portsFit, masksFit}
+use Rattle.plan.specs.Fields.{devicesFit, loadsFit, portsFit, masksFit, masterIsNode}
 use Rattle.plan.specs.Refusals.{first, joinTests}
 use Rattle.answers.specs.Decides.{Decides}
 use Rattle.answers.proofs.Unique.{decides-once}
@@ -48,6 +48,9 @@ ports-fit-unique role ports r s p q = p ∙ sym q
 
 pub masks-fit-unique : (role source handler : ℕ) (r s : Bool) → r ≡ masksFit role source handler → s ≡ masksFit role source handler → r ≡ s
 masks-fit-unique role source handler r s p q = p ∙ sym q
+
+pub master-is-node-unique : (master d role : ℕ) (r s : Bool) → r ≡ masterIsNode master d role → s ≡ masterIsNode master d role → r ≡ s
+master-is-node-unique master d role r s p q = p ∙ sym q
 
 module _ (n : ℕ) (ports : List ℕ) (peers : List (List ℕ)) where
   abbrev found : ℕ

@@ -16,6 +16,10 @@ devicesFit n = leb 1 n && leb n 32
 unfoldable pub loadsFit : ℕ → ℕ → Bool
 loadsFit router node = leb 1 router && leb 1 node && leb router node
 
+-- the master is one of n devices, as its number plus 1, or there is none, 0
+unfoldable pub masterFits : ℕ → ℕ → Bool
+masterFits n master = leb master n
+
 -- ---- the block of a device
 
 abbrev pub numberField : Field
@@ -71,6 +75,10 @@ portsFit role ports = leb role 1 && leb 1 ports && leb ports (cond (eqb role 0) 
 unfoldable pub masksFit : ℕ → ℕ → ℕ → Bool
 masksFit role source handler = cond (eqb role 0) (eqb (bitAnd source handler) 0) (eqb source 0 && eqb handler 0)
 
+-- a master is a node: device d has that role, or is not the master
+unfoldable pub masterIsNode : ℕ → ℕ → ℕ → Bool
+masterIsNode master d role = eqb role 0 || not (eqb master (d + 1))
+
 -- 255, 255, 0, 0
 unfoldable pub unconnected : List ℕ → ℕ → Bool
 unconnected s p = eqb (entry s p 0) 255 && eqb (entry s p 1) 255 && eqb (entry s p 2) 0 && eqb (entry s p 3) 0
@@ -83,8 +91,13 @@ connected n s p = ltb (entry s p 0) n && ltb (entry s p 1) 8 && leb (entry s p 2
 unfoldable pub entryFits : ℕ → List ℕ → ℕ → Bool
 entryFits n s p = cond (ltb p (portsIn s)) (connected n s p || unconnected s p) (unconnected s p)
 
-unfoldable pub deviceFits : ℕ → List ℕ → Bool
-deviceFits n s = portsFit (roleIn s) (portsIn s) && masksFit (roleIn s) (sourceIn s) (handlerIn s) && every 8 (entryFits n s)
+-- those of device d, one of n
+unfoldable pub deviceFits : ℕ → ℕ → ℕ → List ℕ → Bool
+deviceFits n master d s =
+    portsFit (roleIn s) (portsIn s)
+    && masksFit (roleIn s) (sourceIn s) (handlerIn s)
+    && masterIsNode master d (roleIn s)
+    && every 8 (entryFits n s)
 
 -- ---- connections
 

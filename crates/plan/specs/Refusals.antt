@@ -7,7 +7,7 @@ use lib.ListN.{length}
 use Rattle.lists.specs.Table.{table, joined}
 use Rattle.plan.specs.Block.{block, numberIn, restZero, checked, kindField}
 use Rattle.plan.specs.Fields.{numberField, deviceFields, portsIn, deviceFits, peerNumber, joins}
-use Rattle.plan.specs.Header.{devicesField, headerFields, headerIn, headerFits}
+use Rattle.plan.specs.Header.{devicesField, masterField, headerFields, headerIn, headerFits}
 use Rattle.plan.specs.declared.Verdict.{Verdict}
 
 -- a test: the number and the block that it is refused with, and whether the file passes
@@ -41,12 +41,12 @@ headerTests s =
     ∷ test 24 0 (restZero headerFields s)
     ∷ []
 
--- block 1 + d of n devices: the check, the kind and the number, the fields, the bytes in no field
-unfoldable pub deviceTests : ℕ → ℕ → List ℕ → List Test
-deviceTests n d s =
+-- block 1 + d of n devices and their master: the check, the kind and the number, the fields, the bytes in no field
+unfoldable pub deviceTests : ℕ → ℕ → ℕ → List ℕ → List Test
+deviceTests n master d s =
     test 21 (1 + d) (checked s)
     ∷ test 22 (1 + d) (eqb (numberIn s kindField) 2 && eqb (numberIn s numberField) d)
-    ∷ test 23 (1 + d) (deviceFits n s)
+    ∷ test 23 (1 + d) (deviceFits n master d s)
     ∷ test 24 (1 + d) (restZero deviceFields s)
     ∷ []
 
@@ -62,6 +62,9 @@ module _ (file : List ℕ) where
   abbrev pub countIn : ℕ
   countIn = numberIn (block file 0) devicesField
 
+  abbrev pub masterIn : ℕ
+  masterIn = numberIn (block file 0) masterField
+
   abbrev pub portsOf : ℕ → ℕ
   portsOf d = portsIn (deviceBlock d)
 
@@ -73,7 +76,7 @@ module _ (file : List ℕ) where
       (test 20 0 (lengthFits file) ∷ [])
       ++ headerTests (block file 0)
       ++ (test 25 0 (eqb (length file) (512 * (1 + countIn))) ∷ [])
-      ++ joined countIn (λ d. deviceTests countIn d (deviceBlock d))
+      ++ joined countIn (λ d. deviceTests countIn masterIn d (deviceBlock d))
       ++ joined countIn (joinTests portsOf peerOf)
 
   unfoldable pub verdict : Verdict

@@ -1,6 +1,6 @@
 // What the numbers of a plan may be, whether they come from a file or stand in memory.
 ghost use mathlib.Core.Path.{_≡_};
-ghost use Rattle.plan.specs.Fields.{devicesFit, loadsFit, portsFit, masksFit};
+ghost use Rattle.plan.specs.Fields.{devicesFit, loadsFit, portsFit, masksFit, masterIsNode};
 
 pub fn devices_fit(n: usize) -> bool
     ensures { λ r. ⌜ r ≡ devicesFit n ⌝ }
@@ -50,4 +50,17 @@ pub fn masks_fit(role: u8, source: u32, handler: u32) -> bool
         return false;
     }
     handler == 0
+}
+
+// Is device d a node, or not the master? The master is a number plus 1, and 0 is nobody's.
+pub fn master_is_node(master: u8, d: usize, role: u8) -> bool
+    ensures { λ r. ⌜ r ≡ masterIsNode master d role ⌝ }
+{
+    if role == 0 {
+        return true;
+    }
+    if master == 0 {
+        return true;
+    }
+    master as usize - 1 != d
 }

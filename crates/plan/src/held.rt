@@ -36,6 +36,7 @@ fn rows_right(core: Core, peers: [[u16; 8]; 32]) -> bool
     for d in 0..32 {
         if !device_right(
             core.devices,
+            core.master,
             d,
             core.role[d],
             core.ports[d],
@@ -51,14 +52,25 @@ fn rows_right(core: Core, peers: [[u16; 8]; 32]) -> bool
     true
 }
 
-fn device_right(n: usize, d: usize, role: u8, ports: u8, source: u32, handler: u32) -> bool
-    ensures { λ r. ⌜ r ≡ deviceRight n d role ports source handler ⌝ }
+fn device_right(
+    n: usize,
+    master: u8,
+    d: usize,
+    role: u8,
+    ports: u8,
+    source: u32,
+    handler: u32,
+) -> bool
+    ensures { λ r. ⌜ r ≡ deviceRight n master d role ports source handler ⌝ }
 {
     if d < n {
         if !fields::ports_fit(role, ports) {
             return false;
         }
-        return fields::masks_fit(role, source, handler);
+        if !fields::masks_fit(role, source, handler) {
+            return false;
+        }
+        return fields::master_is_node(master, d, role);
     }
     if role != 0 {
         return false;

@@ -10,14 +10,17 @@ mod joins;
 pub use fields::devices_fit;
 pub use fields::loads_fit;
 pub use fields::masks_fit;
+pub use fields::master_is_node;
 pub use fields::ports_fit;
 pub use held::is_held;
 pub use joins::bad_block;
 
-// The numbers and flat arrays of a plan. Loads stand by role, the node's first. Permissions stand
-// by port, 8 x device + port. Absent devices and ports have 0 everywhere.
+// The numbers and flat arrays of a plan. The master is a node's number plus 1, or 0 for none. Loads
+// stand by role, the node's first. Permissions stand by port, 8 x device + port. Absent devices and
+// ports have 0 everywhere.
 pub struct Core {
     pub devices: usize,
+    pub master: u8,
     pub loads: [u16; 2],
     pub role: [u8; 32],
     pub ports: [u8; 32],
@@ -29,6 +32,7 @@ pub struct Core {
 // The numbers of a plan that block 0 of its file holds, as they stand in Core.
 pub struct Header {
     pub devices: usize,
+    pub master: u8,
     pub loads: [u16; 2],
 }
 
@@ -81,6 +85,7 @@ pub fn header_of(core: Core) -> Header
     let loads = core.loads;
     Header {
         devices: core.devices,
+        master: core.master,
         loads: loads,
     }
 }
@@ -98,6 +103,7 @@ pub fn core_with(
     let loads = header.loads;
     Core {
         devices: header.devices,
+        master: header.master,
         loads: loads,
         role: role,
         ports: ports,
@@ -113,6 +119,7 @@ pub fn blank() -> Plan
 {
     let header = Header {
         devices: 0,
+        master: 0,
         loads: [0; 2],
     };
     let core = core_with(header, [0; 32], [0; 32], [0; 32], [0; 32], [0; 256]);
@@ -127,5 +134,8 @@ pub fn header_fits(header: Header) -> bool
         return false;
     }
     let loads = header.loads;
-    fields::loads_fit(loads[1] as usize, loads[0] as usize)
+    if !fields::loads_fit(loads[1] as usize, loads[0] as usize) {
+        return false;
+    }
+    header.master as usize <= header.devices
 }

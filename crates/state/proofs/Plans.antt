@@ -51,7 +51,7 @@ module _ (plan : Plan) (held : Held plan) where
 
   pub device-fits : (d : ℕ) → d < devices plan → (portsFit (role plan d) (portsOf plan d) ≡ true) × (masksFit (role plan d) (source plan d) (handler plan d) ≡ true)
   unfolding rowRight deviceRight
-  device-fits d h = (simp facts at (rw (lt-ltb d (devices plan) h) at (says .rows d (omega (arith, few))))) .0
+  device-fits d h = (simp facts at (rw (lt-ltb d (devices plan) h) at (says .rows d (omega (arith, few))))) .0 .0
 
   -- a node or a router, with few ports
   device-says : (d : ℕ) → d < devices plan → (role plan d < 2) × (portsOf plan d ≤ 8) × (role plan d ≡ 0 → portsOf plan d ≤ 2)

@@ -1,6 +1,7 @@
 -- `plan::header_fits` meets its contract: each rule by its test. Assumes nothing.
 use borrow.Author.Needs.{needs}
 use Rattle.lists.proofs.Turns.{failed, passed}
+use Rattle.plan.specs.Fields.{masterFits}
 use Rattle.plan.proofs.header_fits.Statement.{statement}
 use Rattle.plan.proofs.header_fits.Tie as tie
 
@@ -8,7 +9,13 @@ returns : tie.Need-returns
 returns c = simp (failed (c .before .devices-fit .ensures) (c .if1 .taken))
 
 returns-2 : tie.Need-returns-2
-returns-2 c = simp (passed (c .before .before .before .devices-fit .ensures) (c .before .before .if1 .left)) (c .loads-fit .ensures)
+returns-2 c = simp (passed (c .before .before .before .before .devices-fit .ensures) (c .before .before .before .if1 .left), failed (c .before .loads-fit .ensures) (c .if2 .taken))
+
+returns-3 : tie.Need-returns-3
+unfolding masterFits
+returns-3 c =
+    let l = c .before .before in
+    simp (passed (l .before .before .before .before .devices-fit .ensures) (l .before .before .before .if1 .left), passed (l .before .loads-fit .ensures) (l .if2 .left))
 
 devices-fit-requires : tie.Need-devices-fit-requires
 devices-fit-requires c κs = search needs
@@ -27,4 +34,6 @@ header-fits-spec =
     (λ c. search needs)
     (λ c. search needs)
     loads-fit-requires
-    returns-2)
+    returns-2
+    (λ c. search needs)
+    returns-3)

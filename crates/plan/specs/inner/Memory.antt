@@ -6,7 +6,7 @@ use Prim.Native.Nat.{ℕ, _+_, _*_}
 use lib.Dec.{eqb, ltb, leb}
 use lib.ListN.{getD}
 use Rattle.lists.specs.Table.{every}
-use Rattle.plan.specs.Fields.{portsFit, masksFit, nobody, joins}
+use Rattle.plan.specs.Fields.{portsFit, masksFit, masterIsNode, nobody, joins}
 use Rattle.plan.specs.Header.{headerOf, headerFits}
 use Rattle.plan.specs.declared.Core.{Core}
 use Rattle.plan.specs.declared.Plan.{Plan}
@@ -23,15 +23,17 @@ unfoldable pub portRight : ℕ → ℕ → ℕ → ℕ → ℕ → Bool
 portRight n ports p peer permissions =
     cond (ltb p ports && ltb peer (8 * n)) (leb permissions 15) (eqb peer nobody && eqb permissions 0)
 
--- a device's numbers fit its role; those of an absent device are 0
-unfoldable pub deviceRight : ℕ → ℕ → ℕ → ℕ → ℕ → ℕ → Bool
-deviceRight n d role ports source handler =
-    cond (ltb d n) (portsFit role ports && masksFit role source handler) (eqb role 0 && eqb ports 0 && eqb source 0 && eqb handler 0)
+-- a device's numbers fit its role, and its role the master; the numbers of an absent device are 0
+unfoldable pub deviceRight : ℕ → ℕ → ℕ → ℕ → ℕ → ℕ → ℕ → Bool
+deviceRight n master d role ports source handler =
+    cond (ltb d n)
+    (portsFit role ports && masksFit role source handler && masterIsNode master d role)
+    (eqb role 0 && eqb ports 0 && eqb source 0 && eqb handler 0)
 
 -- device d, with its ports
 unfoldable pub rowRight : Core → List (List ℕ) → ℕ → Bool
 rowRight core peers d =
-    deviceRight (core .devices) d (at (core .role) d) (at (core .ports) d) (at (core .source) d) (at (core .handler) d)
+    deviceRight (core .devices) (core .master) d (at (core .role) d) (at (core .ports) d) (at (core .source) d) (at (core .handler) d)
     && every 8 (λ p. portRight (core .devices) (at (core .ports) d) p (peerAt peers d p) (at (core .permissions) (8 * d + p)))
 
 -- the whole plan
