@@ -9,7 +9,7 @@ use lib.ListN.{drop}
 use lib.Seq.{getD-take, getD-drop}
 use Rattle.plan.specs.Block.{block, byte, numberAt}
 use Rattle.plan.specs.Fields.{entry, nobody, peerNumber}
-use Rattle.plan.specs.Refusals.{deviceBlock, countIn}
+use Rattle.plan.specs.Refusals.{deviceBlock, countIn, masterIn}
 use Rattle.plan.proofs.Bytes.{number-same}
 
 module _ (file : List ℕ) (b : ℕ) where
@@ -32,6 +32,9 @@ peer-in file d p x y h e g =
     (entry-in file (1 + d) p 0 h (omega arith) ∙ sym e)
     (entry-in file (1 + d) p 1 h (omega arith) ∙ sym g)
 
--- the number of devices
+-- the number of devices, and the master
 pub count-in : (file : List ℕ) → countIn file ≡ byte file 1
 count-in file = byte-in file 0 1 (omega arith)
+
+pub master-in : (file : List ℕ) → masterIn file ≡ byte file 10
+master-in file = byte-in file 0 10 (omega arith)

@@ -10,8 +10,8 @@ use borrow.Author.Tests.{ne-eqb, eqb-true}
 use Rattle.lists.specs.Table.{joined, every}
 use Rattle.lists.proofs.Tests.{and-right, every-at}
 use Rattle.plan.specs.Block.{block}
-use Rattle.plan.specs.Fields.{portsFit, masksFit, roleIn, portsIn, sourceIn, handlerIn, entryFits, deviceFits}
-use Rattle.plan.specs.Refusals.{Test, accepts, first, deviceTests, joinTests, deviceBlock, countIn, portsOf, peerOf, tests, verdict}
+use Rattle.plan.specs.Fields.{portsFit, masksFit, masterIsNode, roleIn, portsIn, sourceIn, handlerIn, entryFits, deviceFits}
+use Rattle.plan.specs.Refusals.{Test, accepts, first, deviceTests, joinTests, deviceBlock, countIn, masterIn, portsOf, peerOf, tests, verdict}
 use Rattle.plan.specs.declared.Verdict.{Verdict}
 use Rattle.plan.specs.Reading.{planOf, zeros, reads}
 use Rattle.plan.specs.declared.Core.{Core}
@@ -68,7 +68,7 @@ module _ (file : List ℕ) where
   scan-numbered =
       numbered-append (long file ++ header file ++ counted file) (devices file)
       (numbered-append (long file ++ header file) (counted file) (numbered-append (long file) (header file) (omega arith, tt) (header-numbered (block file 0))) (omega arith, tt))
-      (numbered-joined (ofDevice file) (countIn file) (λ d. device-numbered (countIn file) d (deviceBlock file d)))
+      (numbered-joined (ofDevice file) (countIn file) (λ d. device-numbered (countIn file) (masterIn file) d (deviceBlock file d)))
 
   -- all tests but those of the connections are passed
   pub scan-passes : {place : Verdict} → place ≡ scanned file → place .number ≡ 0 → AllPass (scanTests file)
@@ -92,7 +92,8 @@ module _ (file : List ℕ) where
         let s = deviceBlock file d in
         let n = countIn file in
         let all = all-at (ofDevice file) n (all-back (long file ++ header file ++ counted file) (devices file) p) d h in
-        entry-leads n s q (every-at 8 (entryFits n s) (and-right (portsFit (roleIn s) (portsIn s) && masksFit (roleIn s) (sourceIn s) (handlerIn s)) (every 8 (entryFits n s)) (all .1 .1 .0)) q l)
+        let rest = portsFit (roleIn s) (portsIn s) && masksFit (roleIn s) (sourceIn s) (handlerIn s) && masterIsNode (masterIn file) d (roleIn s) in
+        entry-leads n s q (every-at 8 (entryFits n s) (and-right rest (every 8 (entryFits n s)) (all .1 .1 .0)) q l)
 
     -- the connections are those of the plan
     bad-in : badIn (planOf file .core) (planOf file .peers) ≡ first connections

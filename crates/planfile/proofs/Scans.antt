@@ -14,7 +14,7 @@ use Rattle.lists.specs.Table.{joined}
 use Rattle.lists.proofs.Tests.{and-left}
 use Rattle.plan.specs.Block.{block}
 use Rattle.plan.specs.Header.{headerIn}
-use Rattle.plan.specs.Refusals.{Test, test, first, lengthFits, headerTests, deviceTests, deviceBlock, countIn}
+use Rattle.plan.specs.Refusals.{Test, test, first, lengthFits, headerTests, deviceTests, deviceBlock, countIn, masterIn}
 use Rattle.plan.specs.declared.Verdict.{Verdict}
 use Rattle.plan.proofs.Firsts.{AllPass, Stops, here, Numbered, passes-or-stops, first-stops, first-accepts, accepts-all, stops-front, stops-back, all-append, all-joined, stops-joined}
 use Rattle.plan.proofs.Good.{devices-fit, header-says}
@@ -53,12 +53,12 @@ stops-there {ts} {b} k m e h =
       | inr s ↦ rw (e, ← stops-each (λ n a. a ≡ b) m s) s
     ]
 
-module _ (n d : ℕ) (s : List ℕ) where
-  device-at : Each (λ k a. a ≡ d + 1) (deviceTests n d s)
+module _ (n master d : ℕ) (s : List ℕ) where
+  device-at : Each (λ k a. a ≡ d + 1) (deviceTests n master d s)
   unfolding deviceTests
   device-at = (omega arith, (omega arith, (omega arith, (omega arith, tt))))
 
-  pub device-numbered : Numbered (deviceTests n d s)
+  pub device-numbered : Numbered (deviceTests n master d s)
   unfolding deviceTests
   device-numbered = (omega arith, (omega arith, (omega arith, (omega arith, tt))))
 
@@ -87,7 +87,7 @@ module _ {file : List ℕ} {n d number : ℕ} (v : Scanned file n d) (h : d < n)
   pub stops-device : (number ≡ 0 → ⊥) → place number (d + 1) ≡ deviceScan file
   unfolding deviceScan
   stops-device z =
-      (sym (first-stops (stops-joined (ofDevice file) (countIn file) d (v .pass) (stops-there number (device-at (countIn file) d (deviceBlock file d)) said z) (omega (arith, v .counted)))))
+      (sym (first-stops (stops-joined (ofDevice file) (countIn file) d (v .pass) (stops-there number (device-at (countIn file) (masterIn file) d (deviceBlock file d)) said z) (omega (arith, v .counted)))))
 
   pub scanned-more : number ≡ 0 → Scanned file n (d + 1)
   scanned-more z =
@@ -95,7 +95,7 @@ module _ {file : List ℕ} {n d number : ℕ} (v : Scanned file n d) (h : d < n)
         within = omega arith;
         counted = v .counted;
         long = v .long;
-        pass = below-more _ _ (v .pass) (accepts-all (ofDevice file d) (device-numbered (countIn file) d (deviceBlock file d)) (sym said ∙ z));
+        pass = below-more _ _ (v .pass) (accepts-all (ofDevice file d) (device-numbered (countIn file) (masterIn file) d (deviceBlock file d)) (sym said ∙ z));
       }
 
 pub scanned-all : {file : List ℕ} {n d : ℕ} → Scanned file n d → n ≤ d → place 0 0 ≡ deviceScan file

@@ -98,9 +98,10 @@ fn entries_fit(n: usize, block: &[u8]) -> bool
     true
 }
 
-fn fields_fit(n: usize, block: &[u8]) -> bool
+// The fields of device d, one of n.
+fn fields_fit(n: usize, master: u8, d: usize, block: &[u8]) -> bool
     requires { ⌜ length (now block) ≡ 512 ⌝ }
-    ensures { λ r. ⌜ r ≡ deviceFits n (now (block .entry)) ⌝ }
+    ensures { λ r. ⌜ r ≡ deviceFits n master d (now (block .entry)) ⌝ }
 {
     if !plan::ports_fit(block[ROLE], block[PORTS]) {
         return false;
@@ -110,6 +111,9 @@ fn fields_fit(n: usize, block: &[u8]) -> bool
         block::four(block, SOURCE),
         block::four(block, HANDLER),
     ) {
+        return false;
+    }
+    if !plan::master_is_node(master, d, block[ROLE]) {
         return false;
     }
     entries_fit(n, block)
@@ -124,9 +128,9 @@ fn rest_zero(block: &[u8]) -> bool
 }
 
 // The refusal that the block of device d, of n, gets by itself, or 0.
-pub(crate) fn refusal(n: usize, d: usize, block: &[u8]) -> u32
+pub(crate) fn refusal(n: usize, master: u8, d: usize, block: &[u8]) -> u32
     requires { ⌜ length (now block) ≡ 512 ⌝ }
-    ensures { λ r. ⌜ r ≡ first (deviceTests n d (now (block .entry))) .number ⌝ }
+    ensures { λ r. ⌜ r ≡ first (deviceTests n master d (now (block .entry))) .number ⌝ }
 {
     if !block::checked(block) {
         return 21;
@@ -137,7 +141,7 @@ pub(crate) fn refusal(n: usize, d: usize, block: &[u8]) -> u32
     if areas::wide(block[NUMBER]) != d {
         return 22;
     }
-    if !fields_fit(n, block) {
+    if !fields_fit(n, master, d, block) {
         return 23;
     }
     if !rest_zero(block) {

@@ -9,14 +9,18 @@ ghost use Rattle.plan.specs.inner.File.{blockOf, headerHoldings};
 use crate::block;
 use plan::Header;
 
-// Where its fields stand, and where they end.
+// Where its fields stand, where those at the front end, and where the last one ends.
 pub(crate) const DEVICES: usize = 1;
 
 const ROUTER_LOAD: usize = 2;
 
 const NODE_LOAD: usize = 4;
 
-const END: usize = 6;
+const FRONT_END: usize = 6;
+
+pub(crate) const MASTER: usize = 10;
+
+const END: usize = 11;
 
 pub(crate) fn read(block: &[u8]) -> Header
     requires { ⌜ length (now block) ≡ 512 ⌝ }
@@ -27,6 +31,7 @@ pub(crate) fn read(block: &[u8]) -> Header
     let node = block::two(block, NODE_LOAD);
     Header {
         devices: devices,
+        master: block[MASTER],
         loads: [node as u16, router as u16],
     }
 }
@@ -43,6 +48,9 @@ fn rest_zero(block: &[u8]) -> bool
     requires { ⌜ length (now block) ≡ 512 ⌝ }
     ensures { λ r. ⌜ r ≡ restZero headerFields (now (block .entry)) ⌝ }
 {
+    if !block::zeros(FRONT_END, MASTER, block) {
+        return false;
+    }
     block::zeros(END, block::CHECK, block)
 }
 
@@ -78,5 +86,6 @@ pub(crate) fn put(header: Header, block: &mut [u8])
     block::put(block, DEVICES, 1, header.devices as u32);
     block::put(block, ROUTER_LOAD, 2, router);
     block::put(block, NODE_LOAD, 2, node);
+    block::put(block, MASTER, 1, header.master as u32);
     block::seal(block);
 }

@@ -34,7 +34,8 @@ fn refusal_in(file: &[u8], b: usize) -> u32
     if b == 0 {
         return header::refusal(&file[start..end]);
     }
-    device::refusal(areas::wide(file[header::DEVICES]), b - 1, &file[start..end])
+    let n = areas::wide(file[header::DEVICES]);
+    device::refusal(n, file[header::MASTER], b - 1, &file[start..end])
 }
 
 fn at<'a>(file: &'a [u8], block: usize) -> Reader<'a>

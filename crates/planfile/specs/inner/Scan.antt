@@ -6,12 +6,12 @@ use lib.Dec.{eqb, ltb}
 use lib.ListN.{length}
 use Rattle.lists.specs.Table.{joined}
 use Rattle.plan.specs.Block.{block}
-use Rattle.plan.specs.Refusals.{test, Test, first, lengthFits, headerTests, deviceTests, countIn, deviceBlock}
+use Rattle.plan.specs.Refusals.{test, Test, first, lengthFits, headerTests, deviceTests, countIn, masterIn, deviceBlock}
 use Rattle.plan.specs.declared.Verdict.{Verdict}
 
 -- the tests of a device's block by itself, and of block b
 abbrev pub ofDevice : List ℕ → ℕ → List Test
-ofDevice file d = deviceTests (countIn file) d (deviceBlock file d)
+ofDevice file d = deviceTests (countIn file) (masterIn file) d (deviceBlock file d)
 
 unfoldable pub blockTests : List ℕ → ℕ → List Test
 blockTests file zero = headerTests (block file 0)

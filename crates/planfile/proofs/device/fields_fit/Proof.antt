@@ -17,9 +17,20 @@ returns-2 c =
 returns-3 : tie.Need-returns-3
 unfolding deviceFits
 returns-3 c =
-    let ports = passed (c .before .before .before .before .before .before .before .ports-fit .ensures) (c .before .before .before .before .before .before .if1 .left) in
-    let masks = passed (c .before .before .masks-fit .ensures) (c .before .if2 .left) in
-    simp (ports, ← c .before .before .before .before .four .ensures, ← c .before .before .before .four2 .ensures, masks) (c .entries-fit .ensures)
+    let m = c .before .before .before in
+    let ports = passed (m .before .before .before .before .before .before .ports-fit .ensures) (m .before .before .before .before .before .if1 .left) in
+    let masks = passed (m .before .masks-fit .ensures) (m .if2 .left) in
+    let node = failed (c .before .master-is-node .ensures) (c .if3 .taken) in
+    simp (ports, ← m .before .before .before .four .ensures, ← m .before .before .four2 .ensures, masks, node)
+
+returns-4 : tie.Need-returns-4
+unfolding deviceFits
+returns-4 c =
+    let m = c .before .before .before .before in
+    let ports = passed (m .before .before .before .before .before .before .ports-fit .ensures) (m .before .before .before .before .before .if1 .left) in
+    let masks = passed (m .before .masks-fit .ensures) (m .if2 .left) in
+    let node = passed (c .before .before .master-is-node .ensures) (c .before .if3 .left) in
+    simp (ports, ← m .before .before .before .four .ensures, ← m .before .before .four2 .ensures, masks, node) (c .entries-fit .ensures)
 
 ports-fit-requires : tie.Need-ports-fit-requires
 ports-fit-requires c κs = search needs
@@ -32,6 +43,9 @@ four-requires-2 c κs = search needs
 
 masks-fit-requires : tie.Need-masks-fit-requires
 masks-fit-requires c κs = search needs
+
+master-is-node-requires : tie.Need-master-is-node-requires
+master-is-node-requires c κs = search needs
 
 entries-fit-requires : tie.Need-entries-fit-requires
 entries-fit-requires c κs = search needs
@@ -49,5 +63,8 @@ fields-fit-spec =
     four-requires-2
     masks-fit-requires
     returns-2
+    (λ c. search needs)
+    master-is-node-requires
+    returns-3
     entries-fit-requires
-    returns-3)
+    returns-4)

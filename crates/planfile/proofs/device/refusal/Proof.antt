@@ -20,7 +20,7 @@ right-kind c = eq-eqb _ _ (c .if2 .left)
 right-number : (c : tie.Else3) → eqb (byte (c .before .before .before .before .before .before .before .before .args .block .now) 1) (c .before .before .before .before .before .before .before .before .args .d) ≡ true
 right-number c = eq-eqb _ _ (sym (c .before .wide .ensures .0) ∙ c .if3 .left)
 
-right-fields : (c : tie.Else4) → deviceFits (c .before .before .before .before .before .before .before .before .before .before .args .n) (c .before .before .before .before .before .before .before .before .before .before .args .block .now) ≡ true
+right-fields : (c : tie.Else4) → let a = c .before .before .before .before .before .before .before .before .before .before .args in deviceFits (a .n) (a .master) (a .d) (a .block .now) ≡ true
 right-fields c = passed (c .before .fields-fit .ensures) (c .if4 .left)
 
 returns : tie.Need-returns

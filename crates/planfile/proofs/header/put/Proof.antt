@@ -20,6 +20,9 @@ put-requires-3 c κs = search needs
 put-requires-4 : tie.Need-put-requires-4
 put-requires-4 c κs = search needs
 
+put-requires-5 : tie.Need-put-requires-5
+put-requires-5 c κs = search needs
+
 seal-requires : tie.Need-seal-requires
 seal-requires c κs = search needs
 
@@ -37,6 +40,8 @@ put-spec =
     put-requires-2
     put-requires-3
     put-requires-4
+    (λ c. search needs)
+    put-requires-5
     seal-requires
     (λ c. search needs)
     returns)

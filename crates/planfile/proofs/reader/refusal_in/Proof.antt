@@ -9,18 +9,18 @@ use Rattle.plan.specs.Block.{block, byte}
 use Rattle.plan.specs.Refusals.{first, headerTests, deviceTests}
 use Rattle.planfile.specs.inner.Scan.{refusalIn}
 use Rattle.planfile.proofs.Scans.{part-block, header-refusal, device-refusal}
-use Rattle.planfile.proofs.Places.{count-in}
+use Rattle.planfile.proofs.Places.{count-in, master-in}
 use Rattle.planfile.proofs.reader.refusal_in.Statement.{statement}
 use Rattle.planfile.proofs.reader.refusal_in.Tie as tie
 
 of-header : (file : List ℕ) (b : ℕ) → b ≡ 0 → b < length file / 512 → first (headerTests (block file b)) .number ≡ refusalIn file b
 of-header file b e h = rw e (sym (header-refusal file (omega arith)))
 
-of-device : (file : List ℕ) (b : ℕ) → (b ≡ 0 → ⊥) → b < length file / 512 → first (deviceTests (byte file 1) (b - 1) (block file b)) .number ≡ refusalIn file b
+of-device : (file : List ℕ) (b : ℕ) → (b ≡ 0 → ⊥) → b < length file / 512 → first (deviceTests (byte file 1) (byte file 10) (b - 1) (block file b)) .number ≡ refusalIn file b
 of-device file b z h =
     let e : b - 1 + 1 ≡ b = omega arith in
     let g : 1 + (b - 1) ≡ b = omega arith in
-    rw (← count-in) (sym (rw (e, g) at (device-refusal file (b - 1) (omega arith))))
+    rw (← count-in, ← master-in) (sym (rw (e, g) at (device-refusal file (b - 1) (omega arith))))
 
 returns : tie.Need-returns
 unfolding refusalIn
@@ -33,9 +33,9 @@ returns-2 c =
 
 returns-3 : tie.Need-returns-3
 returns-3 c =
-    let a = c .before .before .before .before .before .before .before .args in
+    let a = c .before .before .before .before .before .before .before .before .args in
     c .refusal2 .ensures
-    ∙ rw (part-block, c .before .before .wide .ensures .0) (of-device (a .file .now) (a .b) (c .before .before .before .before .if2 .left) (omega arith))
+    ∙ rw (part-block, c .before .before .before .wide .ensures .0) (of-device (a .file .now) (a .b) (c .before .before .before .before .before .if2 .left) (omega arith))
 
 refusal-requires : tie.Need-refusal-requires
 refusal-requires c κs = search needs
@@ -60,6 +60,7 @@ refusal-in-spec =
     returns-2
     (λ c. search needs)
     wide-requires
+    (λ c. search needs)
     (λ c. search needs)
     (λ c. search needs)
     (λ c. search needs)
