@@ -15,7 +15,7 @@ use Rattle.plan.specs.declared.Plan.{Plan}
 use Rattle.plan.proofs.BothWays.{held-devices, held-few}
 use Rattle.state.specs.State.{State, words}
 use Rattle.state.specs.Network.{portsOf, peer}
-use Rattle.calls.specs.Calls.{deviceAsks, ownAsks, sendAsks, owns, callAsks, linkAsks, called, calledIn}
+use Rattle.calls.specs.Calls.{deviceAsks, ownAsks, sendAsks, owns, callAsks, linkAsks, tickAsks, called, calledIn}
 
 -- a device that a state has room for
 pub has-room : (more : List Condition) {d n : ℕ} → d < 32 → Ordered (ask 4 (d < 32) ∷ more) n → Ordered more n
@@ -64,6 +64,13 @@ module _ (plan : Plan) (d : ℕ) (s : State) where
       where
         known : Holds (callAsks plan kind d k s) → (length s ≡ words) × (d < 32) × (k < 32)
         known (held, (sound, (there, (small, rest)))) = let r = ready (held, (sound, (there, tt))) in (r .0, r .1, small)
+
+  -- a tick
+  pub tick-ready : {n : ℕ} → Ordered (tickAsks plan d s) n → n ≡ 0 → (length s ≡ words) × (d < 32)
+  tick-ready o z = known (holds (tickAsks plan d s) refl o z)
+    where
+      known : Holds (tickAsks plan d s) → (length s ≡ words) × (d < 32)
+      known (held, (sound, (there, rest))) = ready (held, (sound, (there, tt)))
 
   -- a link
   module _ (p : ℕ) where

@@ -1,27 +1,29 @@
 -- Every call that is taken keeps a sound state sound.
-use mathlib.Core.Path.{_≡_, refl, ap}
+use mathlib.Core.Path.{_≡_, refl, sym, ap, _∙_}
 use mathlib.Core.Bool.{Bool, true, false}
 use mathlib.Core.Logic.{dite}
-use Prim.Native.Nat.{ℕ, _+_, _*_, _<_}
+use Prim.Native.Nat.{ℕ, _+_, _*_, _%_, _≤_, _<_}
 use native.Mathlib.Decide.{decLt}
 use native.Mathlib.Omega.{arith}
 use lib.Bits.{and-zero-l}
 use Rattle.bits.specs.Set.{bit}
 use Rattle.bits.proofs.Sets.{bit-zero}
+use Rattle.device.specs.Reaction.{nextTime}
 use Rattle.plan.specs.Fields.{nobody}
 use Rattle.plan.specs.Reading.{Held}
 use Rattle.plan.specs.declared.Plan.{Plan}
-use Rattle.state.specs.State.{State, portAt, runningAt}
+use Rattle.state.specs.State.{State, portAt, runningAt, counter}
 use Rattle.state.specs.Network.{devices, portsOf, exists, peer}
 use Rattle.state.specs.Sound.{Sound}
 use Rattle.state.specs.Mark.{mark}
 use Rattle.state.proofs.Plans.{FarEnd, few, port-there, far-end}
-use Rattle.state.proofs.Keeping.{device-step, empty-step, sets-step, flags-step}
+use Rattle.state.proofs.Keeping.{device-step, empty-step, sets-step, flags-step, clock-step}
 use Rattle.state.proofs.Marks.{mark-step}
 use Rattle.state.proofs.Waits.{queue-all-sound}
-use Rattle.calls.specs.Calls.{called, cleared, drained, switched, reset}
-use Rattle.calls.proofs.Stopping.{both-drained}
-use Rattle.calls.proofs.Zeros.{cleared-register, cleared-timer, cleared-left, cleared-fits, emptied-left, emptied-port, emptied-flag, emptied-fits}
+use Rattle.state.proofs.Times.{time-step, counter-step, queue-time-sound}
+use Rattle.calls.specs.Calls.{called, cleared, emptied, untimed, drained, advanced, switched, reset}
+use Rattle.calls.proofs.Stopping.{both-drained, both-timeless}
+use Rattle.calls.proofs.Zeros.{cleared-register, cleared-timer, cleared-left, cleared-fits, emptied-left, emptied-port, emptied-flag, emptied-fits, untimed-left, untimed-counter, untimed-word, untimed-fits}
 
 module _ (plan : Plan) (held : Held plan) where
   -- ---- the register and the timers of a device become 0
@@ -36,7 +38,29 @@ module _ (plan : Plan) (held : Held plan) where
           off = λ b. cleared-timer d s (x .size) k small l;
         })
 
+  -- ---- a counter and its ports' words of Time-Codes become 0
+
+  untimed-sound : (d : ℕ) (s : State) → Sound plan s → Sound plan (untimed d s)
+  untimed-sound d s x =
+      clock-step plan held x (untimed-fits d s (x .size) (x .fits)) (untimed-left d s (x .size))
+      (record {
+        counters = λ e h. untimed-counter d s (x .size) e h (λ v. v < 64) (omega arith) (x .clock .counters e h);
+        ranges = λ q h. untimed-word d s (x .size) q h (λ v. (v % 128 ≤ 64) × (v < 256)) (omega arith, omega arith) (x .clock .ranges q h);
+        stopped = λ q h z.
+            untimed-word d s (x .size) q h (λ v. v % 128 ≡ 0) (omega arith) (x .clock .stopped q h (sym (untimed-left d s (x .size) (portAt q runningAt) (omega arith)) ∙ z));
+        no-counter = λ e l h. untimed-counter d s (x .size) e h (λ v. v ≡ 0) refl (x .clock .no-counter e l h);
+        no-word = λ q h y. untimed-word d s (x .size) q h (λ v. v ≡ 0) refl (x .clock .no-word q h y);
+      })
+
   module _ (s : State) (x : Sound plan s) where
+    -- a tick of the master
+    pub tick-sound : (d : ℕ) → d < devices plan → Sound plan (advanced d s)
+    unfolding advanced
+    tick-sound d h =
+        let n = few plan held in
+        let v = nextTime (counter s d) in
+        queue-time-sound plan held v d nobody (omega arith) (omega arith) _ (counter-step plan held x d v h (omega arith))
+
     -- a request (kind 0) or an acknowledge (kind 1) by the host of a node
     pub call-sound : (kind d k : ℕ) → kind < 2 → d < devices plan → k < 32 → Sound plan (called plan kind d k s)
     unfolding called
@@ -46,15 +70,19 @@ module _ (plan : Plan) (held : Held plan) where
     reset-sound d h =
         let y = cleared-sound d h s x in
         let t = cleared d s in
+        let z : Sound plan (emptied d t) =
         empty-step plan held y (emptied-fits d t (y .size) (y .fits)) (emptied-left d t (y .size))
         (λ q. dite (decLt q 256) (emptied-flag d t (y .size) q) (λ n. emptied-left d t (y .size) (portAt q runningAt) (λ a b. omega arith)))
-        (λ q i l m. emptied-port d t (y .size) q i l (omega arith))
+        (λ q i l m. emptied-port d t (y .size) q i l (omega arith)) in
+        untimed-sound d (emptied d t) z
 
     -- nothing waits at a port any more
     drained-sound : (q : ℕ) → q < 256 → exists plan q ≡ true → Sound plan (drained q s)
     drained-sound q h there =
+        let y =
         sets-step plan held x q h there (λ _. 0)
-        (record { fits = λ kind g. omega arith; apart = and-zero-l 0; stopped = λ z kind g. refl; mute = λ kind g z. refl })
+        (record { fits = λ kind g. omega arith; apart = and-zero-l 0; stopped = λ z kind g. refl; mute = λ kind g z. refl }) in
+        time-step plan held y q 0 h (omega arith) (omega arith) (λ z. refl) (λ z. refl)
 
   -- ---- the link at port p of device d
 
@@ -73,7 +101,8 @@ module _ (plan : Plan) (held : Held plan) where
 
     pub link-sound : (runs : Bool) → Sound plan (switched plan runs q s)
     unfolding switched
-    link-sound true = flags-step plan held x q (there .0) (there .1) link 1 (omega arith) (λ kind g z. absurd (omega arith))
+    link-sound true = flags-step plan held x q (there .0) (there .1) link 1 (omega arith) (λ kind g z. absurd (omega arith)) (λ z. absurd (omega arith))
     link-sound false =
         flags-step plan held (drained-sound _ near (peer plan q) link (end .far)) q (there .0) (there .1) link 0 (omega arith)
         (λ kind g z. both-drained s q (peer plan q) (x .size) (there .0) link (end .other) kind g)
+        (λ z. let t = both-timeless s q (peer plan q) (x .size) (there .0) link (end .other) in (rw (t .0), rw (t .1)))

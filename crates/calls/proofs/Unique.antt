@@ -8,7 +8,7 @@ use Rattle.answers.proofs.Unique.{ordered-once, outcome-once}
 use Rattle.plan.specs.declared.Core.{Core}
 use Rattle.plan.specs.declared.Plan.{Plan}
 use Rattle.state.specs.State.{State}
-use Rattle.calls.specs.Calls.{deviceAsks, ownAsks, sendAsks, callAsks, linkAsks, called, calledIn, Takes, switched, Links, reset, Resets}
+use Rattle.calls.specs.Calls.{deviceAsks, ownAsks, sendAsks, callAsks, linkAsks, tickAsks, called, calledIn, Takes, advanced, Ticks, switched, Links, reset, Resets}
 
 -- one number, and one state after the call
 abbrev pub Once : (State → ℕ → State → Type 0) → Type 0
@@ -21,6 +21,9 @@ module _ (plan : Plan) (d : ℕ) where
 
   pub link-unique : (p : ℕ) (runs : Bool) → Once (Links plan d p runs)
   link-unique p runs s = outcome-once (linkAsks plan runs d p s) s (switched plan runs (8 * d + p) s)
+
+  pub tick-unique : Once (Ticks plan d)
+  tick-unique s = outcome-once (tickAsks plan d s) s (advanced d s)
 
   pub reset-unique : Once (Resets plan d)
   reset-unique s = outcome-once (deviceAsks plan d s) s (reset d s)

@@ -8,11 +8,11 @@ use native.Mathlib.Omega.{arith}
 use lib.Dec.{eqb}
 use lib.ListN.{length}
 use borrow.Author.Tests.{eq-eqb, ne-eqb}
-use Rattle.state.specs.State.{State, words, word, put, deviceWords, portsAt, portsEnd, portWords, registerAt, timerAt, portAt, register, timer, runningAt, running}
-use Rattle.state.proofs.Words.{length-put, word-same, word-other}
-use Rattle.state.proofs.Parts.{by-place, length-state, register-of, timer-of, port-of, others-kept, is-state}
+use Rattle.state.specs.State.{State, words, word, put, deviceWords, portsAt, portsEnd, portWords, registerAt, timerAt, portAt, register, timer, runningAt, running, counterAt, counter, timeAt, time}
+use Rattle.state.proofs.Words.{word-past, length-put, word-same, word-other}
+use Rattle.state.proofs.Parts.{by-place, by-behind, length-state, register-of, timer-of, port-of, counter-of, time-of, behind-kept, is-state}
 use Rattle.state.proofs.Keeping.{Fits}
-use Rattle.calls.specs.Calls.{cleared, emptied}
+use Rattle.calls.specs.Calls.{cleared, emptied, untimed}
 
 -- what is so of 0 and of a word is so of the word where a test does not make it 0
 pub keep : (P : ℕ → Type 0) (t : Bool) (v : ℕ) → P 0 → P v → P (cond t 0 v)
@@ -55,11 +55,12 @@ module _ (d : ℕ) (s : State) (long : length s ≡ words) where
         | no n ↦ rw (ne-eqb e d n) (z .left (timerAt e k) (λ a b. absurd (omega arith)))
       ])
       (λ q i l m. z .left (portAt q i) (λ a b. absurd (omega arith)))
-      (λ i l. z .left (portsEnd + i) (λ a b. absurd (omega arith)))
+      (λ e l. z .left (counterAt e) (λ a b. absurd (omega arith)))
+      (λ q l. z .left (timeAt q) (λ a b. absurd (omega arith)))
 
   -- it has 0 there, and else the words of s
   cleared-behind : (i : ℕ) → portsEnd ≤ i → word (cleared d s) i ≡ word s i
-  cleared-behind = others-kept _ s long (λ j. refl)
+  cleared-behind = behind-kept _ s long (λ e h. refl) (λ q h. refl)
 
   pub cleared-register : d < 32 → register (cleared d s) d ≡ 0
   cleared-register h = register-of _ d h ∙ rw (eq-eqb d d refl)
@@ -132,7 +133,7 @@ module _ (d : ℕ) (s : State) (long : length s ≡ words) where
   pub is-emptied : {t : State} → d < 32 → Emptied d 8 s t → t ≡ emptied d s
   is-emptied {t} h z =
       is-state _ t (z .size ∙ long) (λ e l. z .left (registerAt e) (λ j n x y. omega arith)) (λ e k l m. z .left (timerAt e k) (λ j n x y. omega arith))
-      (λ q i l m. at q i l m) (λ i l. z .left (portsEnd + i) (λ j n x y. omega arith))
+      (λ q i l m. at q i l m) (λ e l. z .left (counterAt e) (λ j n x y. omega arith)) (λ q l. z .left (timeAt q) (λ j n x y. omega arith))
     where
       at : (q i : ℕ) → q < 256 → i < portWords → word t (portAt q i) ≡ cond (eqb (q / 8) d && not (eqb i runningAt)) 0 (word s (portAt q i))
       at q i l m =
@@ -151,7 +152,7 @@ module _ (d : ℕ) (s : State) (long : length s ≡ words) where
           both false = refl
 
   emptied-behind : (i : ℕ) → portsEnd ≤ i → word (emptied d s) i ≡ word s i
-  emptied-behind = others-kept _ s long (λ j. refl)
+  emptied-behind = behind-kept _ s long (λ e h. refl) (λ q h. refl)
 
   -- it differs from s at ports only, where a word is 0 or as it was, and the flags are as they were
   pub emptied-left : (i : ℕ) → (portsAt ≤ i → i < portsEnd → ⊥) → word (emptied d s) i ≡ word s i
@@ -181,4 +182,75 @@ module _ (d : ℕ) (s : State) (long : length s ≡ words) where
             by-place (λ i. word (emptied d s) i < 2 ^ 32) (λ e h. rw (register-of _ e h) (small (registerAt e))) (λ e k h l. rw (timer-of _ e k h l) (small (timerAt e k)))
             (λ q i h l. rw (port-of _ q i h l) (keep (λ v. v < 2 ^ 32) (eqb (q / 8) d && not (eqb i runningAt)) (word s (portAt q i)) (omega arith) (small (portAt q i))))
             (λ i h. rw (emptied-behind i h) (small i));
+      }
+
+-- ---- its counter, and what its ports have of Time-Codes
+
+-- of the first p of them
+pub record Untimed (d p : ℕ) (s t : State) : Type 0 where
+  pub size : length t ≡ length s
+  pub gone : (j : ℕ) → j < p → time t (8 * d + j) ≡ 0
+  pub left : (i : ℕ) → ((j : ℕ) → j < p → i ≢ timeAt (8 * d + j)) → word t i ≡ word s i
+
+pub untimed-none : {d : ℕ} {s : State} → Untimed d 0 s s
+untimed-none = record { size = refl; gone = λ j l. absurd (omega arith); left = λ i o. refl }
+
+pub untimed-more : {d p : ℕ} {s t : State} → Untimed d p s t → length s ≡ words → d < 32 → p < 8 → Untimed d (p + 1) s (put t (timeAt (8 * d + p)) 0)
+untimed-more {d} {p} {s} {t} z long h l =
+    record {
+      size = length-put t (timeAt (8 * d + p)) 0 ∙ z .size;
+      gone = λ j m. elim (ℕ-discrete j p) [
+        | yes e ↦ rw e (word-same t (timeAt (8 * d + p)) 0 (omega (arith, z .size)))
+        | no n ↦ word-other t (timeAt (8 * d + p)) 0 (timeAt (8 * d + j)) (omega arith) ∙ z .gone j (omega arith)
+      ];
+      left = λ i o. word-other t (timeAt (8 * d + p)) 0 i (o p (omega arith)) ∙ z .left i (λ j m. o j (omega arith));
+    }
+
+module _ (d : ℕ) (s : State) (long : length s ≡ words) where
+  pub is-untimed : {t : State} → d < 32 → Untimed d 8 s t → put t (counterAt d) 0 ≡ untimed d s
+  is-untimed {t} h z =
+      let left : (i : ℕ) → i ≢ counterAt d → ((j : ℕ) → j < 8 → i ≢ timeAt (8 * d + j)) → word (put t (counterAt d) 0) i ≡ word s i =
+      λ i ne o. word-other t (counterAt d) 0 i ne ∙ z .left i o in
+      is-state _ _ (length-put t (counterAt d) 0 ∙ z .size ∙ long) (λ e l. left (registerAt e) (omega arith) (λ j m. omega arith))
+      (λ e k l m. left (timerAt e k) (omega arith) (λ j n. omega arith)) (λ q i l m. left (portAt q i) (omega arith) (λ j n. omega arith))
+      (λ e l. elim (ℕ-discrete e d) [
+        | yes is ↦ rw (eq-eqb e d is) (rw is (word-same t (counterAt d) 0 (omega (arith, z .size))))
+        | no n ↦ rw (ne-eqb e d n) (left (counterAt e) (omega arith) (λ j m. omega arith))
+      ])
+      (λ q l. elim (ℕ-discrete (q / 8) d) [
+        | yes is ↦
+            let here : 8 * d + q % 8 ≡ q = omega arith in
+            rw (eq-eqb (q / 8) d is) (word-other t (counterAt d) 0 (timeAt q) (omega arith) ∙ rw here at (z .gone (q % 8) (omega arith)))
+        | no n ↦ rw (ne-eqb (q / 8) d n) (left (timeAt q) (omega arith) (λ j m. omega arith))
+      ])
+
+  -- no word in front of them changes
+  pub untimed-left : (i : ℕ) → i < portsEnd → word (untimed d s) i ≡ word s i
+  untimed-left =
+      by-place (λ i. i < portsEnd → word (untimed d s) i ≡ word s i) (λ e h o. register-of _ e h) (λ e k h l o. timer-of _ e k h l) (λ q i h l o. port-of _ q i h l)
+      (λ i h o. absurd (omega arith))
+
+  -- a counter, or a port's word, is 0 or as it was
+  pub untimed-counter : (e : ℕ) → e < 32 → (P : ℕ → Type 0) → P 0 → P (counter s e) → P (counter (untimed d s) e)
+  untimed-counter e h P none p = rw (counter-of _ e h) (keep P (eqb e d) (counter s e) none p)
+
+  pub untimed-word : (q : ℕ) → q < 256 → (P : ℕ → Type 0) → P 0 → P (time s q) → P (time (untimed d s) q)
+  untimed-word q h P none p = rw (time-of _ q h) (keep P (eqb (q / 8) d) (time s q) none p)
+
+  pub untimed-fits : ((i : ℕ) → word s i < 2 ^ 32) → Fits (untimed d s)
+  untimed-fits small =
+      record {
+        size = length-state _;
+        fits =
+            by-place (λ i. word (untimed d s) i < 2 ^ 32) (λ e h. rw (register-of _ e h) (small (registerAt e))) (λ e k h l. rw (timer-of _ e k h l) (small (timerAt e k)))
+            (λ q i h l. rw (port-of _ q i h l) (small (portAt q i)))
+            (by-behind (λ i. word (untimed d s) i < 2 ^ 32) (λ e h. untimed-counter e h (λ v. v < 2 ^ 32) (omega arith) (small (counterAt e)))
+            (λ q h. untimed-word q h (λ v. v < 2 ^ 32) (omega arith) (small (timeAt q)))
+            (λ i h. omega (arith, word-past (untimed d s) i (omega (arith, length-state (record {
+              registers = register s;
+              timers = timer s;
+              ports = λ q i. word s (portAt q i);
+              counters = λ e. cond (eqb e d) 0 (counter s e);
+              times = λ q. cond (eqb (q / 8) d) 0 (time s q);
+            }))))));
       }

@@ -8,12 +8,13 @@ use lib.Dec.{eqb, ltb}
 use lib.ListN.{length, getD}
 use Rattle.answers.specs.Ordered.{Condition, ask, Outcome}
 use Rattle.bits.specs.Set.{bit}
+use Rattle.device.specs.Reaction.{nextTime}
 use Rattle.plan.specs.Fields.{nobody}
 use Rattle.plan.specs.declared.Plan.{Plan}
-use Rattle.state.specs.State.{State, words, word, put, portsEnd, portAt, register, timer, runningAt, running, stateOf}
+use Rattle.state.specs.State.{State, words, word, put, portAt, register, timer, runningAt, running, counterAt, counter, timeAt, time, stateOf}
 use Rattle.state.specs.Network.{devices, portsOf, peer, source, handler}
 use Rattle.state.specs.Sound.{stateAsks}
-use Rattle.state.specs.Queue.{sendsAt, queueAll}
+use Rattle.state.specs.Queue.{sendsAt, queueAll, queueTimeAll}
 use Rattle.state.specs.Mark.{mark}
 
 -- ---- words that become 0
@@ -26,7 +27,8 @@ cleared d s =
       registers = λ e. cond (eqb e d) 0 (register s e);
       timers = λ e k. cond (eqb e d) 0 (timer s e k);
       ports = λ q i. word s (portAt q i);
-      others = λ i. word s (portsEnd + i);
+      counters = counter s;
+      times = time s;
     })
 
 -- the waiting sets and next of its ports: all but the flags
@@ -37,12 +39,25 @@ emptied d s =
       registers = register s;
       timers = timer s;
       ports = λ q i. cond (eqb (q / 8) d && not (eqb i runningAt)) 0 (word s (portAt q i));
-      others = λ i. word s (portsEnd + i);
+      counters = counter s;
+      times = time s;
     })
 
--- the waiting sets of port q
+-- its counter, and what its ports have of Time-Codes
+abbrev pub untimed : ℕ → State → State
+untimed d s =
+    stateOf
+    (record {
+      registers = register s;
+      timers = timer s;
+      ports = λ q i. word s (portAt q i);
+      counters = λ e. cond (eqb e d) 0 (counter s e);
+      times = λ q. cond (eqb (q / 8) d) 0 (time s q);
+    })
+
+-- the waiting sets of port q, and what it has of Time-Codes
 abbrev pub drained : ℕ → State → State
-drained q s = put (put s (portAt q 0) 0) (portAt q 1) 0
+drained q s = put (put (put s (portAt q 0) 0) (portAt q 1) 0) (timeAt q) 0
 
 -- ---- the flag that says whether a port runs
 
@@ -59,14 +74,23 @@ flagged flag q far s = put (put s (portAt q runningAt) flag) (portAt far running
 abbrev pub ownAsks : ℕ → ℕ → List Condition
 ownAsks mask k = ask 5 (k < 32) ∷ ask 6 (bit mask k ≡ 1) ∷ []
 
+-- some port of device d runs
+abbrev pub SomeRuns : ℕ → State → Type 0
+SomeRuns d s = (p : ℕ) × (p < 8) × (running s (8 * d + p) ≡ 1)
+
 -- by the state of the device: a port that runs; a port that runs and may send the kind; and the bit, which is to be 0 before a request,
 -- of kind 0, and 1 before an acknowledge, of kind 1: as the kind's own number
 abbrev pub sendAsks : List ℕ → ℕ → ℕ → ℕ → State → List Condition
 sendAsks permissions kind d k s =
-    ask 7 ((p : ℕ) × (p < 8) × (running s (8 * d + p) ≡ 1))
+    ask 7 (SomeRuns d s)
     ∷ ask 8 ((p : ℕ) × (p < 8) × (sendsAt (getD permissions (8 * d + p) 0) kind (8 * d + p) s ≡ true))
     ∷ ask 9 (bit (register s d) k ≡ kind)
     ∷ []
+
+-- ---- a device's counter goes on by one, and the Time-Code is queued at every port
+
+unfoldable pub advanced : ℕ → State → State
+advanced d s = queueTimeAll (nextTime (counter s d)) d nobody (put s (counterAt d) (nextTime (counter s d)))
 
 module _ (plan : Plan) where
   -- what every call asks first: the plan, the state, the device
@@ -92,6 +116,15 @@ module _ (plan : Plan) where
   abbrev pub Takes : ℕ → ℕ → ℕ → State → ℕ → State → Type 0
   Takes kind d k before number after = Outcome (callAsks kind d k before) before (called kind d k before) number after
 
+  -- ---- a tick by the host of the master, which the plan names as its number plus 1
+
+  abbrev pub tickAsks : ℕ → State → List Condition
+  tickAsks d s = deviceAsks d s ++ (ask 14 (plan .core .master ≡ d + 1) ∷ ask 7 (SomeRuns d s) ∷ [])
+
+  -- the promise
+  abbrev pub Ticks : ℕ → State → ℕ → State → Type 0
+  Ticks d before number after = Outcome (tickAsks d before) before (advanced d before) number after
+
   -- ---- the link at port p of device d, which is to run or to stop
 
   -- the port is there and joined to another, and its flag does not stand so already
@@ -109,10 +142,10 @@ module _ (plan : Plan) where
   abbrev pub Links : ℕ → ℕ → Bool → State → ℕ → State → Type 0
   Links d p runs before number after = Outcome (linkAsks runs d p before) before (switched runs (8 * d + p) before) number after
 
--- ---- device d is reset: register, timers, and its ports' waiting sets and next become 0
+-- ---- device d is reset: register, timers, counter, and its ports' waiting sets, next and Time-Codes become 0
 
 abbrev pub reset : ℕ → State → State
-reset d s = emptied d (cleared d s)
+reset d s = untimed d (emptied d (cleared d s))
 
 abbrev pub Resets : Plan → ℕ → State → ℕ → State → Type 0
 Resets plan d before number after = Outcome (deviceAsks plan d before) before (reset d before) number after

@@ -13,17 +13,19 @@ ghost use Rattle.state.specs.State.{words, running};
 ghost use Rattle.state.specs.Network.{peer};
 ghost use Rattle.state.specs.Queue.{sendsAt};
 ghost use Rattle.state.specs.Mark.{loaded, mark as Mark·mark};
-ghost use Rattle.calls.specs.Calls.{deviceAsks, ownAsks, sendAsks, callAsks, linkAsks, calledIn, Takes, cleared, emptied, drained, flagged, switched, Links, Resets};
+ghost use Rattle.calls.specs.Calls.{deviceAsks, ownAsks, sendAsks, callAsks, linkAsks, tickAsks, calledIn, Takes, cleared, emptied, untimed, drained, flagged, switched, Links, advanced, Ticks, SomeRuns, Resets};
 use plan::Core;
 use plan::NOBODY;
 use plan::Plan;
 use state::ACKNOWLEDGES;
+use state::COUNTERS;
 use state::DEVICE;
 use state::INTERRUPTS;
 use state::NEXT;
 use state::PORT;
 use state::PORTS;
 use state::RUNNING;
+use state::TIMES;
 use state::WORDS;
 
 // No port is left out.
@@ -55,7 +57,19 @@ pub fn link(plan: Plan, state: &mut [u32], device: usize, port: usize, running: 
     0
 }
 
-// A device is reset: its register and timers, and what waits at its ports.
+// The host of the master ticks: its counter goes on by one, and its ports send the Time-Code.
+pub fn tick(plan: Plan, state: &mut [u32], device: usize) -> u32
+    ensures { λ r. ⌜ Ticks plan device (now (state .entry)) r (now (state .exit)) ⌝ }
+{
+    let number = tick_refusal(plan, state, device);
+    if number != 0 {
+        return number;
+    }
+    advance(state, device);
+    0
+}
+
+// A device is reset: its register, timers and counter, and what waits at its ports.
 pub fn reset(plan: Plan, state: &mut [u32], device: usize) -> u32
     ensures { λ r. ⌜ Resets plan device (now (state .entry)) r (now (state .exit)) ⌝ }
 {
@@ -65,6 +79,7 @@ pub fn reset(plan: Plan, state: &mut [u32], device: usize) -> u32
     }
     clear(state, device);
     empty(state, device);
+    unclock(state, device);
     0
 }
 
@@ -207,10 +222,38 @@ fn timer_load(kind: u8, load: u32, timer: u32) -> u32
     timer
 }
 
+// What a tick is refused with, or 0.
+fn tick_refusal(plan: Plan, state: &[u32], device: usize) -> u32
+    ensures { λ r. ⌜ Ordered (tickAsks plan device (now (state .entry))) r ⌝ }
+{
+    let number = refusal(plan, state, device);
+    if number != 0 {
+        return number;
+    }
+    let core = plan.core;
+    if core.master as usize != device + 1 {
+        return 14;
+    }
+    if !any_runs(state, device) {
+        return 7;
+    }
+    0
+}
+
+// The counter of device d goes on by one, and the Time-Code is queued at every port.
+fn advance(state: &mut [u32], d: usize)
+    requires { ⌜ (length (now state) ≡ words) × (d < 32) ⌝ }
+    ensures { λ _. ⌜ now (state .exit) ≡ advanced d (now (state .entry)) ⌝ }
+{
+    let v = (state[COUNTERS + d] % 64 + 1) % 64;
+    state[COUNTERS + d] = v;
+    state::queue_time(state, d, NONE, v as u8);
+}
+
 // Does some port of device d run? The words of a port that the device lacks are 0.
 fn any_runs(state: &[u32], d: usize) -> bool
     requires { ⌜ d < 32 ⌝ }
-    ensures { λ r. ⌜ Decides ((p : ℕ) × (p < 8) × (running (now (state .entry)) (8 * d + p) ≡ 1)) r ⌝ }
+    ensures { λ r. ⌜ Decides (SomeRuns d (now (state .entry))) r ⌝ }
 {
     for p in 0..8 {
         if state::word(state, PORTS + PORT * (8 * d + p) + RUNNING) == 1 {
@@ -309,6 +352,7 @@ fn drain(state: &mut [u32], q: usize)
     let at = PORTS + PORT * q;
     state[at + INTERRUPTS] = 0;
     state[at + ACKNOWLEDGES] = 0;
+    state[TIMES + q] = 0;
 }
 
 // The register and the timers of device d become 0.
@@ -332,4 +376,15 @@ fn empty(state: &mut [u32], d: usize)
         state[at + ACKNOWLEDGES] = 0;
         state[at + NEXT] = 0;
     }
+}
+
+// The counter of device d, and what its ports have of Time-Codes, become 0.
+fn unclock(state: &mut [u32], d: usize)
+    requires { ⌜ (length (now state) ≡ words) × (d < 32) ⌝ }
+    ensures { λ _. ⌜ now (state .exit) ≡ untimed d (now (state .entry)) ⌝ }
+{
+    for p in 0..8 {
+        state[TIMES + (8 * d + p)] = 0;
+    }
+    state[COUNTERS + d] = 0;
 }

@@ -8,7 +8,7 @@ use Rattle.answers.specs.Ordered.{Ordered}
 use Rattle.answers.proofs.Unique.{decides-once, ordered-once, outcome-once}
 use Rattle.plan.specs.declared.Plan.{Plan}
 use Rattle.state.specs.Network.{loadFor}
-use Rattle.state.specs.Queue.{queueIn}
+use Rattle.state.specs.Queue.{queueIn, queueTimeIn}
 use Rattle.state.specs.Sound.{Sound, stateAsks}
 use Rattle.state.specs.Start.{started, startAsks, begun, Starts}
 use Rattle.state.specs.State.{State, word, BothFit}
@@ -30,6 +30,9 @@ begin-unique peers area a b p q = p ∙ sym q
 pub queue-all-unique : (permissions : List ℕ) (kind k d but : ℕ) (state a b : State) → a ≡ queueIn permissions kind k d but state
     → b ≡ queueIn permissions kind k d but state → a ≡ b
 queue-all-unique permissions kind k d but state a b p q = p ∙ sym q
+
+pub queue-time-unique : (v d but : ℕ) (state a b : State) → a ≡ queueTimeIn v d but state → b ≡ queueTimeIn v d but state → a ≡ b
+queue-time-unique v d but state a b p q = p ∙ sym q
 
 pub both-fit-unique : (state second : ℕ) (r s : Bool) → Decides (BothFit state second) r → Decides (BothFit state second) s → r ≡ s
 both-fit-unique state second r s p q = decides-once r s p q

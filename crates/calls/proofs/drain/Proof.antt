@@ -1,4 +1,4 @@
--- `calls::drain` meets its contract: two words are stored. Assumes nothing.
+-- `calls::drain` meets its contract: three words are stored. Assumes nothing.
 use mathlib.Core.Path.{refl}
 use native.Mathlib.Omega.{arith}
 use lib.ListN.{length-set}
@@ -9,6 +9,9 @@ use Rattle.calls.proofs.drain.Tie as tie
 
 slice-write-state-2 : tie.Need-slice-write-state-2
 slice-write-state-2 c = simp length-set (omega arith)
+
+slice-write-state-3 : tie.Need-slice-write-state-3
+slice-write-state-3 c = simp length-set (omega arith)
 
 returns : tie.Need-returns
 unfolding put
@@ -26,5 +29,8 @@ drain-spec =
     (λ c. search needs)
     (λ c. search needs)
     slice-write-state-2
+    (λ c. search needs)
+    (λ c. search needs)
+    slice-write-state-3
     (λ c. search needs)
     returns)

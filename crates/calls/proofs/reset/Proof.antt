@@ -1,8 +1,8 @@
--- `calls::reset` meets its contract: a refusal changes nothing, and else the device is cleared and its ports emptied. Assumes nothing.
+-- `calls::reset` meets its contract: a refusal changes nothing, and else the device is cleared, its ports emptied, and both are without Time-Codes. Assumes nothing.
 use mathlib.Core.Path.{ap, _∙_}
 use borrow.Author.Needs.{needs}
 use Rattle.answers.proofs.Outcomes.{outcome-refused, outcome-done}
-use Rattle.calls.specs.Calls.{emptied}
+use Rattle.calls.specs.Calls.{emptied, untimed}
 use Rattle.calls.proofs.Asked.{asked, ready}
 use Rattle.calls.proofs.reset.Statement.{statement}
 use Rattle.calls.proofs.reset.Tie as tie
@@ -18,11 +18,19 @@ empty-requires c κs =
     let e = c .before .before .before .before .before in
     let r = ready _ _ _ (asked _ _ _ (e .before .refusal .ensures) (e .if1 .left)) in search needs
 
+unclock-requires : tie.Need-unclock-requires
+unclock-requires c κs =
+    let e = c .before .before .before .before .before .before .before .before .before in
+    let r = ready _ _ _ (asked _ _ _ (e .before .refusal .ensures) (e .if1 .left)) in search needs
+
 returns-2 : tie.Need-returns-2
 returns-2 c =
-    let e = c .before .before .before .before .before .before .before .before in
+    let e = c .before .before .before .before .before .before .before .before .before .before .before .before in
     outcome-done (e .before .refusal .ensures) (e .if1 .left)
-    (c .before .before .empty .ensures ∙ ap (emptied _) (c .before .before .before .before .before .before .clear .ensures))
+    (c .before .before .unclock .ensures
+    ∙ ap (untimed _)
+    (c .before .before .before .before .before .before .empty .ensures
+    ∙ ap (emptied _) (c .before .before .before .before .before .before .before .before .before .before .clear .ensures)))
 
 refusal-requires : tie.Need-refusal-requires
 refusal-requires c κs = search needs
@@ -36,5 +44,6 @@ reset-spec =
     returns
     clear-requires
     empty-requires
+    unclock-requires
     (λ c. search needs)
     returns-2)
