@@ -18,6 +18,7 @@ star =
       core =
           record {
             devices = 5;
+            master = 0;
             loads = 500 ∷ 400 ∷ [];
             role = 1 ∷ replicate 31 0;
             ports = 6 ∷ 1 ∷ 1 ∷ 1 ∷ 1 ∷ replicate 27 0;
@@ -42,6 +43,7 @@ small =
       core =
           record {
             devices = 3;
+            master = 0;
             loads = 500 ∷ 400 ∷ [];
             role = 1 ∷ replicate 31 0;
             ports = 4 ∷ 1 ∷ 1 ∷ replicate 29 0;

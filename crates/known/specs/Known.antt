@@ -30,6 +30,7 @@ link =
       core =
           record {
             devices = 2;
+            master = 0;
             loads = 1 ∷ 1 ∷ [];
             role = 0 ∷ 1 ∷ replicate 30 0;
             ports = 1 ∷ 1 ∷ replicate 30 0;

@@ -1,16 +1,16 @@
 -- The worked plans are such as accepted files hold.
 use mathlib.Core.Path.{refl}
 use Rattle.lists.specs.Table.{every}
-use Rattle.plan.specs.Fields.{devicesFit, loadsFit, portsFit, masksFit, joins}
+use Rattle.plan.specs.Fields.{devicesFit, loadsFit, masterFits, portsFit, masksFit, masterIsNode, joins}
 use Rattle.plan.specs.Reading.{Held}
 use Rattle.plan.specs.inner.Memory.{portRight, deviceRight, rowRight, right}
 use Rattle.witness.specs.Line.{line, deaf}
 use Rattle.assurance.proofs.Instances.{tested-held}
 
 pub line-held : Held line
-unfolding line right rowRight deviceRight portRight every devicesFit loadsFit portsFit masksFit joins
+unfolding line right rowRight deviceRight portRight every devicesFit loadsFit masterFits portsFit masksFit masterIsNode joins
 line-held = tested-held line refl refl
 
 pub deaf-held : Held deaf
-unfolding deaf right rowRight deviceRight portRight every devicesFit loadsFit portsFit masksFit joins
+unfolding deaf right rowRight deviceRight portRight every devicesFit loadsFit masterFits portsFit masksFit masterIsNode joins
 deaf-held = tested-held deaf refl refl

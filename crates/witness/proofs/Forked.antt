@@ -18,7 +18,7 @@ use Rattle.bits.proofs.Sets.{bit-two}
 use Rattle.codes.specs.Codes.{reads}
 use Rattle.device.specs.Permissions.{maySend, mayReceive}
 use Rattle.device.specs.Reaction.{marked, ruled, reactsTo, reacts}
-use Rattle.plan.specs.Fields.{nobody, devicesFit, loadsFit, portsFit, masksFit, joins}
+use Rattle.plan.specs.Fields.{nobody, devicesFit, loadsFit, masterFits, portsFit, masksFit, masterIsNode, joins}
 use Rattle.plan.specs.Reading.{Held}
 use Rattle.plan.specs.inner.Memory.{portRight, deviceRight, rowRight, right}
 use Rattle.plan.specs.declared.Plan.{Plan}
@@ -46,7 +46,7 @@ use Rattle.assurance.proofs.Cycle.{sooner, lost-back, one-cycle}
 use Rattle.witness.specs.Fork.{fork, asking, answering, left, Unasked}
 
 fork-held : (joined : Bool) → Held (fork joined)
-unfolding fork right rowRight deviceRight portRight every devicesFit loadsFit portsFit masksFit joins
+unfolding fork right rowRight deviceRight portRight every devicesFit loadsFit masterFits portsFit masksFit masterIsNode joins
 fork-held true = tested-held (fork true) refl refl
 fork-held false = tested-held (fork false) refl refl
 

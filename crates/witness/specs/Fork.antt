@@ -24,6 +24,7 @@ fork joined =
       core =
           record {
             devices = 3;
+            master = 0;
             loads = 200 ∷ 200 ∷ [];
             role = 0 ∷ 0 ∷ 1 ∷ replicate 29 0;
             ports = 2 ∷ cond joined 2 1 ∷ 2 ∷ replicate 29 0;

@@ -17,6 +17,7 @@ line =
       core =
           record {
             devices = 3;
+            master = 0;
             loads = 200 ∷ 100 ∷ [];
             role = 0 ∷ 1 ∷ replicate 30 0;
             ports = 1 ∷ 2 ∷ 1 ∷ replicate 29 0;
@@ -38,6 +39,7 @@ deaf =
       core =
           record {
             devices = 2;
+            master = 0;
             loads = 200 ∷ 100 ∷ [];
             role = 0 ∷ 1 ∷ replicate 30 0;
             ports = 1 ∷ 1 ∷ replicate 30 0;
