@@ -18,18 +18,17 @@ use Rattle.plan.specs.Fields.{nobody}
 use Rattle.plan.specs.Reading.{Held}
 use Rattle.plan.specs.declared.Plan.{Plan}
 use Rattle.plan.proofs.BothWays.{held-few}
-use Rattle.state.specs.State.{State, words, word, put, deviceWords, portsAt, registerAt, timerAt, timer}
+use Rattle.state.specs.State.{State, words, word, put, deviceWords, portsAt, portsEnd, registerAt, timerAt, timer, counterAt, timeAt}
 use Rattle.state.specs.Network.{devices, portsOf, exists, peer}
 use Rattle.state.specs.Sound.{Sound}
 use Rattle.bench.specs.Round.{World, nothing, sentWords, tick, sentBytes, arrives, round}
-use Rattle.bench.specs.inner.Idle.{Rests, Unused, portsPast, Blank, Idles, Laid, Copies, Silent}
+use Rattle.bench.specs.inner.Idle.{Rests, Unused, portsPast, Behind, Blank, Idles, Laid, Copies, Silent}
 use Rattle.bench.specs.inner.Shown.{Seen, seen, Follows}
 use Rattle.bench.proofs.Ticks.{tick-other}
 use Rattle.state.proofs.Plans.{few, owned, absent-loose}
 use Rattle.state.proofs.Words.{word-past, length-put, word-same, word-other}
-use Rattle.state.proofs.Parts.{by-place}
-use Rattle.state.proofs.Keeping.{sound-behind}
-use Rattle.bench.proofs.Stepped.{tick-idle, chosen-none, post-nothing, arrives-nothing}
+use Rattle.state.proofs.Parts.{by-place, by-behind}
+use Rattle.bench.proofs.Stepped.{tick-idle, goes-not, chosen-none, post-nothing, arrives-nothing}
 use Rattle.bench.proofs.Following.{world, follows-still, shows-none}
 
 -- ---- timers
@@ -84,6 +83,9 @@ sound-unused {plan} {s} h x d l =
       unused = λ q kind a b k.
           let device : q / 8 ≡ d = omega arith in
           x .no-port q kind (omega arith) (rw device (le-ltb (q % 8) (portsOf plan d) (omega arith))) (omega arith);
+      untimed = λ q a b.
+          let device : q / 8 ≡ d = omega arith in
+          x .clock .no-word q (omega arith) (rw device (le-ltb (q % 8) (portsOf plan d) (omega arith)));
     }
 
 -- at them nothing arrives, as they lead nowhere
@@ -103,11 +105,14 @@ sound-blank plan h {s} x =
     record {
       size = x .size;
       blank =
-          by-place (λ i. registerAt (devices plan) ≤ i → (portsAt ≤ i → portsPast (devices plan) ≤ i) → word s i ≡ 0)
-          (λ d l a b. ap (word s) {x = registerAt d} {y = deviceWords * d + 0} (omega arith) ∙ x .no-device d 0 (omega arith) l (omega arith))
-          (λ d k l m a b. ap (word s) {x = timerAt d k} {y = deviceWords * d + (1 + k)} (omega arith) ∙ x .no-device d (1 + k) (omega arith) l (omega arith))
-          (λ q i l m a b. x .no-port q i l (absent q l (omega (arith, b (omega arith)))) m)
-          (λ i l a b. sound-behind x i l);
+          by-place (λ i. registerAt (devices plan) ≤ i → (portsAt ≤ i → portsPast (devices plan) ≤ i) → Behind (devices plan) i → word s i ≡ 0)
+          (λ d l a b c. ap (word s) {x = registerAt d} {y = deviceWords * d + 0} (omega arith) ∙ x .no-device d 0 (omega arith) l (omega arith))
+          (λ d k l m a b c. ap (word s) {x = timerAt d k} {y = deviceWords * d + (1 + k)} (omega arith) ∙ x .no-device d (1 + k) (omega arith) l (omega arith))
+          (λ q i l m a b c. x .no-port q i l (absent q l (omega (arith, b (omega arith)))) m)
+          (by-behind (λ i. registerAt (devices plan) ≤ i → (portsAt ≤ i → portsPast (devices plan) ≤ i) → Behind (devices plan) i → word s i ≡ 0)
+          (λ d l a b c. x .clock .no-counter d (omega (arith, c .0 (omega arith))) l)
+          (λ q l a b c. x .clock .no-word q l (absent q l (omega (arith, c .1 (omega arith)))))
+          (λ i l a b c. word-past s i (omega (arith, x .size))));
     }
   where
     -- a port behind those of the devices does not exist
@@ -124,7 +129,7 @@ zeros-blank n {s} e =
     let long : length s ≡ words = ap length e ∙ length-table words _ in
     record {
       size = long;
-      blank = λ i a b. dite (decLt i words) (λ l. ap (λ (x : State). word x i) e ∙ getD-table words (λ i. 0) i 0 l)
+      blank = λ i a b c. dite (decLt i words) (λ l. ap (λ (x : State). word x i) e ∙ getD-table words (λ i. 0) i 0 l)
           (λ l. word-past s i (omega (arith, long)));
     }
 
@@ -143,26 +148,33 @@ copies-more {i = i} {v} {t = t} x l h e =
       left = λ j o. word-other t i v j (λ z. o (omega arith) (omega arith)) ∙ x .left j (λ a b. o a (omega arith));
     }
 
--- two states that are blank there, and equal at the devices and ports, are equal
-pub blank-same : {n : ℕ} {a b : State} → Blank n a → Blank n b → ((i : ℕ) → i < registerAt n → word a i ≡ word b i)
-    → ((i : ℕ) → portsAt ≤ i → i < portsPast n → word a i ≡ word b i) → a ≡ b
-unfolding word
-blank-same {n} {a} {b} x y devices ports =
-    ext-getD 0 a b (x .size ∙ sym (y .size))
-    (λ i h. dite (decLt i (registerAt n)) (devices i)
-    (λ l. dite (decLt i portsAt) (λ m. x .blank i (omega arith) (λ o. absurd (omega arith)) ∙ sym (y .blank i (omega arith) (λ o. absurd (omega arith))))
-    (λ m. dite (decLt i (portsPast n)) (ports i (omega arith))
-    (λ o. x .blank i (omega arith) (λ _. omega arith) ∙ sym (y .blank i (omega arith) (λ _. omega arith))))))
+-- what is so of every place that is theirs, and of every other, is so of all; those of devices, of ports, of counters, and of the ports' Time-Codes
+pub by-theirs : {n : ℕ} (P : ℕ → Type 0) → n ≤ 32 → ((i : ℕ) → i < registerAt n → P i) → ((i : ℕ) → portsAt ≤ i → i < portsPast n → P i)
+    → ((i : ℕ) → portsEnd ≤ i → i < counterAt n → P i) → ((i : ℕ) → timeAt 0 ≤ i → i < timeAt (8 * n) → P i)
+    → ((i : ℕ) → registerAt n ≤ i → (portsAt ≤ i → portsPast n ≤ i) → Behind n i → P i) → (i : ℕ) → P i
+by-theirs {n} P few devices ports counters times others i =
+    dite (decLt i (registerAt n)) (devices i)
+    (λ a. dite (decLt i portsAt) (λ m. others i (omega arith) (λ o. absurd (omega arith)) (λ o. absurd (omega arith), λ o. absurd (omega arith)))
+    (λ b. dite (decLt i (portsPast n)) (ports i (omega arith))
+    (λ c. dite (decLt i portsEnd) (λ m. others i (omega arith) (λ _. omega arith) (λ o. absurd (omega arith), λ o. absurd (omega arith)))
+    (λ d. dite (decLt i (counterAt n)) (counters i (omega arith))
+    (λ e. dite (decLt i (timeAt 0)) (λ m. others i (omega arith) (λ _. omega arith) (λ _. omega arith, λ o. absurd (omega arith)))
+    (λ f. dite (decLt i (timeAt (8 * n))) (times i (omega arith)) (λ g. others i (omega arith) (λ _. omega arith) (λ _. omega arith, λ _. omega arith))))))))
 
 -- the words of the devices and of their ports are brought over
-pub brought : {n : ℕ} {old next middle after : State} → n ≤ 32 → Blank n old → Blank n next → Copies 0 (deviceWords * n) old next middle
-    → Copies portsAt (portsPast n) old middle after → after ≡ old
-brought {n} {old} {next} {middle} {after} few x y a b =
-    let z : Blank n after = record {
-      size = b .size ∙ a .size ∙ y .size;
-      blank = λ i l h. b .left i (λ c d. omega (arith, h c)) ∙ a .left i (λ c d. omega arith) ∙ y .blank i l h;
-    } in
-    blank-same z x (λ i l. b .left i (λ c d. omega arith) ∙ a .there i (omega arith) l) (λ i l h. b .there i l h)
+pub brought : {n : ℕ} {old next one two three after : State} → n ≤ 32 → Blank n old → Blank n next → Copies 0 (deviceWords * n) old next one
+    → Copies portsAt (portsPast n) old one two → Copies portsEnd (counterAt n) old two three → Copies (timeAt 0) (timeAt (8 * n)) old three after → after ≡ old
+unfolding word
+brought {n} {old} {next} {one} {two} {three} {after} few x y a b c d =
+    ext-getD 0 after old (d .size ∙ c .size ∙ b .size ∙ a .size ∙ y .size ∙ sym (x .size))
+    (λ i h. by-theirs (λ i. word after i ≡ word old i) few
+    (λ i l. d .left i (λ p q. omega arith) ∙ c .left i (λ p q. omega arith) ∙ b .left i (λ p q. omega arith) ∙ a .there i (omega arith) l)
+    (λ i l m. d .left i (λ p q. omega arith) ∙ c .left i (λ p q. omega arith) ∙ b .there i l m)
+    (λ i l m. d .left i (λ p q. omega arith) ∙ c .there i l m)
+    (λ i l m. d .there i l m)
+    (λ i l m o.
+    d .left i (λ p q. omega (arith, o .1 p)) ∙ c .left i (λ p q. omega (arith, o .0 p)) ∙ b .left i (λ p q. omega (arith, m p)) ∙ a .left i (λ p q. omega arith)
+    ∙ y .blank i l m o ∙ sym (x .blank i l m o)) i)
 
 -- ---- where nothing is sent
 
@@ -187,7 +199,8 @@ silent-sent plan {s} x =
           (λ m.
           let device : 8 * (q / 8) + q % 8 ≡ q = omega arith in
           rw (lt-ltb q (8 * devices plan) m)
-          (post-nothing s q (chosen-none s q (λ kind k. x .unused (q / 8) (omega arith) .unused q kind (h m) (omega arith) k))))
+          (let u = x .unused (q / 8) (omega arith) in
+          post-nothing s q (goes-not s q (rw (u .untimed q (h m) (omega arith)))) (chosen-none s q (λ kind k. u .unused q kind (h m) (omega arith) k))))
           (λ m. rw (le-ltb q (8 * devices plan) (omega arith)));
     }
 

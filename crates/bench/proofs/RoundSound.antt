@@ -1,11 +1,12 @@
 -- A round keeps a sound state sound.
-use mathlib.Core.Path.{_≡_, refl}
-use mathlib.Core.Bool.{Bool, true, false, cond}
+use mathlib.Core.Path.{_≡_, refl, sym, ap, _∙_}
+use mathlib.Core.Bool.{Bool, true, false, cond, not, _&&_}
 use mathlib.Core.List.{List, [], _∷_, _++_}
+use mathlib.Core.Logic.{_⊎_, inl, inr}
 use Prim.Native.Nat.{ℕ, _+_, _*_, _/_, _<_}
 use native.Mathlib.Omega.{arith}
-use lib.Dec.{ltb}
-use lib.ListN.{getD}
+use lib.Dec.{eqb, ltb}
+use lib.ListN.{length, getD}
 use borrow.Author.Tests.{eqb-true, eq-eqb, ltb-false}
 use Rattle.lists.proofs.Loops.{keeps}
 use Rattle.bits.specs.Set.{bit}
@@ -14,24 +15,26 @@ use Rattle.codes.specs.declared.Code.{Code}
 use Rattle.codes.specs.declared.Code.the-variants.{Time, Interrupt, Acknowledge, Reserved}
 use Rattle.codes.proofs.BothWays.{Stands, stands, time, interrupt, acknowledge, reserved-apart}
 use Rattle.device.specs.Permissions.{mayReceive}
-use Rattle.device.specs.Reaction.{marked, ruled, reactsTo, reacts}
-use Rattle.device.specs.declared.Action.the-variants.{Forwarded, Told}
+use Rattle.device.specs.Reaction.{nextTime, marked, ruled, counted as Reaction·counted, reactsTo, reacts}
+use Rattle.device.specs.declared.Action.the-variants.{Named, Forwarded, Told}
 use Rattle.device.specs.declared.Reaction.{Reaction}
 use Rattle.device.specs.declared.Side.{Side}
 use Rattle.device.proofs.Rule.{Accepts, ruled-cases}
 use Rattle.plan.specs.Reading.{Held}
 use Rattle.plan.specs.declared.Plan.{Plan}
-use Rattle.state.specs.State.{State, put, registerAt, register, running}
+use Rattle.state.specs.State.{State, word, put, portsEnd, registerAt, register, running, counterAt, counter}
 use Rattle.state.specs.Network.{devices, router, peer, permissions, loadOf}
 use Rattle.state.specs.Sound.{Sound}
-use Rattle.state.specs.Queue.{queueAll}
+use Rattle.state.specs.Queue.{queueAll, queueTimeAll}
 use Rattle.state.specs.Mark.{mark}
-use Rattle.bench.specs.Round.{World, ofInterrupt, toldWord, timed, forwarded, tells, sideAt, acted, arrived, sentBytes, arrives, reached, afterTimers, afterSending, round, nothing}
+use Rattle.bench.specs.Round.{World, ofInterrupt, ofTime, toldWord, timed, forwarded, tells, sideAt, acted, arrived, sentBytes, arrives, reached, afterTimers, afterSending, round, nothing}
 use Rattle.bench.specs.Settling.{rounds}
-use Rattle.state.proofs.Words.{put-word}
+use Rattle.state.proofs.Words.{length-put, word-other, put-word}
+use Rattle.state.proofs.Plans.{few}
 use Rattle.state.proofs.Marks.{mark-step}
 use Rattle.bench.proofs.Ticks.{ticked-sound}
 use Rattle.state.proofs.Waits.{queue-all-sound}
+use Rattle.state.proofs.Times.{counter-step, queue-time-sound, length-times, queue-times-left}
 use Rattle.bench.proofs.Unqueued.{posted-sound}
 
 -- ---- a byte arrives at port q
@@ -39,7 +42,8 @@ use Rattle.bench.proofs.Unqueued.{posted-sound}
 -- what a reaction makes of the world
 abbrev pub after : Plan → ℕ → World → Reaction → World
 after plan q w r =
-    acted (loadOf plan (q / 8)) (plan .core .permissions) q (r .action) (record { state = put (w .state) (registerAt (q / 8)) (r .register); told = w .told })
+    acted (loadOf plan (q / 8)) (plan .core .permissions) q (r .action)
+    (record { state = put (put (w .state) (counterAt (q / 8)) (r .counter)) (registerAt (q / 8)) (r .register); told = w .told })
 
 -- port q takes codes of a kind, and identifier k is new to its device
 pub record Opens (plan : Plan) (kind k q : ℕ) (s : State) : Type 0 where
@@ -59,10 +63,24 @@ takes plan kind k q hands w =
       told = cond hands (w .told) (w .told ++ (toldWord (ofInterrupt + kind) (q / 8) k ∷ []));
     }
 
--- a code comes that the port is open to, and the device takes it in, and hands it on if it is a router; or none comes, and nothing changes; what is so
--- in both cases is so of what arrives
-module _ (plan : Plan) (sent : List ℕ) (q : ℕ) (w : World) (P : World → Type 0)
+-- a Time-Code with the value v comes by port q: its device's counter takes the value, and a new one is queued or told
+abbrev pub counts : Bool → Bool → ℕ → ℕ → World → World
+counts new hands v q w =
+    let t = put (w .state) (counterAt (q / 8)) v in
+    record {
+      state = cond (new && hands) (queueTimeAll v (q / 8) q t) t;
+      told = cond (new && not hands) (w .told ++ (toldWord ofTime (q / 8) v ∷ [])) (w .told);
+    }
+
+-- it is new where it is one more than the counter was
+abbrev pub isNew : ℕ → ℕ → World → Bool
+isNew v q w = eqb v (nextTime (counter (w .state) (q / 8)))
+
+-- a code comes that the port is open to, and the device takes it in, and hands it on if it is a router; or a Time-Code comes; or neither does, and
+-- nothing changes. What is so in these cases is so of what arrives
+module _ (plan : Plan) (sent : List ℕ) (q : ℕ) (small : q / 8 < 32) (w : World) (P : World → Type 0)
     (left : ((kind k : ℕ) → kind < 2 → k < 32 → getD sent (peer plan q) nothing ≡ byteOf kind k → Opens plan kind k q (w .state) → ⊥) → P w)
+    (counted : (v : ℕ) → v < 64 → getD sent (peer plan q) nothing ≡ v → P (counts (isNew v q w) (router plan (q / 8)) v q w))
     (taken : (kind k : ℕ) → kind < 2 → k < 32 → getD sent (peer plan q) nothing ≡ byteOf kind k → Opens plan kind k q (w .state)
     → P (takes plan kind k q (router plan (q / 8)) w)) where
   abbrev byte : ℕ
@@ -71,12 +89,15 @@ module _ (plan : Plan) (sent : List ℕ) (q : ℕ) (w : World) (P : World → Ty
   abbrev bits : ℕ
   bits = register (w .state) (q / 8)
 
+  abbrev count : ℕ
+  count = counter (w .state) (q / 8)
+
   abbrev side : Side
   side = sideAt (router plan (q / 8)) (plan .core .permissions) q (w .state)
 
-  -- the register is put back as it was
-  unchanged : P w → P (record { state = put (w .state) (registerAt (q / 8)) bits; told = w .told })
-  unchanged p = rw (put-word (w .state) (registerAt (q / 8))) p
+  -- register and counter are put back as they were
+  unchanged : P w → P (record { state = put (put (w .state) (counterAt (q / 8)) count) (registerAt (q / 8)) bits; told = w .told })
+  unchanged p = rw (put-word (w .state) (counterAt (q / 8)), put-word (w .state) (registerAt (q / 8))) p
 
   -- a code of a kind
   module _ (kind k : ℕ) (g : kind < 2) (l : k < 32) (e : byte ≡ byteOf kind k) (code : Code)
@@ -84,12 +105,12 @@ module _ (plan : Plan) (sent : List ℕ) (q : ℕ) (w : World) (P : World → Ty
       (queues : (t : State) → forwarded (plan .core .permissions) q code t ≡ queueAll plan kind k (q / 8) q t)
       (says : tells (q / 8) code ≡ toldWord (ofInterrupt + kind) (q / 8) k ∷ []) where
     by-role : (hands : Bool) → P (takes plan kind k q hands w)
-        → P (after plan q w (record { register = marked kind bits k; action = cond hands (Forwarded code) (Told code) }))
+        → P (after plan q w (record { register = marked kind bits k; counter = count; action = cond hands (Forwarded code) (Told code) }))
     unfolding acted
-    by-role true p = rw (marks, queues) p
-    by-role false p = rw (marks, says) p
+    by-role true p = rw (put-word (w .state) (counterAt (q / 8)), marks, queues) p
+    by-role false p = rw (put-word (w .state) (counterAt (q / 8)), marks, says) p
 
-    refused : (Accepts side bits kind k → ⊥) → P (record { state = put (w .state) (registerAt (q / 8)) bits; told = w .told })
+    refused : (Accepts side bits kind k → ⊥) → P (record { state = put (put (w .state) (counterAt (q / 8)) count) (registerAt (q / 8)) bits; told = w .told })
     refused n =
         unchanged
         (left
@@ -98,34 +119,85 @@ module _ (plan : Plan) (sent : List ℕ) (q : ℕ) (w : World) (P : World → Ty
         let b : k ≡ j = omega arith in
         n (rw (a, b) (record { runs = eq-eqb (running (w .state) q) 1 (y .runs); may = y .may; stood = y .stood }))))
 
-    ruled-taken : P (after plan q w (ruled side bits kind k code))
+    ruled-taken : P (after plan q w (ruled side bits count kind k code))
     unfolding acted
     ruled-taken =
-        ruled-cases (λ r. P (after plan q w r)) side bits kind k code refused refused
+        ruled-cases (λ r. P (after plan q w r)) side bits count kind k code refused refused
         (λ o. by-role (router plan (q / 8)) (taken kind k g l e (record { runs = eqb-true (running (w .state) q) 1 (o .runs); may = o .may; stood = o .stood })))
 
-  reacts-taken : (code : Code) → Stands byte code → P (after plan q w (reactsTo side bits code))
-  unfolding reactsTo acted timed forwarded tells mark
-  reacts-taken (Time v) (time h) = unchanged (left (λ kind k g l e. absurd (omega arith)))
+  -- a Time-Code: the register is put back as it was
+  time-taken : (v : ℕ) (new hands : Bool) → P (counts new hands v q w)
+      → P (after plan q w (record { register = bits; counter = v; action = cond new (cond hands (Forwarded (Time v)) (Told (Time v))) (Named (Time v)) }))
+  unfolding acted timed forwarded tells
+  time-taken v new hands p =
+      let same : put (put (w .state) (counterAt (q / 8)) v) (registerAt (q / 8)) bits ≡ put (w .state) (counterAt (q / 8)) v =
+      ap (put (put (w .state) (counterAt (q / 8)) v) (registerAt (q / 8))) (sym (word-other (w .state) (counterAt (q / 8)) v (registerAt (q / 8)) (omega arith)))
+      ∙ put-word (put (w .state) (counterAt (q / 8)) v) (registerAt (q / 8)) in
+      by-tests new hands same p
+    where
+      by-tests : (n h : Bool) → put (put (w .state) (counterAt (q / 8)) v) (registerAt (q / 8)) bits ≡ put (w .state) (counterAt (q / 8)) v → P (counts n h v q w)
+          → P (after plan q w (record { register = bits; counter = v; action = cond n (cond h (Forwarded (Time v)) (Told (Time v))) (Named (Time v)) }))
+      by-tests false false same p = rw same p
+      by-tests false true same p = rw same p
+      by-tests true false same p = rw same p
+      by-tests true true same p = rw same p
+
+  reacts-taken : (code : Code) → Stands byte code → P (after plan q w (reactsTo side bits count code))
+  unfolding reactsTo Reaction·counted acted timed forwarded tells mark
+  reacts-taken (Time v) (time h) = time-taken v (isNew v q w) (router plan (q / 8)) (counted v (omega arith) (omega arith))
   reacts-taken (Reserved top low) p = unchanged (left (λ kind k g l e o. reserved-apart kind k p g l e))
   reacts-taken (Interrupt k) (interrupt l e) = ruled-taken 0 k (omega arith) (omega arith) (omega arith) (Interrupt k) refl (λ t. refl) refl
   reacts-taken (Acknowledge k) (acknowledge l e) = ruled-taken 1 k (omega arith) (omega arith) (omega arith) (Acknowledge k) refl (λ t. refl) refl
 
-  pub arrives-taken : P (arrives plan sent q w)
+  pub arrives-any : P (arrives plan sent q w)
   unfolding arrives arrived reacts
-  arrives-taken = by-test (ltb byte nothing) refl
+  arrives-any = by-test (ltb byte nothing) refl
     where
       by-test : (t : Bool) → ltb byte nothing ≡ t → P (arrives plan sent q w)
       by-test false e = rw e (left (λ kind k g l o. absurd (omega (arith, ltb-false byte nothing e))))
       by-test true e = rw e (reacts-taken (reads byte) (stands byte))
 
--- nothing changes; or a router marks the code and queues it at its other ports; or a node marks it and tells its host
-module _ (plan : Plan) (sent : List ℕ) (q : ℕ) (w : World) (P : World → Type 0) (left : P w)
+-- ---- what a Time-Code leaves
+
+-- no word in front of the counters changes, and hosts are told of nothing but a Time-Code
+pub record Beside (w v : World) : Type 0 where
+  pub size : length (v .state) ≡ length (w .state)
+  pub front : (i : ℕ) → i < portsEnd → word (v .state) i ≡ word (w .state) i
+  pub told : (v .told ≡ w .told) ⊎ ((d n : ℕ) × (v .told ≡ w .told ++ (toldWord ofTime d n ∷ [])))
+
+pub beside-same : (w : World) → Beside w w
+beside-same w = record { size = refl; front = λ i h. refl; told = inl refl }
+
+counts-beside : (new hands : Bool) (v q : ℕ) (w : World) → q / 8 < 32 → Beside w (counts new hands v q w)
+counts-beside new hands v q w small =
+    let t = put (w .state) (counterAt (q / 8)) v in
+    let put-left : (i : ℕ) → i < portsEnd → word t i ≡ word (w .state) i = λ i h. word-other (w .state) (counterAt (q / 8)) v i (omega arith) in
+    record {
+      size = of-test (λ u. length u ≡ length (w .state)) (new && hands) (length-times v (q / 8) q t ∙ length-put (w .state) (counterAt (q / 8)) v) (length-put (w .state) (counterAt (q / 8)) v);
+      front = λ i h. of-test (λ u. word u i ≡ word (w .state) i) (new && hands) (queue-times-left i (λ p l. omega arith) v (q / 8) q small t ∙ put-left i h) (put-left i h);
+      told = of-test (λ u. (u ≡ w .told) ⊎ ((d n : ℕ) × (u ≡ w .told ++ (toldWord ofTime d n ∷ [])))) (new && not hands) (inr (q / 8, v, refl)) (inl refl);
+    }
+  where
+    of-test : {A : Type 0} (Q : A → Type 0) (b : Bool) {x y : A} → Q x → Q y → Q (cond b x y)
+    of-test Q true p o = p
+    of-test Q false p o = o
+
+-- a code comes that the port is open to, and is taken in; or none comes, and nothing changes but what a Time-Code changes
+module _ (plan : Plan) (sent : List ℕ) (q : ℕ) (small : q / 8 < 32) (w : World) (P : World → Type 0)
+    (left : ((kind k : ℕ) → kind < 2 → k < 32 → getD sent (peer plan q) nothing ≡ byteOf kind k → Opens plan kind k q (w .state) → ⊥) → (v : World) → Beside w v → P v) where
+  pub arrives-taken : ((kind k : ℕ) → kind < 2 → k < 32 → getD sent (peer plan q) nothing ≡ byteOf kind k → Opens plan kind k q (w .state)
+      → P (takes plan kind k q (router plan (q / 8)) w)) → P (arrives plan sent q w)
+  arrives-taken =
+      arrives-any plan sent q small w P (λ none. left none w (beside-same w))
+      (λ v h e. left (λ kind k g l o. absurd (omega arith)) (counts (isNew v q w) (router plan (q / 8)) v q w) (counts-beside (isNew v q w) (router plan (q / 8)) v q w small))
+
+-- nothing of these changes; or a router marks the code and queues it at its other ports; or a node marks it and tells its host
+module _ (plan : Plan) (sent : List ℕ) (q : ℕ) (small : q / 8 < 32) (w : World) (P : World → Type 0) (left : (v : World) → Beside w v → P v)
     (queued : (kind k : ℕ) → kind < 2 → k < 32 → getD sent (peer plan q) nothing ≡ byteOf kind k → P (takes plan kind k q true w))
     (told : (kind k : ℕ) → kind < 2 → k < 32 → getD sent (peer plan q) nothing ≡ byteOf kind k → P (takes plan kind k q false w)) where
   pub arrives-cases : P (arrives plan sent q w)
   arrives-cases =
-      arrives-taken plan sent q w P (λ none. left)
+      arrives-taken plan sent q small w P (λ none. left)
       (λ kind k g l e o. elim (router plan (q / 8)) as (λ r. P (takes plan kind k q r w)) [ true ↦ queued kind k g l e | false ↦ told kind k g l e ])
 
 -- ---- a round
@@ -133,9 +205,18 @@ module _ (plan : Plan) (sent : List ℕ) (q : ℕ) (w : World) (P : World → Ty
 module _ (plan : Plan) (held : Held plan) where
   pub arrives-sound : (sent : List ℕ) (q : ℕ) → q / 8 < devices plan → (w : World) → Sound plan (w .state) → Sound plan (arrives plan sent q w .state)
   arrives-sound sent q h w x =
-      arrives-cases plan sent q w (λ v. Sound plan (v .state)) x
-      (λ kind k g l b. queue-all-sound plan held kind k (q / 8) q g l h _ (mark-step plan held x (q / 8) h kind k g l))
-      (λ kind k g l b. mark-step plan held x (q / 8) h kind k g l)
+      let n = few plan held in
+      arrives-any plan sent q (omega arith) w (λ v. Sound plan (v .state)) (λ none. x)
+      (λ v l e.
+      let y = counter-step plan held x (q / 8) v h l in
+      by-test (isNew v q w && router plan (q / 8)) (queue-time-sound plan held v (q / 8) q l (omega arith) _ y) y)
+      (λ kind k g l e o.
+      let y = mark-step plan held x (q / 8) h kind k g l in
+      by-test (router plan (q / 8)) (queue-all-sound plan held kind k (q / 8) q g l h _ y) y)
+    where
+      by-test : (b : Bool) {s t : State} → Sound plan s → Sound plan t → Sound plan (cond b s t)
+      by-test true y z = y
+      by-test false y z = z
 
   reached-sound : (sent : List ℕ) (w : World) → Sound plan (w .state) → Sound plan (reached plan sent w .state)
   unfolding reached

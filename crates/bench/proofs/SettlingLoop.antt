@@ -18,7 +18,7 @@ use Rattle.lists.specs.Table.{table}
 use Rattle.lists.proofs.Loops.{upTo-step}
 use Rattle.plan.specs.Reading.{Held}
 use Rattle.plan.specs.declared.Plan.{Plan}
-use Rattle.state.specs.State.{State, words, portAt, waiting}
+use Rattle.state.specs.State.{State, words, portAt, waiting, timeAt, timeWaits}
 use Rattle.state.specs.Sound.{Sound, stateAsks}
 use Rattle.state.proofs.Keeping.{both-kinds}
 use Rattle.bench.specs.declared.Answer.{Answer}
@@ -31,7 +31,7 @@ use Rattle.bench.specs.inner.Ends.{Ends}
 
 -- nothing waits at port q
 abbrev pub Still : State → ℕ → Type 0
-Still s q = (waiting s 0 q ≡ 0) × (waiting s 1 q ≡ 0)
+Still s q = (waiting s 0 q ≡ 0) × (waiting s 1 q ≡ 0) × (timeWaits s q ≡ 0)
 
 -- where there are n devices
 module _ {n : ℕ} {s : State} where
@@ -39,14 +39,18 @@ module _ {n : ℕ} {s : State} where
   unfolding Quiet
   none-waits few b h =
       record {
-        only = λ _ q kind l k. dite (decLt q (8 * n)) (λ g. both-kinds (λ j. waiting s j q ≡ 0) (h q g .0) (h q g .1) kind k)
-            (λ g. b .blank (portAt q kind) (omega arith) (λ _. omega arith));
+        only = λ _. (
+          λ q kind l k. dite (decLt q (8 * n)) (λ g. both-kinds (λ j. waiting s j q ≡ 0) (h q g .0) (h q g .1) kind k)
+              (λ g. b .blank (portAt q kind) (omega arith) (λ _. omega arith) (λ o. absurd (omega arith), λ o. absurd (omega arith))),
+          λ q l. dite (decLt q (8 * n)) (λ g. h q g .2)
+              (λ g. rw (b .blank (timeAt q) (omega arith) (λ _. omega arith) (λ _. omega arith, λ _. omega arith))),
+        );
         all = λ _. refl;
       }
 
   pub one-waits : n ≤ 32 → Blank n s → (q : ℕ) → q < 8 * n → (Still s q → ⊥) → Decides (Quiet s) false
   unfolding Quiet
-  one-waits few b q l x = fails (λ h. x (h q 0 (omega arith) (omega arith), h q 1 (omega arith) (omega arith)))
+  one-waits few b q l x = fails (λ h. x (h .0 q 0 (omega arith) (omega arith), h .0 q 1 (omega arith) (omega arith), h .1 q (omega arith)))
 
 -- ---- the two areas
 

@@ -1,7 +1,8 @@
 -- What each step of a round does to a world, in the cases that the code tells apart.
 use mathlib.Core.Path.{_≡_, refl, sym, ap, _∙_}
-use mathlib.Core.Bool.{Bool, true, false}
+use mathlib.Core.Bool.{Bool, true, false, cond}
 use mathlib.Core.List.{List, [], _∷_, _++_}
+use mathlib.Core.Logic.{_⊎_, inl, inr}
 use Prim.Native.Nat.{ℕ, zero, suc, _+_, _-_, _/_, _%_, _≤_, _<_}
 use native.Mathlib.Omega.{arith}
 use lib.Bits.{bitOr}
@@ -19,9 +20,9 @@ use Rattle.device.specs.Reaction.{reacts}
 use Rattle.device.specs.declared.Reaction.{Reaction}
 use Rattle.device.specs.declared.Action.the-variants.{Forwarded, Told}
 use Rattle.plan.specs.declared.Plan.{Plan}
-use Rattle.state.specs.State.{State, put, word, registerAt, timerAt, portAt, register, timer, waiting, nextAt, next}
+use Rattle.state.specs.State.{State, put, word, registerAt, timerAt, portAt, register, timer, waiting, nextAt, next, counterAt, counter, timeAt, timeWaits}
 use Rattle.state.specs.Network.{router, peer, loadOf}
-use Rattle.bench.specs.Round.{World, nothing, ofTimeout, toldWord, tick, chosen, sentWord, sends, unqueued, timed, forwarded, tells, sideAt, acted, arrived, arrives}
+use Rattle.bench.specs.Round.{World, nothing, ofTimeout, toldWord, tick, firstWaits, goes, timeGoes, chosen, sentWord, sends, unqueued, stamped, posts, timed, forwarded, tells, sideAt, acted, arrived, arrives}
 use Rattle.state.proofs.Words.{word-other}
 use Rattle.bench.proofs.Following.{world}
 
@@ -53,48 +54,115 @@ module _ (isRouter : Bool) (d k : ℕ) (s : State) (told : List ℕ) where
 
 -- ---- 2. sending
 
+-- a code that is found is not found nowhere
+pub not-nowhere : {k : ℕ} → Nowhere ≡ At k → ⊥
+not-nowhere e = let z : _≡_ {A = ℕ} 0 1 = cc in omega arith
+
 module _ (old : State) (q : ℕ) where
+  -- what the code finds
+  pub first-is : {r : Found} → Finds (bitOr (waiting old 0 q) (waiting old 1 q)) (next old q) r → r ≡ firstWaits old q
+  unfolding firstWaits
+  first-is f = first-unique _ _ _ _ f (firstFrom-finds _ _)
+
+  pub first-finds : Finds (bitOr (waiting old 0 q) (waiting old 1 q)) (next old q) (firstWaits old q)
+  unfolding firstWaits
+  first-finds = firstFrom-finds (bitOr (waiting old 0 q) (waiting old 1 q)) (next old q)
+
+  -- an identifier is chosen where it is the first and no Time-Code goes
+  pub chosen-first : {k : ℕ} → chosen old q ≡ At k → (timeGoes old q ≡ false) × (firstWaits old q ≡ At k)
+  unfolding chosen
+  chosen-first {k} = by-test (timeGoes old q) refl
+    where
+      by-test : (t : Bool) → timeGoes old q ≡ t → cond t Nowhere (firstWaits old q) ≡ At k → (timeGoes old q ≡ false) × (firstWaits old q ≡ At k)
+      by-test true g e = absurd (not-nowhere e)
+      by-test false g e = (g, e)
+
+  pub first-chosen : timeGoes old q ≡ false → chosen old q ≡ firstWaits old q
+  unfolding chosen
+  first-chosen g = rw g
+
+  pub time-chosen : timeGoes old q ≡ true → chosen old q ≡ Nowhere
+  unfolding chosen
+  time-chosen g = rw g
+
   pub chosen-place : {k : ℕ} → chosen old q ≡ At k → k < 32
-  unfolding chosen Finds
+  unfolding Finds
   chosen-place {k} e =
-      let f : Finds (bitOr (waiting old 0 q) (waiting old 1 q)) (next old q) (At k) = rw e at (firstFrom-finds (bitOr (waiting old 0 q) (waiting old 1 q)) (next old q)) in
+      let f : Finds (bitOr (waiting old 0 q) (waiting old 1 q)) (next old q) (At k) = rw (chosen-first e .1) at first-finds in
       f .place
 
-  -- what the code finds
-  pub chosen-is : {r : Found} → Finds (bitOr (waiting old 0 q) (waiting old 1 q)) (next old q) r → r ≡ chosen old q
-  unfolding chosen
-  chosen-is f = first-unique _ _ _ _ f (firstFrom-finds _ _)
-
   -- nothing waits
-  pub chosen-none : ((kind : ℕ) → kind < 2 → waiting old kind q ≡ 0) → chosen old q ≡ Nowhere
-  unfolding chosen Finds
-  chosen-none h =
+  first-none : ((kind : ℕ) → kind < 2 → waiting old kind q ≡ 0) → firstWaits old q ≡ Nowhere
+  unfolding firstWaits Finds
+  first-none h =
       rw (h 0 (omega arith), h 1 (omega arith)) (first-unique 0 (next old q) _ Nowhere (firstFrom-finds 0 (next old q)) (λ k l. bit-zero k))
 
-  pub post-nothing : chosen old q ≡ Nowhere → sends old q ≡ nothing
-  unfolding sends sentWord
-  post-nothing e = rw (e, sentWord)
+  pub goes-not : timeWaits old q ≡ 0 → timeGoes old q ≡ false
+  unfolding timeGoes goes
+  goes-not e = rw (e, goes)
 
-  pub post-same : (s : State) → chosen old q ≡ Nowhere → unqueued old q s ≡ s
-  unfolding unqueued
-  post-same s e = rw (e, unqueued)
+  pub chosen-none : ((kind : ℕ) → kind < 2 → waiting old kind q ≡ 0) → chosen old q ≡ Nowhere
+  unfolding chosen
+  chosen-none h = by-test (timeGoes old q)
+    where
+      by-test : (t : Bool) → cond t Nowhere (firstWaits old q) ≡ Nowhere
+      by-test true = refl
+      by-test false = first-none h
+
+  -- a Time-Code goes
+  pub post-time : timeGoes old q ≡ true → sends old q ≡ (timeWaits old q - 1) % 64
+  unfolding sends
+  post-time g = rw g
+
+  pub post-stamps : (s : State) → timeGoes old q ≡ true → posts old q s ≡ put s (timeAt q) 128
+  unfolding unqueued stamped
+  post-stamps s g = rw (time-chosen g, g, stamped, unqueued)
+
+  -- nothing goes
+  module _ (g : timeGoes old q ≡ false) (e : chosen old q ≡ Nowhere) where
+    pub post-nothing : sends old q ≡ nothing
+    unfolding sends sentWord
+    post-nothing = rw (g, e, sentWord)
+
+    pub post-same : (s : State) → posts old q s ≡ s
+    unfolding unqueued stamped
+    post-same s = ap (stamped (timeGoes old q) (chosen old q) q) leaves ∙ rw (g, e, stamped)
+      where
+        leaves : unqueued old q s ≡ s
+        leaves = rw (e, unqueued)
+
+  -- no identifier is sent: what is sent is nothing, or the byte of a Time-Code
+  pub post-none : chosen old q ≡ Nowhere → (sends old q ≡ nothing) ⊎ (sends old q < 64)
+  post-none e = by-test (timeGoes old q) refl
+    where
+      by-test : (t : Bool) → timeGoes old q ≡ t → (sends old q ≡ nothing) ⊎ (sends old q < 64)
+      by-test true g = inr (omega (arith, post-time g))
+      by-test false g = inl (post-nothing g e)
 
   module _ {k : ℕ} (e : chosen old q ≡ At k) where
+    -- the word of what was chosen
+    post-chosen : sends old q ≡ sentWord (waiting old 0 q) (At k)
+    unfolding sends
+    post-chosen = rw (chosen-first e .0, e)
+
     pub post-interrupt : bit (waiting old 0 q) k ≡ 1 → sends old q ≡ byteOf 0 k
-    unfolding sends sentWord
-    post-interrupt h = rw (e, eq-eqb _ _ h, sentWord)
+    unfolding sentWord
+    post-interrupt h = post-chosen ∙ rw (eq-eqb _ _ h)
 
     pub post-acknowledge : (bit (waiting old 0 q) k ≡ 1 → ⊥) → sends old q ≡ byteOf 1 k
-    unfolding sends sentWord
-    post-acknowledge h = rw (e, ne-eqb _ _ h, sentWord)
+    unfolding sentWord
+    post-acknowledge h = post-chosen ∙ rw (ne-eqb _ _ h)
 
-    -- the code reads the second set after it has put the first
+    -- the code reads the second set after it has put the first, and the Time-Codes last
     pub post-leaves : (s : State) (a b : ℕ) → a ≡ leave (waiting s 0 q) k → b ≡ leave (word (put s (portAt q 0) a) (portAt q 1)) k
-        → unqueued old q s ≡ put (put (put s (portAt q 0) a) (portAt q 1) b) (portAt q nextAt) ((k + 1) % 32)
-    unfolding unqueued following
+        → let t = put (put (put s (portAt q 0) a) (portAt q 1) b) (portAt q nextAt) ((k + 1) % 32) in posts old q s ≡ put t (timeAt q) (timeWaits t q)
+    unfolding unqueued following stamped
     post-leaves s a b p o =
         let l : b ≡ leave (waiting s 1 q) k = o ∙ ap (λ (v : ℕ). leave v k) (word-other s (portAt q 0) a (portAt q 1) (omega arith)) in
-        rw (e, p, l, unqueued)
+        ap (stamped (timeGoes old q) (chosen old q) q) (leaves l) ∙ rw (chosen-first e .0, e, stamped)
+      where
+        leaves : b ≡ leave (waiting s 1 q) k → unqueued old q s ≡ put (put (put s (portAt q 0) a) (portAt q 1) b) (portAt q nextAt) ((k + 1) % 32)
+        leaves l = rw (e, p, l, unqueued)
 
 -- ---- 3. arrivals
 
@@ -110,10 +178,12 @@ module _ (load : ℕ → ℕ) (permissions : List ℕ) (q : ℕ) (s : State) whe
   acted-tells code t told e = rw e
 
   pub arrived-acts : (isRouter : Bool) (byte : ℕ) (r : Reaction) (told : List ℕ)
-      → r ≡ reacts (sideAt isRouter permissions q s) (register s (q / 8)) byte
-      → arrived load permissions q isRouter byte (world s told) ≡ acted load permissions q (r .action) (world (put s (registerAt (q / 8)) (r .register)) told)
+      → r ≡ reacts (sideAt isRouter permissions q s) (register s (q / 8)) (counter s (q / 8)) byte
+      → arrived load permissions q isRouter byte (world s told)
+      ≡ acted load permissions q (r .action) (world (put (put s (counterAt (q / 8)) (r .counter)) (registerAt (q / 8)) (r .register)) told)
   unfolding arrived
-  arrived-acts isRouter byte r told e = ap (λ (x : Reaction). acted load permissions q (x .action) (world (put s (registerAt (q / 8)) (x .register)) told)) (sym e)
+  arrived-acts isRouter byte r told e =
+      ap (λ (x : Reaction). acted load permissions q (x .action) (world (put (put s (counterAt (q / 8)) (x .counter)) (registerAt (q / 8)) (x .register)) told)) (sym e)
 
 module _ (plan : Plan) (sent : List ℕ) (q byte : ℕ) (e : byte ≡ getD sent (peer plan q) nothing) (w : World) where
   pub arrives-nothing : nothing ≤ byte → arrives plan sent q w ≡ w

@@ -1,18 +1,18 @@
 -- No round tells more than its area holds: each timer tells one word at most, and so does each of a node's two ports.
 use mathlib.Core.Path.{_≡_, refl, sym, ap, _∙_}
-use mathlib.Core.Bool.{Bool, true, false}
+use mathlib.Core.Bool.{Bool, true, false, cond}
 use mathlib.Core.List.{List, [], _∷_}
 use Prim.Native.Nat.{ℕ, zero, suc, _+_, _*_, _/_, _%_, _≤_, _<_}
 use native.Mathlib.Decide.{ℕ-discrete, decLt}
 use native.Mathlib.Omega.{arith}
-use lib.Dec.{ltb}
+use lib.Dec.{eqb, ltb}
 use lib.ListN.{length, getD, length-append, List·getD-eq-default}
 use borrow.Author.Tests.{ltb-true, ltb-false, le-ltb}
 use Rattle.lists.specs.Loop.{upTo}
 use Rattle.lists.proofs.Tables.{length-table}
 use Rattle.codes.specs.declared.Code.{Code}
 use Rattle.codes.specs.declared.Code.the-variants.{Time, Interrupt, Acknowledge, Reserved}
-use Rattle.device.specs.Reaction.{ruled, reactsTo, reacts}
+use Rattle.device.specs.Reaction.{nextTime, passedOn, ruled, counted, reactsTo, reacts}
 use Rattle.device.specs.declared.Action.{Action}
 use Rattle.device.specs.declared.Action.the-variants.{Named, LinkError, Ignored, Forwarded, Told}
 use Rattle.device.specs.declared.Side.{Side}
@@ -48,15 +48,19 @@ most load permissions q (LinkError code) w = omega arith
 most load permissions q (Ignored code) w = omega arith
 
 -- a router tells nobody
-module _ (load : ℕ → ℕ) (permissions : List ℕ) (q : ℕ) (side : Side) (hands : side .router ≡ true) (register : ℕ) (w : World) where
-  ruled-silent : (kind k : ℕ) (code : Code) → acted load permissions q (ruled side register kind k code .action) w .told ≡ w .told
+module _ (load : ℕ → ℕ) (permissions : List ℕ) (q : ℕ) (side : Side) (hands : side .router ≡ true) (register counter : ℕ) (w : World) where
+  ruled-silent : (kind k : ℕ) (code : Code) → acted load permissions q (ruled side register counter kind k code .action) w .told ≡ w .told
   unfolding acted
   ruled-silent kind k code =
-      ruled-cases (λ r. acted load permissions q (r .action) w .told ≡ w .told) side register kind k code (λ n. refl) (λ n. refl) (λ o. rw hands refl)
+      ruled-cases (λ r. acted load permissions q (r .action) w .told ≡ w .told) side register counter kind k code (λ n. refl) (λ n. refl) (λ o. rw hands refl)
 
-  reacts-silent : (code : Code) → acted load permissions q (reactsTo side register code .action) w .told ≡ w .told
-  unfolding acted reactsTo
-  reacts-silent (Time v) = refl
+  reacts-silent : (code : Code) → acted load permissions q (reactsTo side register counter code .action) w .told ≡ w .told
+  unfolding acted reactsTo counted
+  reacts-silent (Time v) = by-value (eqb v (nextTime counter))
+    where
+      by-value : (new : Bool) → acted load permissions q (cond new (passedOn side register counter (Time v)) (Named (Time v))) w .told ≡ w .told
+      by-value true = rw hands
+      by-value false = refl
   reacts-silent (Reserved top low) = refl
   reacts-silent (Interrupt k) = ruled-silent 0 k (Interrupt k)
   reacts-silent (Acknowledge k) = ruled-silent 1 k (Acknowledge k)
@@ -100,7 +104,7 @@ module _ (plan : Plan) (held : Held plan) (sent : List ℕ) (none : getD sent no
   arrives-none q w l m = by-role (router plan (q / 8)) refl
     where
       by-byte : router plan (q / 8) ≡ true → (b : Bool) → ltb (getD sent (peer plan q) nothing) nothing ≡ b → arrives plan sent q w .told ≡ w .told
-      by-byte r true e = rw (arrives-byte plan sent q _ refl w (ltb-true _ _ e)) (reacts-silent _ _ q _ r _ _ _)
+      by-byte r true e = rw (arrives-byte plan sent q _ refl w (ltb-true _ _ e)) (reacts-silent _ _ q _ r _ _ _ _)
       by-byte r false e = rw (arrives-nothing plan sent q _ refl w (ltb-false _ _ e))
 
       by-role : (b : Bool) → router plan (q / 8) ≡ b → arrives plan sent q w .told ≡ w .told

@@ -1,7 +1,7 @@
 -- RULES, "Rounds": the next state, what is sent, and what hosts are told.
-use mathlib.Core.Bool.{Bool, cond}
+use mathlib.Core.Bool.{Bool, true, false, cond}
 use mathlib.Core.List.{List, [], _∷_, _++_}
-use Prim.Native.Nat.{ℕ, zero, suc, _+_, _*_, _/_, _%_}
+use Prim.Native.Nat.{ℕ, zero, suc, _+_, _-_, _*_, _/_, _%_}
 use lib.Bits.{bitOr}
 use lib.Dec.{eqb, ltb}
 use lib.ListN.{getD}
@@ -19,9 +19,9 @@ use Rattle.device.specs.declared.Action.{Action}
 use Rattle.device.specs.declared.Action.the-variants.{Named, LinkError, Ignored, Forwarded, Told}
 use Rattle.device.specs.declared.Side.{Side}
 use Rattle.plan.specs.declared.Plan.{Plan}
-use Rattle.state.specs.State.{State, put, registerAt, timerAt, portAt, register, timer, waiting, nextAt, next, running}
+use Rattle.state.specs.State.{State, put, registerAt, timerAt, portAt, register, timer, waiting, nextAt, next, running, counterAt, counter, timeAt, timeWaits, lately}
 use Rattle.state.specs.Network.{devices, router, peer, loadOf}
-use Rattle.state.specs.Queue.{queueAllAt}
+use Rattle.state.specs.Queue.{queueAllAt, queueTimeAll}
 
 -- a state, and the words told so far
 pub record World : Type 0 where
@@ -38,7 +38,10 @@ ofAcknowledge = 2
 abbrev pub ofTimeout : ℕ
 ofTimeout = 3
 
--- a word told: the identifier in its low byte, the device in the next, what it is about above them
+abbrev pub ofTime : ℕ
+ofTime = 4
+
+-- a word told: the identifier, or the Time-Code's value, in its low byte, the device in the next, what it is about above them
 abbrev pub toldWord : ℕ → ℕ → ℕ → ℕ
 toldWord kind d k = 65536 * kind + 256 * d + k
 
@@ -57,11 +60,24 @@ tick isRouter d k w =
           (record { state = put (w .state) (timerAt d k) t; told = w .told })
     ]
 
--- ---- 2. each port with anything waiting sends; what, is chosen from the old waiting sets
+-- ---- 2. each port with anything waiting sends; what, is chosen from what waited in the old state
 
 -- the first waiting identifier at or after next
+unfoldable pub firstWaits : State → ℕ → Found
+firstWaits old q = firstFrom (bitOr (waiting old 0 q) (waiting old 1 q)) (next old q)
+
+-- whether a Time-Code goes: by its value plus 1, or 0; by whether the last code sent was one, 1 or 0; and by what else waits
+unfoldable pub goes : ℕ → ℕ → Found → Bool
+goes zero late other = false
+goes (suc v) late Nowhere = true
+goes (suc v) late (At k) = eqb late 0
+
+unfoldable pub timeGoes : State → ℕ → Bool
+timeGoes old q = goes (timeWaits old q) (lately old q) (firstWaits old q)
+
+-- the identifier that is sent: the first, where no Time-Code goes
 unfoldable pub chosen : State → ℕ → Found
-chosen old q = firstFrom (bitOr (waiting old 0 q) (waiting old 1 q)) (next old q)
+chosen old q = cond (timeGoes old q) Nowhere (firstWaits old q)
 
 -- the word where no byte is sent
 abbrev pub nothing : ℕ
@@ -72,8 +88,9 @@ unfoldable pub sentWord : ℕ → Found → ℕ
 sentWord interrupts (At k) = cond (eqb (bit interrupts k) 1) (byteOf 0 k) (byteOf 1 k)
 sentWord interrupts Nowhere = nothing
 
+-- a Time-Code's byte is its value, of six bits
 unfoldable pub sends : State → ℕ → ℕ
-sends old q = sentWord (waiting old 0 q) (chosen old q)
+sends old q = cond (timeGoes old q) ((timeWaits old q - 1) % 64) (sentWord (waiting old 0 q) (chosen old q))
 
 -- it leaves its set, and next moves behind it; no identifier waits as both kinds, so to leave both sets is to leave its own
 unfoldable pub unqueued : State → ℕ → State → State
@@ -82,6 +99,18 @@ unqueued old q s =
       | At k ↦ put (put (put s (portAt q 0) (leave (waiting s 0 q) k)) (portAt q 1) (leave (waiting s 1 q) k)) (portAt q nextAt) (following (next old q) (At k))
       | Nowhere ↦ s
     ]
+
+-- the port's word of Time-Codes: one went, and waits no more; another code went; or nothing did
+unfoldable pub stamped : Bool → Found → ℕ → State → State
+stamped goes other q s =
+    cond goes (put s (timeAt q) 128)
+    (elim other [
+      | At k ↦ put s (timeAt q) (timeWaits s q)
+      | Nowhere ↦ s
+    ])
+
+abbrev pub posts : State → ℕ → State → State
+posts old q s = stamped (timeGoes old q) (chosen old q) q (unqueued old q s)
 
 -- ---- 3. codes arrive, and each device reacts
 
@@ -96,14 +125,14 @@ timed load d (Reserved top low) s = s
 unfoldable pub forwarded : List ℕ → ℕ → Code → State → State
 forwarded permissions q (Interrupt k) s = queueAllAt permissions 0 k (q / 8) q s
 forwarded permissions q (Acknowledge k) s = queueAllAt permissions 1 k (q / 8) q s
-forwarded permissions q (Time v) s = s
+forwarded permissions q (Time v) s = queueTimeAll v (q / 8) q s
 forwarded permissions q (Reserved top low) s = s
 
 -- what a host is told of a code
 unfoldable pub tells : ℕ → Code → List ℕ
 tells d (Interrupt k) = toldWord ofInterrupt d k ∷ []
 tells d (Acknowledge k) = toldWord ofAcknowledge d k ∷ []
-tells d (Time v) = []
+tells d (Time v) = toldWord ofTime d v ∷ []
 tells d (Reserved top low) = []
 
 -- port q's side of a reaction
@@ -122,8 +151,8 @@ module _ (load : ℕ → ℕ) (permissions : List ℕ) (q : ℕ) where
   -- a byte arrives at port q, and its device reacts
   unfoldable pub arrived : Bool → ℕ → World → World
   arrived isRouter byte w =
-      let r = reacts (sideAt isRouter permissions q (w .state)) (register (w .state) (q / 8)) byte in
-      acted (r .action) (record { state = put (w .state) (registerAt (q / 8)) (r .register); told = w .told })
+      let r = reacts (sideAt isRouter permissions q (w .state)) (register (w .state) (q / 8)) (counter (w .state) (q / 8)) byte in
+      acted (r .action) (record { state = put (put (w .state) (counterAt (q / 8)) (r .counter)) (registerAt (q / 8)) (r .register); told = w .told })
 
 -- ---- the round of a plan
 
@@ -149,7 +178,7 @@ module _ (plan : Plan) where
   sentBytes old = table sentWords (λ q. cond (ltb q (8 * devices plan)) (sends old q) nothing)
 
   unfoldable pub posted : State → State → State
-  posted old s = upTo (unqueued old) (8 * devices plan) s
+  posted old s = upTo (posts old) (8 * devices plan) s
 
   -- what the far end sent arrives at port q
   unfoldable pub arrives : List ℕ → ℕ → World → World

@@ -7,7 +7,7 @@ use Rattle.answers.specs.Ordered.{Condition, ask, Ordered}
 use Rattle.lists.specs.Loop.{upTo}
 use Rattle.lists.specs.Table.{table}
 use Rattle.plan.specs.declared.Plan.{Plan}
-use Rattle.state.specs.State.{State, words, waiting}
+use Rattle.state.specs.State.{State, words, waiting, timeWaits}
 use Rattle.state.specs.Sound.{stateAsks}
 use Rattle.bench.specs.Round.{round}
 
@@ -15,9 +15,9 @@ use Rattle.bench.specs.Round.{round}
 abbrev pub rounds : Plan → ℕ → State → State
 rounds plan n s = upTo (λ i t. round plan t .next) n s
 
--- no port waits
+-- no port waits: neither interrupts and acknowledges, nor Time-Codes
 unfoldable pub Quiet : State → Type 0
-Quiet s = (q kind : ℕ) → q < 256 → kind < 2 → waiting s kind q ≡ 0
+Quiet s = ((q kind : ℕ) → q < 256 → kind < 2 → waiting s kind q ≡ 0) × ((q : ℕ) → q < 256 → timeWaits s q ≡ 0)
 
 -- n is the least number of rounds after which no port waits
 pub record Least (plan : Plan) (s : State) (n : ℕ) : Type 0 where

@@ -8,6 +8,7 @@ pub use calls::acknowledge;
 pub use calls::link;
 pub use calls::request;
 pub use calls::reset;
+pub use calls::tick;
 pub use rounds::round;
 pub use settling::settle;
 pub use state::WORDS;

@@ -9,7 +9,7 @@ ghost use Rattle.lists.specs.Loop.{upTo};
 ghost use Rattle.plan.specs.declared.Plan.{Plan};
 ghost use Rattle.state.specs.State.{words};
 ghost use Rattle.state.specs.Network.{loadFor};
-ghost use Rattle.bench.specs.Round.{toldWord, nothing, sentWords, tick, chosen, sends, unqueued, timed, forwarded, tells, acted, arrived, sentBytes, posted, reached, areas};
+ghost use Rattle.bench.specs.Round.{toldWord, nothing, sentWords, tick, firstWaits, goes, sends, posts, timed, forwarded, tells, acted, arrived, sentBytes, posted, reached, areas};
 ghost use Rattle.bench.specs.RoundCall.{Plays};
 ghost use Rattle.bench.specs.inner.Idle.{Rests, Blank, Laid, Idles, Copies, Silent};
 ghost use Rattle.bench.specs.inner.Shown.{Notes, seen, Follows, Played};
@@ -24,12 +24,15 @@ use device::Side;
 use plan::Core;
 use plan::Plan;
 use state::ACKNOWLEDGES;
+use state::COUNTERS;
 use state::DEVICE;
 use state::INTERRUPTS;
+use state::LATELY;
 use state::NEXT;
 use state::PORT;
 use state::PORTS;
 use state::RUNNING;
+use state::TIMES;
 use state::WORDS;
 
 // What a host is told of.
@@ -39,9 +42,11 @@ const OF_ACKNOWLEDGE: u32 = 2;
 
 const OF_TIMEOUT: u32 = 3;
 
+const OF_TIME: u32 = 4;
+
 // A word told to the host of device d.
 fn told_word(kind: u32, d: usize, k: u32) -> u32
-    requires { ⌜ (kind < 4) × (d < 32) × (k < 256) ⌝ }
+    requires { ⌜ (kind < 5) × (d < 32) × (k < 256) ⌝ }
     ensures { λ r. ⌜ r ≡ toldWord kind d k ⌝ }
 {
     65536 * kind + 256 * d as u32 + k
@@ -50,7 +55,7 @@ fn told_word(kind: u32, d: usize, k: u32) -> u32
 // It is told, where there is room for it. It counts all the same, so that a caller who reads no words
 // lends no room.
 fn tell(told: &mut [u32], count: usize, kind: u32, d: usize, k: u32) -> usize
-    requires { ⌜ (count < 4096) × (kind < 4) × (d < 32) × (k < 256) ⌝ }
+    requires { ⌜ (count < 4096) × (kind < 5) × (d < 32) × (k < 256) ⌝ }
     ensures { λ r. ⌜ Notes (toldWord kind d k ∷ []) (now (told .entry)) count (now (told .exit)) r × (r ≡ count + 1) ⌝ }
 {
     let word = told_word(kind, d, k);
@@ -125,7 +130,7 @@ fn tick_all(n: usize, role: &[u8; 32], state: &mut [u32], told: &mut [u32]) -> u
 // The first identifier that waits at port q, at or after next.
 fn choice(q: usize, old: &[u32]) -> Found
     requires { ⌜ (length (now old) ≡ words) × (q < 256) ⌝ }
-    ensures { λ r. ⌜ r ≡ chosen (now (old .entry)) q ⌝ }
+    ensures { λ r. ⌜ r ≡ firstWaits (now (old .entry)) q ⌝ }
 {
     let at = PORTS + PORT * q;
     bits::first(
@@ -139,19 +144,40 @@ const FIRST: u32 = codes::INTERRUPTS as u32;
 
 const APART: u32 = codes::ACKNOWLEDGES as u32 - FIRST;
 
-// What port q sends, chosen from the old state; in the next one it leaves its set, and next moves.
+// Does a Time-Code go, by the port's word and by what else waits? It goes first, but after one
+// another code has its turn, if any waits.
+fn time_goes(time: u32, other: Found) -> bool
+    ensures { λ r. ⌜ r ≡ goes (time % 128) (time / 128 % 2) other ⌝ }
+{
+    if time % LATELY == 0 {
+        return false;
+    }
+    let Found::At(_) = other else {
+        return true;
+    };
+    time / LATELY % 2 == 0
+}
+
+// What port q sends, chosen from the old state; in the next one it waits no more, and next moves
+// where it was no Time-Code.
 fn post_one(q: usize, old: &[u32], next: &mut [u32]) -> u32
     requires { ⌜ (length (now old) ≡ words) × (length (now next) ≡ words) × (q < 256) ⌝ }
-    ensures { λ r. ⌜ (r ≡ sends (now (old .entry)) q) × (now (next .exit) ≡ unqueued (now (old .entry)) q (now (next .entry))) ⌝ }
+    ensures { λ r. ⌜ (r ≡ sends (now (old .entry)) q) × (now (next .exit) ≡ posts (now (old .entry)) q (now (next .entry))) ⌝ }
 {
     let at = PORTS + PORT * q;
     let found = choice(q, old);
+    let time = old[TIMES + q];
+    if time_goes(time, found) {
+        next[TIMES + q] = LATELY;
+        return (time % LATELY - 1) % 64;
+    }
     let Found::At(k) = found else {
         return NOTHING;
     };
     next[at + INTERRUPTS] = bits::leave(next[at + INTERRUPTS], k);
     next[at + ACKNOWLEDGES] = bits::leave(next[at + ACKNOWLEDGES], k);
     next[at + NEXT] = (k + 1) % 32;
+    next[TIMES + q] = next[TIMES + q] % LATELY;
     // The kind is counted: of two kinds as likely a branch would guess wrong half the time.
     let kind = 1 - bits::get(old[at + INTERRUPTS], k);
     FIRST + APART * kind + k
@@ -196,7 +222,7 @@ fn forward(code: Code, permissions: &[u8; 256], q: usize, state: &mut [u32])
     match code {
         Code::Interrupt(k) => state::queue_all(state, permissions, q / 8, q, 0, k as u32),
         Code::Acknowledge(k) => state::queue_all(state, permissions, q / 8, q, 1, k as u32),
-        Code::Time(_) => {}
+        Code::Time(v) => state::queue_time(state, q / 8, q, v),
         Code::Reserved(_, _) => {}
     }
 }
@@ -209,7 +235,7 @@ fn inform(code: Code, d: usize, told: &mut [u32], count: usize) -> usize
     match code {
         Code::Interrupt(k) => tell(told, count, OF_INTERRUPT, d, k as u32),
         Code::Acknowledge(k) => tell(told, count, OF_ACKNOWLEDGE, d, k as u32),
-        Code::Time(_) => count,
+        Code::Time(v) => tell(told, count, OF_TIME, d, v as u32),
         Code::Reserved(_, _) => count,
     }
 }
@@ -265,7 +291,8 @@ fn arrive_one(
         running: running,
         permissions: areas::word(permissions[q]),
     };
-    let reaction = device::react(side, state[home], byte);
+    let reaction = device::react(side, state[home], state[COUNTERS + q / 8], byte);
+    state[COUNTERS + q / 8] = reaction.counter;
     state[home] = reaction.register;
     let action = reaction.action;
     act(action, loads, role, permissions, q, state, told, count)
@@ -333,13 +360,16 @@ fn copy(from: usize, to: usize, old: &[u32], next: &mut [u32])
     }
 }
 
-// The words of n devices and of their ports. Both areas are 0 elsewhere, so the states are then equal.
+// The words of n devices and of their ports, those of Time-Codes too. Both areas are 0 elsewhere, so
+// the states are then equal.
 fn bring(n: usize, old: &[u32], next: &mut [u32])
     requires { ⌜ (n ≤ 32) × Blank n (now old) × Blank n (now next) ⌝ }
     ensures { λ _. ⌜ now (next .exit) ≡ now (old .entry) ⌝ }
 {
     copy(0, DEVICE * n, old, next);
     copy(PORTS, PORTS + PORT * (8 * n), old, next);
+    copy(COUNTERS, COUNTERS + n, old, next);
+    copy(TIMES, TIMES + 8 * n, old, next);
 }
 
 // The round, with no checks. It copies and looks at the devices that exist, and no more: next is 0

@@ -22,8 +22,10 @@ use plan::Core;
 use plan::Plan;
 use state::ACKNOWLEDGES;
 use state::INTERRUPTS;
+use state::LATELY;
 use state::PORT;
 use state::PORTS;
+use state::TIMES;
 use state::WORDS;
 
 // Does no port wait, where there are n devices?
@@ -37,6 +39,9 @@ fn quiet(n: usize, state: &[u32]) -> bool
             return false;
         }
         if state[at + ACKNOWLEDGES] != 0 {
+            return false;
+        }
+        if state[TIMES + q] % LATELY != 0 {
             return false;
         }
     }

@@ -94,6 +94,17 @@ length-time v q s = by-test (eqb (running s q) 1)
     by-test true = length-put s (timeAt q) _
     by-test false = refl
 
+pub length-time-but : (v d but p : ℕ) (s : State) → length (queueTimeBut v d but p s) ≡ length s
+length-time-but v d but p s = by-test (eqb (8 * d + p) but)
+  where
+    by-test : (t : Bool) → length (cond t s (queueTime v (8 * d + p) s)) ≡ length s
+    by-test true = refl
+    by-test false = length-time v (8 * d + p) s
+
+pub length-times : (v d but : ℕ) (s : State) → length (queueTimeAll v d but s) ≡ length s
+unfolding queueTimeAll
+length-times v d but s = untouched (queueTimeBut v d but) length 8 (λ p t l. length-time-but v d but p t) s
+
 -- every word that is none of a port's Time-Codes
 module _ (i : ℕ) (out : (q : ℕ) → q < 256 → i ≢ timeAt q) where
   queue-time-left : (v q : ℕ) → q < 256 → (s : State) → word (queueTime v q s) i ≡ word s i
@@ -113,13 +124,6 @@ module _ (i : ℕ) (out : (q : ℕ) → q < 256 → i ≢ timeAt q) where
       by-test p t l false = queue-time-left v (8 * d + p) (omega arith) t
 
 -- ---- in any area
-
-pub length-time-but : (v d but p : ℕ) (s : State) → length (queueTimeBut v d but p s) ≡ length s
-length-time-but v d but p s = by-test (eqb (8 * d + p) but)
-  where
-    by-test : (t : Bool) → length (cond t s (queueTime v (8 * d + p) s)) ≡ length s
-    by-test true = refl
-    by-test false = length-time v (8 * d + p) s
 
 pub timed-in : (v d but : ℕ) (s : State) → length s ≡ words → d < 32 → queueTimeIn v d but s ≡ queueTimeAll v d but s
 unfolding queueTimeIn

@@ -6,7 +6,7 @@ use lib.ListN.{length, getD}
 use Rattle.bits.specs.Set.{bit}
 use Rattle.plan.specs.Fields.{nobody}
 use Rattle.plan.specs.declared.Plan.{Plan}
-use Rattle.state.specs.State.{State, words, word, registerAt, portsAt, portWords, register, timer, waiting}
+use Rattle.state.specs.State.{State, words, word, registerAt, portsAt, portsEnd, portWords, register, timer, waiting, counterAt, timeAt, time}
 use Rattle.state.specs.Network.{devices, portsOf, peer}
 use Rattle.bench.specs.Round.{nothing, sentWords}
 
@@ -14,19 +14,24 @@ use Rattle.bench.specs.Round.{nothing, sentWords}
 pub record Rests (s : State) (d : ℕ) : Type 0 where
   pub rests : (k : ℕ) → k < 32 → bit (register s d) k ≡ 0 → timer s d k ≡ 0
 
--- of the eight ports that device d could have it has so many, and nothing waits at the others
+-- of the eight ports that device d could have it has so many, and nothing waits at the others, and no Time-Code was sent there
 pub record Unused (s : State) (d ports : ℕ) : Type 0 where
   pub most : ports ≤ 8
   pub unused : (q kind : ℕ) → 8 * d + ports ≤ q → q < 8 * d + 8 → kind < 2 → waiting s kind q ≡ 0
+  pub untimed : (q : ℕ) → 8 * d + ports ≤ q → q < 8 * d + 8 → time s q ≡ 0
 
 -- where the ports of n devices end
 abbrev pub portsPast : ℕ → ℕ
 portsPast n = portsAt + portWords * (8 * n)
 
+-- behind the ports, word i is none of the counters of n devices, and none of their ports' Time-Codes
+abbrev pub Behind : ℕ → ℕ → Type 0
+Behind n i = (portsEnd ≤ i → counterAt n ≤ i) × (timeAt 0 ≤ i → timeAt (8 * n) ≤ i)
+
 -- there are n devices: the words that are not theirs and not their ports' are 0
 pub record Blank (n : ℕ) (s : State) : Type 0 where
   pub size : length s ≡ words
-  pub blank : (i : ℕ) → registerAt n ≤ i → (portsAt ≤ i → portsPast n ≤ i) → word s i ≡ 0
+  pub blank : (i : ℕ) → registerAt n ≤ i → (portsAt ≤ i → portsPast n ≤ i) → Behind n i → word s i ≡ 0
 
 -- in a state, of the devices of a plan
 pub record Idles (plan : Plan) (s : State) : Type 0 where

@@ -20,7 +20,7 @@ unfolding advanced
 is-advanced d v s t long h e q = q ∙ timed-in v d nobody (put s (counterAt d) v) (length-put s (counterAt d) v ∙ long) h ∙ rw e
 
 same-length : tie.Need-same-length
-same-length c = ?
+same-length c = c .before .before .queue-time .kept .0 ∙ length-set (c .before .before .before .before .before .before .args .state .now) _ _
 
 returns : tie.Need-returns
 unfolding word put

@@ -1,4 +1,5 @@
 use mathlib.Core.Path.{_∙_}
+use native.Mathlib.Omega.{arith}
 use lib.ListN.{length-set}
 use Rattle.state.specs.State.{word, put}
 use Rattle.bench.proofs.Following.{leads}
@@ -8,16 +9,19 @@ use borrow.Author.Needs.{needs}
 use Rattle.bench.proofs.rounds.arrive_one.Statement.{statement}
 use Rattle.bench.proofs.rounds.arrive_one.Tie as tie
 
+slice-write-state-2 : tie.Need-slice-write-state-2
+slice-write-state-2 c = simp length-set (omega arith)
+
 same-length : tie.Need-same-length
-same-length c = c .before .before .before .before .act .kept .1 .1 .1 .1 .1 .0 ∙ length-set (c .before .before .before .before .before .before .before .before .before .before .before .before .before .before .args .state .now) _ _
+same-length c = c .before .before .before .before .act .kept .1 .1 .1 .1 .1 .0 ∙ simp length-set
 
 returns : tie.Need-returns
 unfolding word put
 returns c =
     let b = c .before .before .before .before .before .before .before in
-    let a = b .before .before .before .before .before .before .before .args in (
+    let a = b .before .before .before .before .before .before .before .before .args in (
       leads (λ told. arrived-acts _ (a .permissions .now) (a .q) (a .state .now) (eqb (a .role) 1) (a .byte) (b .react .result) told
-          (rw (b .before .before .word .ensures .0) at (b .react .ensures))) (c .before .before .before .before .act .ensures .0),
+          (rw (b .before .before .before .word .ensures .0) at (b .react .ensures))) (c .before .before .before .before .act .ensures .0),
       c .before .before .before .before .act .ensures .1,
     )
 
@@ -44,9 +48,15 @@ arrive-one-spec =
     word-requires
     (λ c. search needs)
     (λ c. search needs)
+    (λ c. search needs)
+    (λ c. search needs)
+    (λ c. search needs)
     react-requires
     (λ c. search needs)
     (λ c. search needs)
+    (λ c. search needs)
+    (λ c. search needs)
+    slice-write-state-2
     act-requires
     same-length
     (λ c. search needs)

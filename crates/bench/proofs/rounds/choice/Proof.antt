@@ -1,12 +1,12 @@
 use Rattle.state.specs.State.{word}
-use Rattle.bench.proofs.Stepped.{chosen-is}
+use Rattle.bench.proofs.Stepped.{first-is}
 use borrow.Author.Needs.{needs}
 use Rattle.bench.proofs.rounds.choice.Statement.{statement}
 use Rattle.bench.proofs.rounds.choice.Tie as tie
 
 returns : tie.Need-returns
 unfolding word
-returns c = chosen-is _ _ (c .first .ensures)
+returns c = first-is _ _ (c .first .ensures)
 
 first-requires : tie.Need-first-requires
 first-requires c κs = search needs

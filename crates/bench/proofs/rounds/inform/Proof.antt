@@ -15,17 +15,20 @@ returns-2 c = (rw (c .before .before .before .before .before .code2 .given .1) (
 
 returns-3 : tie.Need-returns-3
 unfolding tells
-returns-3 c = (rw (c .enum-told .given .1) note-none, omega arith)
+returns-3 c = (rw (c .before .before .before .before .before .code3 .given .1) (c .before .before .tell3 .ensures .0), omega arith)
 
 returns-4 : tie.Need-returns-4
 unfolding tells
-returns-4 c = (rw (c .enum-told2 .given .1) note-none, omega arith)
+returns-4 c = (rw (c .enum-told .given .1) note-none, omega arith)
 
 tell-requires : tie.Need-tell-requires
 tell-requires c κs = search needs
 
 tell-requires-2 : tie.Need-tell-requires-2
 tell-requires-2 c κs = search needs
+
+tell-requires-3 : tie.Need-tell-requires-3
+tell-requires-3 c κs = search needs
 
 pub inform-spec : {M : Type 1} → statement M
 inform-spec =
@@ -39,9 +42,12 @@ inform-spec =
     tell-requires-2
     (λ c. search needs)
     (λ c. search needs)
+    tell-requires-3
+    (λ c. search needs)
     (λ c. search needs)
     returns
     (λ c. search needs)
     returns-2
+    (λ c. search needs)
     returns-3
     returns-4)

@@ -1,5 +1,6 @@
 -- `bench::rounds::post_all` meets its contract. The invariant: the ports before port q have sent, and those that are lacking have sent nothing. Assumes nothing.
 use mathlib.Core.Path.{_≡_, refl, sym, _∙_}
+use mathlib.Core.Bool.{false}
 use mathlib.Core.List.{List}
 use mathlib.Core.Logic.{dite}
 use Prim.Native.Nat.{ℕ, _+_, _-_, _*_, _/_, _≤_, _<_}
@@ -12,11 +13,11 @@ use Rattle.lists.proofs.Loops.{After, none, turn, done, still}
 use Rattle.lists.proofs.Tables.{is-table}
 use Rattle.bits.specs.declared.Found.the-variants.{Nowhere}
 use Rattle.plan.specs.declared.Plan.{Plan}
-use Rattle.state.specs.State.{State, words, waiting}
+use Rattle.state.specs.State.{State, words, waiting, time}
 use Rattle.state.specs.Network.{devices, portsOf}
-use Rattle.bench.specs.Round.{nothing, sentWords, chosen, sends, unqueued, sentBytes, posted}
+use Rattle.bench.specs.Round.{nothing, sentWords, timeGoes, chosen, sends, posts, sentBytes, posted}
 use Rattle.bench.specs.inner.Idle.{Silent}
-use Rattle.bench.proofs.Stepped.{chosen-none, post-nothing, post-same}
+use Rattle.bench.proofs.Stepped.{goes-not, chosen-none, post-nothing, post-same}
 use borrow.Author.Needs.{needs}
 use Rattle.bench.proofs.rounds.post_all.Statement.{statement}
 use Rattle.bench.proofs.rounds.post_all.Tie as tie
@@ -27,7 +28,7 @@ Lacking plan j = j < 8 * devices plan → 8 * (j / 8) + portsOf plan (j / 8) ≤
 
 -- the ports before q have sent: what waited there has left, and their bytes stand in front
 record Posted (plan : Plan) (old next₀ : State) (q : ℕ) (next : State) (sent : List ℕ) : Type 0 where
-  after : After (unqueued old) (8 * devices plan) q next₀ next
+  after : After (posts old) (8 * devices plan) q next₀ next
   long : length next ≡ words
   room : length sent ≡ sentWords
   front : (j : ℕ) → j < q → getD sent j nothing ≡ sends old j
@@ -38,7 +39,7 @@ begun plan old next sent l x =
     record { after = none; long = l; room = x .size; front = λ j h. absurd (omega arith); rest = λ j a b h. x .unsent j b h }
 
 module _ {plan : Plan} {old next₀ : State} {q : ℕ} {next : State} {sent : List ℕ} (few : devices plan ≤ 32) (v : Posted plan old next₀ q next sent) where
-  again : q < 8 * devices plan → {byte : ℕ} → byte ≡ sends old q → {t : State} → t ≡ unqueued old q next → length t ≡ length next
+  again : q < 8 * devices plan → {byte : ℕ} → byte ≡ sends old q → {t : State} → t ≡ posts old q next → length t ≡ length next
       → Posted plan old next₀ (q + 1) t (set sent q byte)
   again h {byte} p e l =
       record {
@@ -53,16 +54,17 @@ module _ {plan : Plan} {old next₀ : State} {q : ℕ} {next : State} {sent : Li
       }
 
   -- at the ports up to e nothing waits, since they are lacking
-  skip : {e : ℕ} → q ≤ e → e ≤ 8 * devices plan → ((j kind : ℕ) → q ≤ j → j < e → kind < 2 → waiting old kind j ≡ 0) → ((j : ℕ) → q ≤ j → j < e → Lacking plan j)
-      → Posted plan old next₀ e next sent
-  skip {e} l h w lacks =
+  skip : {e : ℕ} → q ≤ e → e ≤ 8 * devices plan → ((j kind : ℕ) → q ≤ j → j < e → kind < 2 → waiting old kind j ≡ 0) → ((j : ℕ) → q ≤ j → j < e → time old j ≡ 0)
+      → ((j : ℕ) → q ≤ j → j < e → Lacking plan j) → Posted plan old next₀ e next sent
+  skip {e} l h w x lacks =
       let nowhere : (j : ℕ) → q ≤ j → j < e → chosen old j ≡ Nowhere = λ j a b. chosen-none old j (λ kind k. w j kind a b k) in
+      let no-time : (j : ℕ) → q ≤ j → j < e → timeGoes old j ≡ false = λ j a b. goes-not old j (rw (x j a b)) in
       record {
-        after = still (unqueued old) (v .after) l h (λ j a b. post-same old j next (nowhere j a b));
+        after = still (posts old) (v .after) l h (λ j a b. post-same old j (no-time j a b) (nowhere j a b) next);
         long = v .long;
         room = v .room;
         front = λ j m. dite (decLt j q) (v .front j)
-            (λ n. v .rest j (omega arith) (omega arith) (lacks j (omega arith) m) ∙ sym (post-nothing old j (nowhere j (omega arith) m)));
+            (λ n. v .rest j (omega arith) (omega arith) (lacks j (omega arith) m) ∙ sym (post-nothing old j (no-time j (omega arith) m) (nowhere j (omega arith) m)));
         rest = λ j a b m. v .rest j (omega arith) b m;
       }
 
@@ -141,7 +143,7 @@ loop-again c =
     let o = l .before .before .before in
     let s = o .before .before .before .before in
     let u = s .pre .1 .unused (o .loop .d) (omega (arith, o .loop .inv .2)) in (
-      skip (s .pre .0 .few) (l .loop2 .inv .0 _ (o .loop .inv .0)) (omega (arith, u .most)) (omega arith) (λ j kind a b. u .unused j kind (omega arith) (omega arith))
+      skip (s .pre .0 .few) (l .loop2 .inv .0 _ (o .loop .inv .0)) (omega (arith, u .most)) (omega arith) (λ j kind a b. u .unused j kind (omega arith) (omega arith)) (λ j a b. u .untimed j (omega arith) (omega arith))
           (λ j a b _. let device : j / 8 ≡ o .loop .d = omega (arith, u .most) in rw device (omega arith)),
       omega arith,
       o .loop .inv .2,

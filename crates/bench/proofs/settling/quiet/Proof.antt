@@ -35,10 +35,19 @@ loop-less c = omega arith
 
 loop-again : tie.Need-loop-again Inv-loop μ-loop
 unfolding word
-loop-again c = (omega arith, c .before .before .before .before .before .loop .inv .1, below-more _ _ (c .before .before .before .before .before .loop .inv .2) (c .before .before .if1 .left, c .if2 .left))
+loop-again c =
+    let l = c .before .before .before .before .before .before .before .loop in
+    (omega arith, l .inv .1, below-more _ _ (l .inv .2) (c .before .before .before .before .if1 .left, c .before .before .if2 .left, c .if3 .left))
 
 returns-3 : tie.Need-returns-3 Inv-loop μ-loop
+unfolding word
 returns-3 c =
+    let p = c .before .before .before .before .before .before .before .before .pre in
+    let l = c .before .before .before .before .before .before .before .loop in
+    one-waits (p .0) (p .1) (l .q) (omega (arith, l .inv .1)) (λ h. c .if3 .taken (h .2))
+
+returns-4 : tie.Need-returns-4 Inv-loop μ-loop
+returns-4 c =
     let p = c .before .before .pre in none-waits (p .0) (p .1) (λ q l. c .before .loop .inv .2 q (omega (arith, c .before .loop .inv .1)))
 
 pub quiet-spec : {M : Type 1} → statement M
@@ -60,6 +69,10 @@ quiet-spec =
     (λ c. search needs)
     returns-2
     (λ c. search needs)
+    (λ c. search needs)
+    (λ c. search needs)
+    returns-3
+    (λ c. search needs)
     loop-less
     loop-again
-    returns-3)
+    returns-4)
