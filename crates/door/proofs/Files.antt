@@ -21,7 +21,7 @@ use Rattle.plan.proofs.Good.{refusal-numbered}
 use Rattle.plan.proofs.BothWays.{read-held}
 use Rattle.state.specs.State.{State}
 use Rattle.state.specs.Start.{startAsks, Starts}
-use Rattle.calls.specs.Calls.{deviceAsks, callAsks, linkAsks, Takes, Links, Resets}
+use Rattle.calls.specs.Calls.{deviceAsks, callAsks, linkAsks, tickAsks, Takes, Ticks, Links, Resets}
 use Rattle.bench.specs.Round.{Areas}
 use Rattle.bench.specs.RoundCall.{roundAsks, Plays}
 use Rattle.bench.specs.Settling.{pair, settleAsks}
@@ -98,6 +98,9 @@ module _ (file : List ℕ) (bytes : (i : ℕ) → getD file i 0 < 256) where
 
       pub link-tells : (port : ℕ) (runs : Bool) → Changes file (λ p. Links p device port runs) before n after → Tells file n
       link-tells port runs = tells (drop 1 (linkAsks plan runs device port before)) refl (λ p. Links p device port runs before n after) n (λ o. o .answers)
+
+      pub tick-tells : Changes file (λ p. Ticks p device) before n after → Tells file n
+      tick-tells = tells (drop 1 (tickAsks plan device before)) refl (λ p. Ticks p device before n after) n (λ o. o .answers)
 
       pub reset-tells : Changes file (λ p. Resets p device) before n after → Tells file n
       reset-tells = tells (drop 1 (deviceAsks plan device before)) refl (λ p. Resets p device before n after) n (λ o. o .answers)

@@ -8,6 +8,6 @@ use Rattle.device.specs.declared.Side.{Side}
 use Rattle.device.proofs.Reactions.{hands-on}
 use Rattle.door.specs.Numbers.{Reacts}
 
-pub as-read : (side : Side) (register byte action after kind top value : ℕ) → Reacts (reacts side register byte) action after kind top value
+pub as-read : (side : Side) (register counter byte action after count kind top value : ℕ) → Reacts (reacts side register counter byte) action after count kind top value
     → Says (reads byte) kind top value
-as-read side register byte action after kind top value r = subst (λ code. Says code kind top value) (hands-on side register byte) (r .2)
+as-read side register counter byte action after count kind top value r = subst (λ code. Says code kind top value) (hands-on side register counter byte) (r .3)

@@ -16,8 +16,8 @@ use Rattle.plan.specs.declared.Plan.{Plan}
 use Rattle.state.specs.State.{State}
 use Rattle.state.specs.Start.{Starts}
 use Rattle.state.proofs.Unique.{start-unique}
-use Rattle.calls.specs.Calls.{Takes, Links, Resets}
-use Rattle.calls.proofs.Unique.{Once, call-unique, link-unique, reset-unique}
+use Rattle.calls.specs.Calls.{Takes, Ticks, Links, Resets}
+use Rattle.calls.proofs.Unique.{Once, call-unique, tick-unique, link-unique, reset-unique}
 use Rattle.bench.specs.Round.{Areas}
 use Rattle.bench.specs.RoundCall.{Plays}
 use Rattle.bench.specs.Settling.{Pair, pair}
@@ -44,14 +44,14 @@ pub bench-for-header-code-write-unique : (kind value r s v w : ℕ) → ((top : 
 bench-for-header-code-write-unique kind value r s v w p q =
     let e = p 0 ∙ sym (q 0) in (ap (λ (a : Answer). a .number) e, ap (λ (a : Answer). a .value) e)
 
-module _ (role running permissions register byte : ℕ) where
+module _ (role running permissions register counter byte : ℕ) where
   abbrev reaction : Reaction
-  reaction = reacts (sideOf role running permissions) register byte
+  reaction = reacts (sideOf role running permissions) register counter byte
 
-  pub bench-for-header-react-2-unique : (r s b c k l t u v w : ℕ) → Reacts reaction r b k t v → Reacts reaction s c l u w
-      → (r ≡ s) × (b ≡ c) × ((k ≡ l) × (t ≡ u) × (v ≡ w))
-  bench-for-header-react-2-unique r s b c k l t u v w p q =
-      (p .0 ∙ sym (q .0), p .1 ∙ sym (q .1), says-once (codeIn (reaction .action)) (p .2) (q .2))
+  pub bench-for-header-react-3-unique : (r s b c x y k l t u v w : ℕ) → Reacts reaction r b x k t v → Reacts reaction s c y l u w
+      → (r ≡ s) × (b ≡ c) × (x ≡ y) × ((k ≡ l) × (t ≡ u) × (v ≡ w))
+  bench-for-header-react-3-unique r s b c x y k l t u v w p q =
+      (p .0 ∙ sym (q .0), p .1 ∙ sym (q .1), p .2 ∙ sym (q .2), says-once (codeIn (reaction .action)) (p .3) (q .3))
 
 -- ---- the calls over a file
 
@@ -95,6 +95,9 @@ module _ (file : List ℕ) where
     pub bench-for-header-link-unique : (port running : ℕ) → Once (Changes file (λ plan. Links plan device port (nonzero running)))
     bench-for-header-link-unique port running =
         changes-once (λ plan. Links plan device port (nonzero running)) (link-unique (planOf file) device port (nonzero running))
+
+    pub bench-for-header-tick-unique : Once (Changes file (λ plan. Ticks plan device))
+    bench-for-header-tick-unique = changes-once (λ plan. Ticks plan device) (tick-unique (planOf file) device)
 
     pub bench-for-header-reset-unique : Once (Changes file (λ plan. Resets plan device))
     bench-for-header-reset-unique = changes-once (λ plan. Resets plan device) (reset-unique (planOf file) device)

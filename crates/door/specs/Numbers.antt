@@ -16,7 +16,7 @@ nonzero n = not (eqb n 0)
 abbrev pub sideOf : ℕ → ℕ → ℕ → Side
 sideOf role running permissions = record { router = nonzero role; running = nonzero running; permissions = permissions }
 
--- numbers for what is done, for the register afterwards, and for the code that is handed on
-abbrev pub Reacts : Reaction → ℕ → ℕ → ℕ → ℕ → ℕ → Type 0
-Reacts reaction action register kind top value =
-    (action ≡ actionOf (reaction .action)) × (register ≡ reaction .register) × Says (codeIn (reaction .action)) kind top value
+-- numbers for what is done, for the register and the counter afterwards, and for the code that is handed on
+abbrev pub Reacts : Reaction → ℕ → ℕ → ℕ → ℕ → ℕ → ℕ → Type 0
+Reacts reaction action register counter kind top value =
+    (action ≡ actionOf (reaction .action)) × (register ≡ reaction .register) × (counter ≡ reaction .counter) × Says (codeIn (reaction .action)) kind top value

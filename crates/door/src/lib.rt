@@ -11,7 +11,7 @@ ghost use Rattle.codes.specs.Numbers.{kindOf, topOf, valueOf, Says, codeOf};
 ghost use Rattle.device.specs.Reaction.{reacts, actionOf, codeIn};
 ghost use Rattle.plan.specs.Refusals.{verdict};
 ghost use Rattle.state.specs.Start.{Starts};
-ghost use Rattle.calls.specs.Calls.{Takes, Links, Resets};
+ghost use Rattle.calls.specs.Calls.{Takes, Ticks, Links, Resets};
 ghost use Rattle.bench.specs.RoundCall.{Plays};
 ghost use Rattle.bench.specs.Round.{areas};
 ghost use Rattle.reach.specs.Reach.{Reaches};
@@ -125,27 +125,30 @@ pub extern "C" fn bench_for_header_code_write(kind: u32, value: u32, byte: &mut 
     0
 }
 
-// What a device does with a byte that arrives, and the code that it hands on; its register is updated.
+// What a device does with a byte that arrives, and the code that it hands on; its register and its
+// counter are updated.
 #[no_mangle]
-pub extern "C" fn bench_for_header_react_2(
+pub extern "C" fn bench_for_header_react_3(
     role: u32,
     running: u32,
     permissions: u32,
     bits: &mut u32,
+    counter: &mut u32,
     byte: u8,
     kind: &mut u32,
     top: &mut u32,
     value: &mut u32,
 ) -> u32
-    ensures { λ r. ⌜ Reacts (reacts (sideOf role running permissions) (now (bits .entry)) byte) r (now (bits .exit)) (now (kind .exit)) (now (top .exit)) (now (value .exit)) ⌝ }
+    ensures { λ r. ⌜ Reacts (reacts (sideOf role running permissions) (now (bits .entry)) (now (counter .entry)) byte) r (now (bits .exit)) (now (counter .exit)) (now (kind .exit)) (now (top .exit)) (now (value .exit)) ⌝ }
 {
     let side = Side {
         router: role != 0,
         running: running != 0,
         permissions: permissions,
     };
-    let reaction = device::react(side, *bits, byte);
+    let reaction = device::react(side, *bits, *counter, byte);
     *bits = reaction.register;
+    *counter = reaction.counter;
     let action = reaction.action;
     let code = code_in(action);
     *kind = kind_of(code);
@@ -227,6 +230,17 @@ pub extern "C" fn bench_for_header_link(
         return read.number;
     }
     bench::link(read.plan, state, device, port, running != 0)
+}
+
+#[no_mangle]
+pub extern "C" fn bench_for_header_tick(plan: &[u8], state: &mut [u32], device: usize) -> u32
+    ensures { λ r. ⌜ Changes (now (plan .entry)) (λ p. Ticks p device) (now (state .entry)) r (now (state .exit)) ⌝ }
+{
+    let read = planfile::read(plan);
+    if read.number != 0 {
+        return read.number;
+    }
+    bench::tick(read.plan, state, device)
 }
 
 #[no_mangle]
