@@ -48,20 +48,20 @@ module _ (file : List ℕ) (read : Read) (e : read ≡ reads file) where
 
 -- ---- which numbers a call answers
 
--- conditions that have numbers of 2 to 12
+-- conditions whose numbers are above 1, and below those of files
 abbrev between : List Condition → Bool
 between [] = true
-between (c ∷ cs) = ltb 1 (c .number) && leb (c .number) 12 && between cs
+between (c ∷ cs) = ltb 1 (c .number) && leb (c .number) 19 && between cs
 
-answered : (cs : List Condition) → between cs ≡ true → (n : ℕ) → Ordered cs n → (n ≡ 1 → ⊥) × (n ≤ 12)
+answered : (cs : List Condition) → between cs ≡ true → (n : ℕ) → Ordered cs n → (n ≡ 1 → ⊥) × (n ≤ 19)
 answered [] e n o = (λ z. omega arith, omega arith)
 answered (c ∷ cs) e n (inl p) =
-    let first = and-left (ltb 1 (c .number) && leb (c .number) 12) (between cs) e in
-    let above = ltb-true 1 (c .number) (and-left (ltb 1 (c .number)) (leb (c .number) 12) first) in
-    let below = leb-true (c .number) 12 (and-right (ltb 1 (c .number)) (leb (c .number) 12) first) in
+    let first = and-left (ltb 1 (c .number) && leb (c .number) 19) (between cs) e in
+    let above = ltb-true 1 (c .number) (and-left (ltb 1 (c .number)) (leb (c .number) 19) first) in
+    let below = leb-true (c .number) 19 (and-right (ltb 1 (c .number)) (leb (c .number) 19) first) in
     let same = p .1 in
     (λ z. omega arith, omega arith)
-answered (c ∷ cs) e n (inr p) = answered cs (and-right (ltb 1 (c .number) && leb (c .number) 12) (between cs) e) n (p .1)
+answered (c ∷ cs) e n (inr p) = answered cs (and-right (ltb 1 (c .number) && leb (c .number) 19) (between cs) e) n (p .1)
 
 -- a number that tells a refused file from a refused call
 pub record Tells (file : List ℕ) (n : ℕ) : Type 0 where
