@@ -76,7 +76,7 @@ module _ (file : List ℕ) (bytes : (i : ℕ) → getD file i 0 < 256) where
     tells : {kept : Type 0} → (call (planOf file) → Ordered (ask 1 (Held (planOf file)) ∷ asks) n) → OnFile file call n kept → Tells file n
     tells answers promise = record { refused = refused; only = λ r z. omega (arith, next z .1, r); not-one = not-one }
       where
-        next : verdict file .number ≡ 0 → (n ≡ 1 → ⊥) × (n ≤ 12)
+        next : verdict file .number ≡ 0 → (n ≡ 1 → ⊥) × (n ≤ 19)
         next z = elim (answers (promise .accepted z)) [ inl p ↦ absurd (p .0 (read-held file bytes z)) | inr p ↦ answered asks few n (p .1) ]
 
         refused : (verdict file .number ≡ 0 → ⊥) → Refusal n
