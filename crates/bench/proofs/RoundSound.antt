@@ -76,6 +76,11 @@ counts new hands v q w =
 abbrev pub isNew : ℕ → ℕ → World → Bool
 isNew v q w = eqb v (nextTime (counter (w .state) (q / 8)))
 
+-- where only the counter is new, the register is put back as it was
+pub counter-only : (s : State) (d v : ℕ) → d < 32 → put (put s (counterAt d) v) (registerAt d) (register s d) ≡ put s (counterAt d) v
+counter-only s d v h =
+    ap (put (put s (counterAt d) v) (registerAt d)) (sym (word-other s (counterAt d) v (registerAt d) (omega arith))) ∙ put-word (put s (counterAt d) v) (registerAt d)
+
 -- a code comes that the port is open to, and the device takes it in, and hands it on if it is a router; or a Time-Code comes; or neither does, and
 -- nothing changes. What is so in these cases is so of what arrives
 module _ (plan : Plan) (sent : List ℕ) (q : ℕ) (small : q / 8 < 32) (w : World) (P : World → Type 0)
@@ -129,11 +134,7 @@ module _ (plan : Plan) (sent : List ℕ) (q : ℕ) (small : q / 8 < 32) (w : Wor
   time-taken : (v : ℕ) (new hands : Bool) → P (counts new hands v q w)
       → P (after plan q w (record { register = bits; counter = v; action = cond new (cond hands (Forwarded (Time v)) (Told (Time v))) (Named (Time v)) }))
   unfolding acted timed forwarded tells
-  time-taken v new hands p =
-      let same : put (put (w .state) (counterAt (q / 8)) v) (registerAt (q / 8)) bits ≡ put (w .state) (counterAt (q / 8)) v =
-      ap (put (put (w .state) (counterAt (q / 8)) v) (registerAt (q / 8))) (sym (word-other (w .state) (counterAt (q / 8)) v (registerAt (q / 8)) (omega arith)))
-      ∙ put-word (put (w .state) (counterAt (q / 8)) v) (registerAt (q / 8)) in
-      by-tests new hands same p
+  time-taken v new hands p = by-tests new hands (counter-only (w .state) (q / 8) v small) p
     where
       by-tests : (n h : Bool) → put (put (w .state) (counterAt (q / 8)) v) (registerAt (q / 8)) bits ≡ put (w .state) (counterAt (q / 8)) v → P (counts n h v q w)
           → P (after plan q w (record { register = bits; counter = v; action = cond n (cond h (Forwarded (Time v)) (Told (Time v))) (Named (Time v)) }))

@@ -12,18 +12,26 @@ use Rattle.device.specs.Reaction.{nextTime}
 use Rattle.plan.specs.Fields.{nobody}
 use Rattle.plan.specs.Reading.{Held}
 use Rattle.plan.specs.declared.Plan.{Plan}
-use Rattle.state.specs.State.{State, portAt, runningAt, counter}
+use Rattle.state.specs.State.{State, word, put, portsEnd, portAt, runningAt, counterAt, counter}
 use Rattle.state.specs.Network.{devices, portsOf, exists, peer}
 use Rattle.state.specs.Sound.{Sound}
 use Rattle.state.specs.Mark.{mark}
+use Rattle.state.proofs.Words.{word-other}
 use Rattle.state.proofs.Plans.{FarEnd, few, port-there, far-end}
 use Rattle.state.proofs.Keeping.{device-step, empty-step, sets-step, flags-step, clock-step}
 use Rattle.state.proofs.Marks.{mark-step}
 use Rattle.state.proofs.Waits.{queue-all-sound}
-use Rattle.state.proofs.Times.{time-step, counter-step, queue-time-sound}
+use Rattle.state.proofs.Times.{time-step, counter-step, queue-time-sound, queue-times-left}
 use Rattle.calls.specs.Calls.{called, cleared, emptied, untimed, drained, advanced, switched, reset}
 use Rattle.calls.proofs.Stopping.{both-drained, both-timeless}
 use Rattle.calls.proofs.Zeros.{cleared-register, cleared-timer, cleared-left, cleared-fits, emptied-left, emptied-port, emptied-flag, emptied-fits, untimed-left, untimed-counter, untimed-word, untimed-fits}
+
+-- a tick changes a counter and what ports have of Time-Codes, and no word in front of these
+pub tick-left : (d : ℕ) → d < 32 → (s : State) (i : ℕ) → i < portsEnd → word (advanced d s) i ≡ word s i
+unfolding advanced
+tick-left d h s i l =
+    let v = nextTime (counter s d) in
+    queue-times-left i (λ q m. omega arith) v d nobody h (put s (counterAt d) v) ∙ word-other s (counterAt d) v i (omega arith)
 
 module _ (plan : Plan) (held : Held plan) where
   -- ---- the register and the timers of a device become 0

@@ -1,7 +1,8 @@
--- A code that is not accepted changes nothing. One that is accepted came by an open port and found its bit ready for it; an interrupt then loads its timer.
+-- A code that is not accepted changes nothing but a counter. One that is accepted came by an open port and found its bit ready for it; an interrupt then loads its timer.
 use mathlib.Core.Path.{_≡_, refl, sym, ap, _∙_}
 use mathlib.Core.Bool.{Bool, true, false, cond, false≢true}
 use mathlib.Core.List.{List}
+use mathlib.Core.Logic.{inl}
 use Prim.Native.Nat.{ℕ, _/_, _<_}
 use native.Mathlib.Omega.{arith}
 use lib.Dec.{ltb}
@@ -11,19 +12,19 @@ use Rattle.bits.specs.Set.{bit}
 use Rattle.codes.specs.Codes.{byteOf, reads}
 use Rattle.codes.specs.declared.Code.{Code}
 use Rattle.codes.specs.declared.Code.the-variants.{Time, Interrupt, Acknowledge, Reserved}
-use Rattle.codes.proofs.BothWays.{Stands, stands, interrupt, acknowledge}
-use Rattle.device.specs.Reaction.{marked, accepted, ruled, reactsTo, reacts}
+use Rattle.codes.proofs.BothWays.{Stands, stands, time, interrupt, acknowledge}
+use Rattle.device.specs.Reaction.{marked, accepted, ruled, counted, reactsTo, reacts}
 use Rattle.device.specs.declared.Action.{Action}
 use Rattle.device.specs.declared.Action.the-variants.{Named, LinkError, Ignored, Forwarded, Told}
 use Rattle.device.specs.declared.Side.{Side}
 use Rattle.device.proofs.Rule.{Accepts, ruled-cases}
 use Rattle.plan.specs.declared.Plan.{Plan}
-use Rattle.state.specs.State.{words, put, registerAt, timerAt, register, timer, running}
+use Rattle.state.specs.State.{words, put, registerAt, timerAt, register, timer, running, counterAt, counter}
 use Rattle.state.specs.Network.{router, peer, loadOf}
-use Rattle.state.proofs.Words.{length-put, word-same, put-word}
+use Rattle.state.proofs.Words.{length-put, word-same, word-other, put-word}
 use Rattle.state.proofs.Waits.{queue-all-left}
 use Rattle.bench.specs.Round.{World, nothing, timed, forwarded, acted, arrived, sideAt, arrives}
-use Rattle.bench.proofs.RoundSound.{after, Opens}
+use Rattle.bench.proofs.RoundSound.{Opens, Beside, beside-same, counter-only}
 use Rattle.laws.specs.Timing.{accepts, action}
 
 -- ---- a reaction that does not accept, and one that does
@@ -33,45 +34,45 @@ unfolding accepts
 by-role true code = refl
 by-role false code = refl
 
-module _ (side : Side) (bits : ℕ) where
-  ruled-left : (kind k : ℕ) (code : Code) → accepts (ruled side bits kind k code .action) ≡ false → ruled side bits kind k code .register ≡ bits
+module _ (side : Side) (bits count : ℕ) where
+  ruled-left : (kind k : ℕ) (code : Code) → accepts (ruled side bits count kind k code .action) ≡ false → ruled side bits count kind k code .register ≡ bits
   ruled-left kind k code =
-      ruled-cases (λ r. accepts (r .action) ≡ false → r .register ≡ bits) side bits kind k code (λ n e. refl) (λ n e. refl)
+      ruled-cases (λ r. accepts (r .action) ≡ false → r .register ≡ bits) side bits count kind k code (λ n e. refl) (λ n e. refl)
       (λ o e. absurd (false≢true (sym e ∙ by-role (side .router) code)))
 
-  bits-left : (code : Code) → accepts (reactsTo side bits code .action) ≡ false → reactsTo side bits code .register ≡ bits
-  unfolding reactsTo
+  bits-left : (code : Code) → accepts (reactsTo side bits count code .action) ≡ false → reactsTo side bits count code .register ≡ bits
+  unfolding reactsTo counted
   bits-left (Time v) e = refl
   bits-left (Reserved top low) e = refl
   bits-left (Interrupt k) e = ruled-left 0 k (Interrupt k) e
   bits-left (Acknowledge k) e = ruled-left 1 k (Acknowledge k) e
 
-  opened-by : (kind k c j : ℕ) → c ≡ kind → j ≡ k → (code : Code) → accepts (ruled side bits c j code .action) ≡ true → Accepts side bits kind k
+  opened-by : (kind k c j : ℕ) → c ≡ kind → j ≡ k → (code : Code) → accepts (ruled side bits count c j code .action) ≡ true → Accepts side bits kind k
   unfolding accepts
   opened-by kind k c j same place code =
       rw (← same, ← place)
-      (ruled-cases (λ r. accepts (r .action) ≡ true → Accepts side bits c j) side bits c j code (λ n x. absurd (false≢true x)) (λ n x. absurd (false≢true x)) (λ y x. y))
+      (ruled-cases (λ r. accepts (r .action) ≡ true → Accepts side bits c j) side bits count c j code (λ n x. absurd (false≢true x)) (λ n x. absurd (false≢true x)) (λ y x. y))
 
   -- a code that is accepted came by an open port, and found its bit as its kind wants it
-  opened : (byte kind k : ℕ) → byte ≡ byteOf kind k → kind < 2 → k < 32 → (code : Code) → Stands byte code → accepts (reactsTo side bits code .action) ≡ true
+  opened : (byte kind k : ℕ) → byte ≡ byteOf kind k → kind < 2 → k < 32 → (code : Code) → Stands byte code → accepts (reactsTo side bits count code .action) ≡ true
       → Accepts side bits kind k
   unfolding reactsTo accepts
-  opened byte kind k e g l (Time v) s a = absurd (false≢true a)
+  opened byte kind k e g l (Time v) (time h) a = absurd (omega arith)
   opened byte kind k e g l (Reserved top low) s a = absurd (false≢true a)
   opened byte kind k e g l (Interrupt j) (interrupt m o) a = opened-by kind k 0 j (omega arith) (omega arith) (Interrupt j) a
   opened byte kind k e g l (Acknowledge j) (acknowledge m o) a = opened-by kind k 1 j (omega arith) (omega arith) (Acknowledge j) a
 
   -- what comes of an interrupt that is accepted
-  taken : (byte k : ℕ) → byte ≡ byteOf 0 k → k < 32 → (code : Code) → Stands byte code → accepts (reactsTo side bits code .action) ≡ true
-      → reactsTo side bits code ≡ accepted side bits 0 k (Interrupt k)
+  taken : (byte k : ℕ) → byte ≡ byteOf 0 k → k < 32 → (code : Code) → Stands byte code → accepts (reactsTo side bits count code .action) ≡ true
+      → reactsTo side bits count code ≡ accepted side bits count 0 k (Interrupt k)
   unfolding reactsTo accepts
-  taken byte k e l (Time v) s a = absurd (false≢true a)
+  taken byte k e l (Time v) (time h) a = absurd (omega arith)
   taken byte k e l (Reserved top low) s a = absurd (false≢true a)
   taken byte k e l (Acknowledge j) (acknowledge m o) a = absurd (omega arith)
   taken byte k e l (Interrupt j) (interrupt m o) a =
       let here : j ≡ k = omega arith in
-      ruled-cases (λ r. accepts (r .action) ≡ true → r ≡ accepted side bits 0 k (Interrupt k)) side bits 0 j (Interrupt j) (λ n x. absurd (false≢true x))
-      (λ n x. absurd (false≢true x)) (λ y x. ap (λ i. accepted side bits 0 i (Interrupt i)) here) a
+      ruled-cases (λ r. accepts (r .action) ≡ true → r ≡ accepted side bits count 0 k (Interrupt k)) side bits count 0 j (Interrupt j) (λ n x. absurd (false≢true x))
+      (λ n x. absurd (false≢true x)) (λ y x. ap (λ i. accepted side bits count 0 i (Interrupt i)) here) a
 
 -- ---- a byte arrives at port q
 
@@ -85,7 +86,10 @@ module _ (plan : Plan) (sent : List ℕ) (q : ℕ) (w : World) where
   abbrev bits : ℕ
   bits = register (w .state) (q / 8)
 
-  -- not accepted, nothing changes
+  abbrev count : ℕ
+  count = counter (w .state) (q / 8)
+
+  -- not accepted, nothing comes of it
   acts-not : (a : Action) (v : World) → accepts a ≡ false → acted (loadOf plan (q / 8)) (plan .core .permissions) q a v ≡ v
   unfolding acted accepts
   acts-not (Forwarded code) v e = absurd (false≢true (sym e))
@@ -94,22 +98,31 @@ module _ (plan : Plan) (sent : List ℕ) (q : ℕ) (w : World) where
   acts-not (LinkError code) v e = refl
   acts-not (Ignored code) v e = refl
 
-  pub arrives-left : accepts (action plan q byte (w .state)) ≡ false → arrives plan sent q w ≡ w
+  -- only the counter may be another
+  counter-beside : (n : ℕ) → q / 8 < 32 → Beside w (record { state = put (put (w .state) (counterAt (q / 8)) n) (registerAt (q / 8)) bits; told = w .told })
+  counter-beside n small =
+      rw (counter-only (w .state) (q / 8) n small)
+      (record {
+        size = length-put (w .state) (counterAt (q / 8)) n;
+        front = λ i h. word-other (w .state) (counterAt (q / 8)) n i (omega arith);
+        told = inl refl;
+      })
+
+  pub arrives-left : q / 8 < 32 → accepts (action plan q byte (w .state)) ≡ false → Beside w (arrives plan sent q w)
   unfolding arrives arrived reacts
-  arrives-left e = by-test (ltb byte nothing)
+  arrives-left small e = by-test (ltb byte nothing)
     where
-      by-test : (t : Bool) → cond t (arrived (loadOf plan (q / 8)) (plan .core .permissions) q (router plan (q / 8)) byte w) w ≡ w
-      by-test false = refl
+      by-test : (t : Bool) → Beside w (cond t (arrived (loadOf plan (q / 8)) (plan .core .permissions) q (router plan (q / 8)) byte w) w)
+      by-test false = beside-same w
       by-test true =
-          acts-not (reacts side bits byte .action) _ e
-          ∙ ap (λ r. record { state = put (w .state) (registerAt (q / 8)) r; told = w .told }) (bits-left side bits (reads byte) e)
-          ∙ ap (λ t. record { state = t; told = w .told }) (put-word (w .state) (registerAt (q / 8)))
+          rw (acts-not (reacts side bits count byte .action) _ e, bits-left side bits count (reads byte) e)
+          (counter-beside (reacts side bits count byte .counter) small)
 
   -- accepted, its port is open and its bit stands ready for it
   pub arrives-opens : (kind k : ℕ) → kind < 2 → k < 32 → byte ≡ byteOf kind k → accepts (action plan q byte (w .state)) ≡ true → Opens plan kind k q (w .state)
   unfolding reacts
   arrives-opens kind k g l e a =
-      let o = opened side bits byte kind k e g l (reads byte) (stands byte) a in
+      let o = opened side bits count byte kind k e g l (reads byte) (stands byte) a in
       record { runs = eqb-true (running (w .state) q) 1 (o .runs); may = o .may; stood = o .stood }
 
   -- an accepted interrupt
@@ -120,12 +133,12 @@ module _ (plan : Plan) (sent : List ℕ) (q : ℕ) (w : World) where
     pub arrives-loads : length (w .state) ≡ words → q / 8 < 32 → timer (arrives plan sent q w .state) (q / 8) k ≡ loadOf plan (q / 8) k
     unfolding arrives arrived reacts acted timed forwarded
     arrives-loads size small =
-        rw (lt-ltb byte nothing (omega arith), taken side bits byte k e l (reads byte) (stands byte) a) (by-side (side .router))
+        rw (lt-ltb byte nothing (omega arith), taken side bits count byte k e l (reads byte) (stands byte) a, put-word (w .state) (counterAt (q / 8))) (by-side (side .router))
       where
         loads : timer (put (put (w .state) (registerAt (q / 8)) (marked 0 bits k)) (timerAt (q / 8) k) (loadOf plan (q / 8) k)) (q / 8) k ≡ loadOf plan (q / 8) k
         loads = word-same _ (timerAt (q / 8) k) (loadOf plan (q / 8) k) (omega (arith, size, length-put (w .state) (registerAt (q / 8)) (marked 0 bits k)))
 
         by-side : (r : Bool)
-            → timer (after plan q w (record { register = marked 0 bits k; action = cond r (Forwarded (Interrupt k)) (Told (Interrupt k)) }) .state) (q / 8) k ≡ loadOf plan (q / 8) k
+            → timer (acted (loadOf plan (q / 8)) (plan .core .permissions) q (cond r (Forwarded (Interrupt k)) (Told (Interrupt k))) (record { state = put (w .state) (registerAt (q / 8)) (marked 0 bits k); told = w .told }) .state) (q / 8) k ≡ loadOf plan (q / 8) k
         by-side true = queue-all-left 0 k (timerAt (q / 8) k) (omega arith) (omega arith) (plan .core .permissions) (q / 8) q small _ ∙ loads
         by-side false = loads

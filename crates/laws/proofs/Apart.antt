@@ -3,7 +3,7 @@ use mathlib.Core.Path.{_≡_, refl, sym, ap, _∙_}
 use mathlib.Core.Bool.{Bool, true, false, cond}
 use mathlib.Core.List.{List, []}
 use mathlib.Core.Logic.{_⊎_, inl, inr, _≢_}
-use Prim.Native.Nat.{ℕ, suc, _+_, _-_, _*_, _/_, _%_, _<_}
+use Prim.Native.Nat.{ℕ, suc, _+_, _-_, _*_, _/_, _%_, _≤_, _<_}
 use native.Mathlib.Decide.{ℕ-discrete}
 use native.Mathlib.Omega.{arith}
 use lib.Dec.{eqb}
@@ -18,7 +18,7 @@ use Rattle.bits.proofs.Sets.{join-same, join-other, leave-same, leave-other}
 use Rattle.codes.specs.Codes.{byteOf, reads}
 use Rattle.codes.specs.declared.Code.{Code}
 use Rattle.codes.specs.declared.Code.the-variants.{Time, Interrupt, Acknowledge, Reserved}
-use Rattle.codes.proofs.BothWays.{Stands, stands, interrupt, acknowledge}
+use Rattle.codes.proofs.BothWays.{Stands, stands, time, interrupt, acknowledge}
 use Rattle.device.specs.Reaction.{marked, accepted, reactsTo, reacts}
 use Rattle.device.specs.declared.Action.the-variants.{Forwarded, Told}
 use Rattle.device.specs.declared.Reaction.{Reaction}
@@ -28,19 +28,19 @@ use Rattle.device.proofs.Reactions.{marked-same, marked-other}
 use Rattle.plan.specs.Fields.{nobody}
 use Rattle.plan.specs.Reading.{Held}
 use Rattle.plan.specs.declared.Plan.{Plan}
-use Rattle.state.specs.State.{State, words, word, put, registerAt, timerAt, portAt, register, timer, waiting, nextAt, next}
+use Rattle.state.specs.State.{State, words, word, put, registerAt, timerAt, portAt, register, timer, waiting, nextAt, next, portsEnd, counterAt, counter, timeAt}
 use Rattle.state.specs.Network.{devices, router, peer, permissions, loadOf}
 use Rattle.state.specs.Sound.{Sound}
 use Rattle.state.specs.Queue.{sendsAt, queueAt, queueBut, queueAllAt}
 use Rattle.state.specs.Mark.{loaded, mark}
 use Rattle.calls.specs.Calls.{called}
-use Rattle.bench.specs.Round.{World, nothing, sentWords, tick, chosen, sends, unqueued, timed, forwarded, sideAt, acted, arrived, ticked, sentBytes, posted, arrives, reached, afterTimers, afterSending, round}
+use Rattle.bench.specs.Round.{World, nothing, sentWords, tick, timeGoes, chosen, sends, unqueued, stamped, posts, timed, forwarded, sideAt, acted, arrived, ticked, sentBytes, posted, arrives, reached, afterTimers, afterSending, round}
 use Rattle.laws.specs.Alike.{Alike, SendsIt, SendAlike}
 use Rattle.state.proofs.Words.{length-put, word-same, word-other, put-word}
 use Rattle.state.proofs.Plans.{few}
 use Rattle.bench.proofs.Ticks.{ended, tick-cases}
 use Rattle.bench.proofs.RoundSound.{after, arrives-cases}
-use Rattle.bench.proofs.Stepped.{chosen-place, post-nothing, post-interrupt, post-acknowledge}
+use Rattle.bench.proofs.Stepped.{chosen-place, post-none, post-interrupt, post-acknowledge}
 use Rattle.laws.proofs.Timers.{turn}
 
 -- two whole states, alike in what concerns k
@@ -105,6 +105,11 @@ module _ {k : ℕ} (l : k < 32) {s t : State} (p : Both k s t) where
   next-both q v w h =
       put-both (portAt q nextAt) v w (λ f g o. absurd (omega arith)) (λ f g o. absurd (omega arith)) (λ kind r a b o. absurd (omega arith)) (λ r a o. absurd (omega arith))
 
+  -- a counter, or a port's Time-Codes
+  behind-both : (i v w : ℕ) → portsEnd ≤ i → Both k (put s i v) (put t i w)
+  behind-both i v w h =
+      put-both i v w (λ f g o. absurd (omega arith)) (λ f g o. absurd (omega arith)) (λ kind r a b o. absurd (omega arith)) (λ r a o. absurd (omega arith))
+
   -- a word that does not concern k is put into one of the two
   register-aside : (d v : ℕ) → d < 32 → bit v k ≡ bit (register t d) k → Both k (put s (registerAt d) v) t
   register-aside d v h e = rw (put-word t (registerAt d)) at (register-both d v (register t d) h e)
@@ -117,6 +122,23 @@ module _ {k : ℕ} (l : k < 32) {s t : State} (p : Both k s t) where
 
   next-aside : (q v : ℕ) → q < 256 → Both k (put s (portAt q nextAt) v) t
   next-aside q v h = rw (put-word t (portAt q nextAt)) at (next-both q v (next t q) h)
+
+  behind-aside : (i v : ℕ) → portsEnd ≤ i → Both k (put s i v) t
+  behind-aside i v h = rw (put-word t i) at (behind-both i v (word t i) h)
+
+  -- words behind the ports change
+  front-aside : {u : State} → length u ≡ length s → ((i : ℕ) → i < portsEnd → word u i ≡ word s i) → Both k u t
+  front-aside size front =
+      record {
+        like = record {
+          marks = λ d h. ap (λ x. bit x k) (front (registerAt d) (omega arith)) ∙ p .like .marks d h;
+          timers = λ d h. front (timerAt d k) (omega arith) ∙ p .like .timers d h;
+          waits = λ kind q g h. ap (λ x. bit x k) (front (portAt q kind) (omega arith)) ∙ p .like .waits kind q g h;
+          runs = λ q h. front (portAt q 3) (omega arith) ∙ p .like .runs q h;
+        };
+        left = size ∙ p .left;
+        right = p .right;
+      }
 
 -- k leaves a set in both
 left-both : {k : ℕ} → k < 32 → (x y : ℕ) → bit (leave x k) k ≡ bit (leave y k) k
@@ -173,6 +195,16 @@ module _ {k : ℕ} (l : k < 32) (q : ℕ) (h : q < 256) {s t : State} (p : Both 
       (waits-both l (waits-both l p 0 q (leave (waiting s 0 q) k) (leave (waiting t 0 q) k) (omega arith) h (left-both l (waiting s 0 q) (waiting t 0 q)))
       1 q (leave (waiting s 1 q) k) (leave (waiting t 1 q) k) (omega arith) h (left-both l (waiting s 1 q) (waiting t 1 q)))
       q _ _ h)
+
+-- what a port has of Time-Codes does not concern k
+stamped-aside : {k : ℕ} → k < 32 → (goes : Bool) (c : Found) (q : ℕ) {s t : State} → Both k s t → Both k (stamped goes c q s) t
+unfolding stamped
+stamped-aside l true c q p = behind-aside l p (timeAt q) 128 (omega arith)
+stamped-aside l false Nowhere q p = p
+stamped-aside l false (At j) q p = behind-aside l p (timeAt q) _ (omega arith)
+
+stamped-both : {k : ℕ} → k < 32 → (g : Bool) (c : Found) (h : Bool) (e : Found) (q : ℕ) {s t : State} → Both k s t → Both k (stamped g c q s) (stamped h e q t)
+stamped-both l g c h e q p = back (stamped-aside l h e q (back (stamped-aside l g c q p)))
 
 -- ---- 3. arrivals
 
@@ -246,22 +278,29 @@ module _ {k : ℕ} (l : k < 32) (plan : Plan) (q : ℕ) (h : q < 256) where
     abbrev Follow : Reaction → Reaction → Type 0
     Follow x y = Both k (after plan q w x .state) (after plan q v y .state)
 
-    -- the two registers
+    -- the two registers, and the two counters
     abbrev a : ℕ
     a = register (w .state) (q / 8)
 
     abbrev b : ℕ
     b = register (v .state) (q / 8)
 
+    abbrev m : ℕ
+    m = counter (w .state) (q / 8)
+
+    abbrev n : ℕ
+    n = counter (v .state) (q / 8)
+
     -- they are put back as they were
-    unchanged : Both k (put (w .state) (registerAt (q / 8)) a) (put (v .state) (registerAt (q / 8)) b)
-    unchanged = register-both l p (q / 8) a b (omega arith) (p .like .marks (q / 8) (omega arith))
+    unchanged : Both k (put (put (w .state) (counterAt (q / 8)) m) (registerAt (q / 8)) a) (put (put (v .state) (counterAt (q / 8)) n) (registerAt (q / 8)) b)
+    unchanged =
+        register-both l (behind-both l p (counterAt (q / 8)) m n (omega arith)) (q / 8) a b (omega arith) (p .like .marks (q / 8) (omega arith))
 
     -- the code is accepted
     taken-both : (side : Side) (kind : ℕ) (code : Code) → kind < 2
         → ((u : State) → timed (loadOf plan (q / 8)) (q / 8) code (put u (registerAt (q / 8)) (marked kind (register u (q / 8)) k)) ≡ mark plan kind (q / 8) k u)
         → ((u : State) → forwarded (plan .core .permissions) q code u ≡ queueAllAt (plan .core .permissions) kind k (q / 8) q u)
-        → Follow (accepted side a kind k code) (accepted side b kind k code)
+        → Follow (accepted side a m kind k code) (accepted side b n kind k code)
     unfolding acted
     taken-both side kind code g marks queues = by-role (side .router)
       where
@@ -269,36 +308,36 @@ module _ {k : ℕ} (l : k < 32) (plan : Plan) (q : ℕ) (h : q < 256) where
         both = mark-both l p plan kind (q / 8) g (omega arith)
 
         by-role : (r : Bool)
-            → Follow (record { register = marked kind a k; action = cond r (Forwarded code) (Told code) })
-            (record { register = marked kind b k; action = cond r (Forwarded code) (Told code) })
+            → Follow (record { register = marked kind a k; counter = m; action = cond r (Forwarded code) (Told code) })
+            (record { register = marked kind b k; counter = n; action = cond r (Forwarded code) (Told code) })
         by-role true =
-            rw (marks (w .state), marks (v .state), queues (mark plan kind (q / 8) k (w .state)), queues (mark plan kind (q / 8) k (v .state)))
+            rw (put-word (w .state) (counterAt (q / 8)), put-word (v .state) (counterAt (q / 8)), marks (w .state), marks (v .state), queues (mark plan kind (q / 8) k (w .state)), queues (mark plan kind (q / 8) k (v .state)))
             (queue-all-both l (plan .core .permissions) kind (q / 8) q g (omega arith) both)
-        by-role false = rw (marks (w .state), marks (v .state)) both
+        by-role false = rw (put-word (w .state) (counterAt (q / 8)), put-word (v .state) (counterAt (q / 8)), marks (w .state), marks (v .state)) both
 
     reacts-both : (side : Side) (byte kind : ℕ) → kind < 2 → byte ≡ byteOf kind k → (code : Code) → Stands byte code
-        → Follow (reactsTo side a code) (reactsTo side b code)
+        → Follow (reactsTo side a m code) (reactsTo side b n code)
     unfolding reactsTo acted timed forwarded mark
-    reacts-both side byte kind g e (Time n) c = unchanged
+    reacts-both side byte kind g e (Time v) (time h) = absurd (omega arith)
     reacts-both side byte kind g e (Reserved top low) c = unchanged
-    reacts-both side byte kind g e (Interrupt j) (interrupt m o) =
+    reacts-both side byte kind g e (Interrupt j) (interrupt i o) =
         let is : j ≡ k = omega arith in
         rw is
-        (ruled-both Follow side a b 0 k (Interrupt k) (p .like .marks (q / 8) (omega arith)) (λ n. unchanged) (λ n. unchanged)
+        (ruled-both Follow side a b m n 0 k (Interrupt k) (p .like .marks (q / 8) (omega arith)) (λ n. unchanged) (λ n. unchanged)
         (λ o. taken-both side 0 (Interrupt k) (omega arith) (λ u. refl) (λ u. refl)))
-    reacts-both side byte kind g e (Acknowledge j) (acknowledge m o) =
+    reacts-both side byte kind g e (Acknowledge j) (acknowledge i o) =
         let is : j ≡ k = omega arith in
         rw is
-        (ruled-both Follow side a b 1 k (Acknowledge k) (p .like .marks (q / 8) (omega arith)) (λ n. unchanged) (λ n. unchanged)
+        (ruled-both Follow side a b m n 1 k (Acknowledge k) (p .like .marks (q / 8) (omega arith)) (λ n. unchanged) (λ n. unchanged)
         (λ o. taken-both side 1 (Acknowledge k) (omega arith) (λ u. refl) (λ u. refl)))
 
     arrives-both : (sent other : List ℕ) (kind : ℕ) → kind < 2 → getD sent (peer plan q) nothing ≡ byteOf kind k
         → getD other (peer plan q) nothing ≡ byteOf kind k
         → Both k (arrives plan sent q w .state) (arrives plan other q v .state)
     unfolding arrives arrived reacts
-    arrives-both sent other kind g m n =
+    arrives-both sent other kind g x y =
         let byte = byteOf kind k in
-        rw (m, n, lt-ltb byte nothing (omega arith), p .like .runs q h)
+        rw (x, y, lt-ltb byte nothing (omega arith), p .like .runs q h)
         (reacts-both (sideAt (router plan (q / 8)) (plan .core .permissions) q (v .state)) byte kind g refl (reads byte) (stands byte))
 
   -- no code of k arrives
@@ -308,7 +347,7 @@ module _ {k : ℕ} (l : k < 32) (plan : Plan) (q : ℕ) (h : q < 256) where
       let other : (kind j : ℕ) → kind < 2 → getD sent (peer plan q) nothing ≡ byteOf kind j → j ≢ k = λ kind j g e o. not-k kind g (omega arith) in
       let marks : (kind j : ℕ) → kind < 2 → j < 32 → getD sent (peer plan q) nothing ≡ byteOf kind j → Both k (mark plan kind (q / 8) j (w .state)) t =
       λ kind j g m e. mark-aside l p plan kind (q / 8) j (omega arith) m (other kind j g e) in
-      arrives-cases plan sent q w (λ v. Both k (v .state) t) p
+      arrives-cases plan sent q (omega arith) w (λ v. Both k (v .state) t) (λ v b. front-aside l p (b .size) (b .front))
       (λ kind j g m e. queue-all-aside l (plan .core .permissions) kind (q / 8) q g (omega arith) (marks kind j g m e) j (other kind j g e))
       marks
 
@@ -336,7 +375,7 @@ module _ {k : ℕ} (l : k < 32) (plan : Plan) (held : Held plan) (old : State) (
   sends-chosen kind g e = by-choice (chosen old q) refl
     where
       by-choice : (c : Found) → chosen old q ≡ c → chosen old q ≡ At k
-      by-choice Nowhere o = absurd (omega (arith, sent-at, post-nothing old q o))
+      by-choice Nowhere o = absurd (elim (post-none old q o) [ inl z ↦ omega (arith, sent-at, z) | inr z ↦ omega (arith, sent-at, z) ])
       by-choice (At j) o =
           let place = chosen-place old q o in
           elim (ℕ-discrete (bit (waiting old 0 q) j) 1) [
@@ -373,8 +412,8 @@ module _ (plan : Plan) (held : Held plan) {k : ℕ} (l : k < 32) where
     unfolding posted
     posted-both u v p =
         let n = few plan held in
-        keeps-both (unqueued s) (unqueued t) (Both k) (8 * devices plan)
-        (λ q x y b r. elim (about k (getD (sentBytes plan s) q nothing)) [
+        keeps-both (posts s) (posts t) (Both k) (8 * devices plan)
+        (λ q x y b r. stamped-both l (timeGoes s q) (chosen s q) (timeGoes t q) (chosen t q) q (elim (about k (getD (sentBytes plan s) q nothing)) [
           | inl c ↦
               unqueued-both l q (omega arith) r s t
               (sends-chosen l plan held s q b (c .0) (c .1) (c .2))
@@ -384,7 +423,7 @@ module _ (plan : Plan) (held : Held plan) {k : ℕ} (l : k < 32) where
               (unqueued-aside l q (omega arith)
               (back (unqueued-aside l q (omega arith) r s (λ e. let c = chosen-sends l plan held s q b e in none (c .0) (c .1) (c .2))))
               t (λ e. let c = chosen-sends l plan held t q b e in none (c .0) (c .1) (same (c .0) q (c .1) .1 (c .2))))
-        ])
+        ]))
         u v p
 
     reached-both : (w v : World) → Both k (w .state) (v .state) → Both k (reached plan (sentBytes plan s) w .state) (reached plan (sentBytes plan t) v .state)

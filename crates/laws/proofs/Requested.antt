@@ -12,23 +12,23 @@ use Rattle.bits.specs.Set.{bit}
 use Rattle.plan.specs.Fields.{nobody}
 use Rattle.plan.specs.Reading.{Held}
 use Rattle.plan.specs.declared.Plan.{Plan}
-use Rattle.state.specs.State.{State, word, registerAt, timerAt, register, timer}
+use Rattle.state.specs.State.{State, word, portsEnd, registerAt, timerAt, register, timer}
 use Rattle.state.specs.Network.{devices, router, source, handler, loadOf}
 use Rattle.state.specs.Sound.{Sound}
 use Rattle.state.specs.Mark.{mark}
-use Rattle.state.proofs.Plans.{few, masked, load-fits}
+use Rattle.state.proofs.Plans.{few, port-there, masked, load-fits}
 use Rattle.state.proofs.Marks.{mark-other}
 use Rattle.state.proofs.Waits.{queue-all-left}
-use Rattle.calls.specs.Calls.{callAsks, called, linkAsks, switched, cleared, reset as Calls·reset}
+use Rattle.calls.specs.Calls.{callAsks, called, advanced, linkAsks, switched, cleared, emptied, reset as Calls·reset}
 use Rattle.calls.specs.Stopping.{Keeps}
-use Rattle.calls.proofs.Called.{call-sound, link-sound, reset-sound}
+use Rattle.calls.proofs.Called.{call-sound, tick-sound, tick-left, link-sound, reset-sound}
 use Rattle.calls.proofs.Stopping.{switched-keeps}
-use Rattle.calls.proofs.Zeros.{cleared-left, cleared-fits, emptied-left}
+use Rattle.calls.proofs.Zeros.{cleared-left, cleared-fits, emptied-left, emptied-fits, untimed-left}
 use Rattle.bench.specs.Round.{ofInterrupt, ofAcknowledge, ofTimeout, round}
 use Rattle.bench.proofs.RoundSound.{round-sound}
 use Rattle.laws.specs.Telling.{toldIn}
 use Rattle.laws.specs.Timing.{NoneAccepted}
-use Rattle.laws.specs.Requested.{AnyCalls, none, host, link, reset, Requested, StillHolds, Acknowledged, TimedOut, Hears, HoldsOn, IsHeard}
+use Rattle.laws.specs.Requested.{AnyCalls, none, host, tick, link, reset, Requested, StillHolds, Acknowledged, TimedOut, Hears, HoldsOn, IsHeard}
 use Rattle.laws.proofs.Timers.{timed-bit, runs-on, round-falls, request-loads, timeout-told}
 use Rattle.laws.proofs.Telling.{taking-turned, by-none, told-some, some-told, no-timeout, accepted-told, told-accepted, untold}
 
@@ -77,9 +77,19 @@ module _ (plan : Plan) (held : Held plan) (d k : ℕ) (h : d < devices plan) (l 
               ∙ mark-other plan kind e j (timerAt d k) s (omega arith) (λ is. another kind e j asked (omega arith) (omega arith));
         }
 
+    tick-stays : (e : ℕ) → e < devices plan → Stays s (advanced e s)
+    tick-stays e there =
+        let left : (i : ℕ) → i < portsEnd → word (advanced e s) i ≡ word s i = tick-left e (omega (arith, few plan held)) s in
+        record {
+          sound = tick-sound plan held s x e there;
+          holds = ap (λ r. bit r k) (left (registerAt d) (omega (arith, small))) ∙ on;
+          timed = left (timerAt d k) (omega (arith, small));
+        }
+
     link-stays : (e p : ℕ) (runs : Bool) → Holds (linkAsks plan runs e p s) → Stays s (switched plan runs (8 * e + p) s)
     link-stays e p runs asked =
-        let keeps : Keeps plan (8 * e + p) s (switched plan runs (8 * e + p) s) = switched-keeps plan (8 * e + p) s runs in
+        let port = port-there plan held e p (asked .1 .1 .0) (asked .1 .1 .1 .0) in
+        let keeps : Keeps plan (8 * e + p) s (switched plan runs (8 * e + p) s) = switched-keeps plan (8 * e + p) s (port .0) (asked .1 .1 .1 .1 .0) runs in
         record {
           sound = link-sound plan held s x e p (asked .1 .1 .0) (asked .1 .1 .1 .0) (asked .1 .1 .1 .1 .0) runs;
           holds = ap (λ r. bit r k) (keeps .registers d small) ∙ on;
@@ -89,9 +99,10 @@ module _ (plan : Plan) (held : Held plan) (d k : ℕ) (h : d < devices plan) (l 
     reset-stays : (e : ℕ) → e < devices plan → e ≢ d → Stays s (Calls·reset e s)
     reset-stays e there ne =
         let t = cleared e s in
-        let size = cleared-fits e s (x .size) (x .fits) .size in
+        let y = cleared-fits e s (x .size) (x .fits) in
+        let u = emptied-fits e t (y .size) (y .fits) in
         let left : (i : ℕ) → i < registerAt (d + 1) → registerAt d ≤ i → word (Calls·reset e s) i ≡ word s i =
-        λ i a b. emptied-left e t size i (λ m n. omega (arith, small)) ∙ cleared-left e s (x .size) i (λ m n. omega arith) in
+        λ i a b. untimed-left e (emptied e t) (u .size) i (omega (arith, small)) ∙ emptied-left e t (y .size) i (λ m n. omega (arith, small)) ∙ cleared-left e s (x .size) i (λ m n. omega arith) in
         record {
           sound = reset-sound plan held s x e there;
           holds = ap (λ r. bit r k) (left (registerAt d) (omega arith) (omega arith)) ∙ on;
@@ -110,6 +121,8 @@ module _ (plan : Plan) (held : Held plan) (d k : ℕ) (h : d < devices plan) (l 
   calls-stay x on none = record { sound = x; holds = on; timed = refl }
   calls-stay x on (host {t = t} kind e j number before g call) =
       let y = calls-stay x on before in onward y (by-number t (y .sound) (y .holds) refl call (host-stays t (y .sound) (y .holds) kind e j g))
+  calls-stay x on (tick {t = t} e number before call) =
+      let y = calls-stay x on before in onward y (by-number t (y .sound) (y .holds) refl call (λ asked. tick-stays t (y .sound) (y .holds) e (asked .1 .1 .0)))
   calls-stay x on (link {t = t} e p runs number before call) =
       let y = calls-stay x on before in onward y (by-number t (y .sound) (y .holds) refl call (link-stays t (y .sound) (y .holds) e p runs))
   calls-stay x on (reset {t = t} e number before ne call) =

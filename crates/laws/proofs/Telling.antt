@@ -23,19 +23,19 @@ use Rattle.state.specs.State.{State, words, put, registerAt, timerAt, register,
 use Rattle.state.specs.Network.{devices, router, peer}
 use Rattle.state.specs.Sound.{Sound}
 use Rattle.state.specs.Mark.{mark}
-use Rattle.bench.specs.Round.{World, ofInterrupt, ofAcknowledge, ofTimeout, toldWord, ticked, sentBytes, arrives, reached, afterTimers, afterSending, round}
+use Rattle.bench.specs.Round.{World, ofInterrupt, ofAcknowledge, ofTimeout, ofTime, toldWord, ticked, sentBytes, arrives, reached, afterTimers, afterSending, round}
 use Rattle.state.proofs.Words.{word-same, word-other}
 use Rattle.state.proofs.Plans.{few}
 use Rattle.state.proofs.Keeping.{both-kinds}
 use Rattle.state.proofs.Waits.{queue-all-left}
 use Rattle.bench.proofs.Ticks.{tick-cases}
 use Rattle.bench.proofs.Unqueued.{posted-sound, posted-left}
-use Rattle.bench.proofs.RoundSound.{taking, arrives-taken, arrives-cases, arrives-sound}
+use Rattle.bench.proofs.RoundSound.{taking, Beside, arrives-taken, arrives-cases, arrives-sound}
 use Rattle.laws.specs.Alike.{SendsIt}
 use Rattle.laws.specs.Telling.{times, toldIn, toldBy}
 use Rattle.laws.specs.Timing.{accepts, action, before, incoming, AcceptedAt, NoneAccepted}
 use Rattle.laws.proofs.Accepting.{arrives-left, arrives-opens}
-use Rattle.laws.proofs.Timers.{timed-bit, turn, turn-sound, ticked-came, arrives-more, reached-came}
+use Rattle.laws.proofs.Timers.{timed-bit, turn, turn-sound, ticked-came, beside-came, arrives-more, reached-came}
 
 -- ---- how often a word stands in a list
 
@@ -68,6 +68,14 @@ module _ (word : ℕ) where
       elim (ℕ-discrete w word) [
         | yes e ↦ List·Memᴰ·head (sym e)
         | no ne ↦ List·Memᴰ·tail (some-times l (omega (arith, rw (ne-eqb w word ne) at b)))
+      ]
+
+  -- a Time-Code's word
+  beside-times : {w v : World} → Beside w v → word < toldWord ofTime 0 0 → times word (v .told) ≡ times word (w .told)
+  beside-times {w} b small =
+      elim (b .told) [
+        | inl e ↦ ap (times word) e
+        | inr (d, n, e) ↦ ap (times word) e ∙ times-other (toldWord ofTime d n) (omega arith) false (w .told)
       ]
 
 -- of the words of one identifier at one device, only that of the same kind
@@ -170,7 +178,10 @@ module _ (plan : Plan) (held : Held plan) (s : State) (x : Sound plan s) (d k : 
   arrives-even : (q : ℕ) (v : World) → q < 8 * devices plan → Sound plan (v .state) → Even s d k v → Even s d k (arrives plan (sentBytes plan s) q v)
   arrives-even q v b y even =
       let n = few plan held in
-      arrives-taken plan (sentBytes plan s) q v (Even s d k) (λ none. even)
+      arrives-taken plan (sentBytes plan s) q (omega arith) v (Even s d k)
+      (λ none u a.
+      let left : (kind : ℕ) → kind < ofTime → times (toldWord kind d k) (u .told) ≡ times (toldWord kind d k) (v .told) = λ kind c. beside-times (toldWord kind d k) a (omega arith) in
+      rw (a .front (registerAt d) (omega arith), left ofInterrupt (omega arith), left ofAcknowledge (omega arith), left ofTimeout (omega arith)) even)
       (λ kind j g m e o.
       turned-even (ofInterrupt + kind) (q / 8) j (omega arith) m v _
       (taking-turned (q / 8) j (omega arith) m (v .state) (y .size) plan kind g (o .stood) q (router plan (q / 8)))
@@ -187,7 +198,7 @@ module _ (plan : Plan) (held : Held plan) (s : State) (x : Sound plan s) (d k : 
       keeps (arrives plan (sentBytes plan s)) (λ v. Sound plan (v .state) × Even s d k v) (8 * devices plan)
       (λ q v b y. (arrives-sound plan held (sentBytes plan s) q (omega arith) v (y .0), arrives-even q v b (y .0) (y .1))) (afterSending plan s) (
         posted-sound plan held s x (afterTimers plan s .state) (timers .0),
-        rw (posted-left plan held s (registerAt d) (afterTimers plan s .state) (omega arith)) (timers .1),
+        rw (posted-left plan held s (registerAt d) (afterTimers plan s .state) (omega arith) (omega arith)) (timers .1),
       ) .1
 
 -- ---- what is told, and what is not
@@ -228,7 +239,7 @@ module _ (plan : Plan) (held : Held plan) (s : State) (x : Sound plan s) (d k : 
       let n = few plan held in
       let word = toldWord (ofInterrupt + kind) d k in
       untouched (arrives plan (sentBytes plan s)) (λ v. times word (v .told)) (8 * devices plan)
-      (λ q v b. arrives-taken plan (sentBytes plan s) q v (λ u. times word (u .told) ≡ times word (v .told)) (λ shut. refl)
+      (λ q v b. arrives-taken plan (sentBytes plan s) q (omega arith) v (λ u. times word (u .told) ≡ times word (v .told)) (λ shut u a. beside-times word a (omega arith))
       (λ c j f m e o. times-other word (toldWord (ofInterrupt + c) (q / 8) j) (λ is. none (peer plan q) (omega arith)) (router plan (q / 8)) (v .told)))
       (afterSending plan s)
       ∙ ticks-told kind g
@@ -238,7 +249,7 @@ module _ (plan : Plan) (held : Held plan) (s : State) (x : Sound plan s) (d k : 
   unfolding round
   no-timeout runs =
       let untold : List·Memᴰ (toldWord ofTimeout d k) (round plan s .told) → ⊥ =
-      λ m. elim (ticked-came plan held d k h l (record { state = s; told = [] }) x (reached-came plan held (afterSending plan s) d k (sentBytes plan s) m)) [
+      λ m. elim (ticked-came plan held d k h l (record { state = s; told = [] }) x (reached-came plan held (afterSending plan s) d k (omega (arith, few plan held)) l (sentBytes plan s) m)) [
         | inl a ↦ List·Memᴰ·not-nil a
         | inr c ↦ runs (c .0)
       ] in
@@ -255,8 +266,9 @@ module _ (plan : Plan) (held : Held plan) (s : State) (x : Sound plan s) (d k : 
 
   turn-told : (q : ℕ) → q / 8 ≡ d → router plan d ≡ false → AcceptedAt plan s q kind k → List·Memᴰ word (arrives plan sent q (before plan s q) .told)
   turn-told q here node a =
+      let n = few plan held in
       let w = before plan s q in
-      arrives-taken plan sent q w (λ v. List·Memᴰ word (v .told)) (λ none. absurd (none kind k g l (a .0) (arrives-opens plan sent q w kind k g l (a .0) (a .1))))
+      arrives-taken plan sent q (omega arith) w (λ v. List·Memᴰ word (v .told)) (λ none v b. absurd (none kind k g l (a .0) (arrives-opens plan sent q w kind k g l (a .0) (a .1))))
       (λ c j f m e o.
       let tells : router plan (q / 8) ≡ false = ap (router plan) here ∙ node in
       rw tells (Memᴰ·append-right (w .told) (List·Memᴰ·head (omega (arith, a .0)))))
@@ -264,8 +276,9 @@ module _ (plan : Plan) (held : Held plan) (s : State) (x : Sound plan s) (d k : 
   pub accepted-told : router plan d ≡ false → (p : ℕ) → p < 8 → AcceptedAt plan s (8 * d + p) kind k → List·Memᴰ word (round plan s .told)
   unfolding round reached upTo
   accepted-told node p b a =
+      let n = few plan held in
       keeps-from (arrives plan sent) (λ v. List·Memᴰ word (v .told)) (suc (8 * d + p)) (8 * devices plan) (omega arith)
-      (λ q v c e m. arrives-more plan sent q v word m) (afterSending plan s) (turn-told (8 * d + p) (omega arith) node a)
+      (λ q v c e m. arrives-more plan sent q v (omega arith) word m) (afterSending plan s) (turn-told (8 * d + p) (omega arith) node a)
 
   -- the byte that came to port q of device d is such a code, and the device accepts it
   abbrev Came : ℕ → World → Type 0
@@ -275,10 +288,11 @@ module _ (plan : Plan) (held : Held plan) (s : State) (x : Sound plan s) (d k : 
   turn-came q v b m = by-action (accepts (action plan q (incoming plan s q) (v .state))) refl
     where
       by-action : (t : Bool) → accepts (action plan q (incoming plan s q) (v .state)) ≡ t → List·Memᴰ word (v .told) ⊎ Came q v
-      by-action false e = inl (rw (arrives-left plan sent q v e) at m)
+      by-action false e = let n = few plan held in inl (beside-came (arrives-left plan sent q v (omega arith) e) word (omega arith) m)
       by-action true e =
           let n = few plan held in
-          arrives-cases plan sent q v (λ u. List·Memᴰ word (u .told) → List·Memᴰ word (v .told) ⊎ Came q v) inl (λ c j f i o y. inl y)
+          arrives-cases plan sent q (omega arith) v (λ u. List·Memᴰ word (u .told) → List·Memᴰ word (v .told) ⊎ Came q v)
+          (λ u a y. inl (beside-came a word (omega arith) y)) (λ c j f i o y. inl y)
           (λ c j f i o y. elim (List·Memᴰ·append-cases (v .told) y) [
             | inl old ↦ inl old
             | inr new ↦ let is = List·Memᴰ·eq-of-singleton new in inr (omega arith, omega arith, e)

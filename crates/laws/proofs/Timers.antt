@@ -23,7 +23,7 @@ use Rattle.bench.specs.Settling.{rounds}
 use Rattle.state.specs.Sound.{Timed, Sound}
 use Rattle.state.specs.Mark.{mark}
 use Rattle.calls.specs.Calls.{called}
-use Rattle.bench.specs.Round.{World, ofInterrupt, ofTimeout, toldWord, nothing, tick, ticked, sentBytes, arrives, reached, afterTimers, afterSending, afterArrivals, round}
+use Rattle.bench.specs.Round.{World, ofInterrupt, ofTimeout, ofTime, toldWord, nothing, tick, ticked, sentBytes, arrives, reached, afterTimers, afterSending, afterArrivals, round}
 use Rattle.state.proofs.Words.{length-put, word-same}
 use Rattle.state.proofs.Plans.{few, load-fits}
 use Rattle.state.proofs.Keeping.{both-kinds}
@@ -31,7 +31,7 @@ use Rattle.state.proofs.Marks.{mark-other}
 use Rattle.state.proofs.Waits.{queue-all-left}
 use Rattle.bench.proofs.Ticks.{tick-cases, tick-other, tick-step, ticked-sound}
 use Rattle.bench.proofs.Unqueued.{posted-sound, posted-left}
-use Rattle.bench.proofs.RoundSound.{arrives-cases, arrives-sound, round-sound, rounds-sound}
+use Rattle.bench.proofs.RoundSound.{Beside, arrives-cases, arrives-sound, round-sound, rounds-sound}
 use Rattle.calls.proofs.Called.{call-sound}
 use Rattle.laws.specs.Timing.{accepts, action, before, incoming, AcceptedAt, NoneAccepted, Unaccepted, Unsent, Loaded, Undisturbed, Fell}
 use Rattle.laws.proofs.Accepting.{arrives-left, arrives-found, arrives-loads}
@@ -147,26 +147,40 @@ module _ (plan : Plan) (held : Held plan) (d k : ℕ) (h : d < devices plan) (l 
 
 -- ---- what arrives
 
-module _ (plan : Plan) (sent : List ℕ) (q : ℕ) (w : World) where
-  arrives-timer : q / 8 < 32 → (d k : ℕ) → d < 32 → k < 32 → ((kind : ℕ) → kind < 2 → q / 8 ≡ d → getD sent (peer plan q) nothing ≢ byteOf kind k)
+-- a Time-Code leaves what hosts were told, and adds no word but its own
+module _ {w v : World} (b : Beside w v) (word : ℕ) where
+  pub beside-more : List·Memᴰ word (w .told) → List·Memᴰ word (v .told)
+  beside-more m = elim (b .told) [ inl e ↦ rw e m | inr (d, n, e) ↦ rw e (Memᴰ·append-left (toldWord ofTime d n ∷ []) m) ]
+
+  pub beside-came : word < toldWord ofTime 0 0 → List·Memᴰ word (v .told) → List·Memᴰ word (w .told)
+  beside-came small m =
+      elim (b .told) [
+        | inl e ↦ rw e at m
+        | inr (d, n, e) ↦
+            elim (List·Memᴰ·append-cases (w .told) (rw e at m)) [ inl a ↦ a | inr c ↦ let is = List·Memᴰ·eq-of-singleton c in absurd (omega arith) ]
+      ]
+
+module _ (plan : Plan) (sent : List ℕ) (q : ℕ) (w : World) (small : q / 8 < 32) where
+  arrives-timer : (d k : ℕ) → d < 32 → k < 32 → ((kind : ℕ) → kind < 2 → q / 8 ≡ d → getD sent (peer plan q) nothing ≢ byteOf kind k)
       → timer (arrives plan sent q w .state) d k ≡ timer (w .state) d k
-  arrives-timer small d k h l quiet =
+  arrives-timer d k h l quiet =
       let marks : (kind j : ℕ) → kind < 2 → j < 32 → getD sent (peer plan q) nothing ≡ byteOf kind j
       → timer (mark plan kind (q / 8) j (w .state)) d k ≡ timer (w .state) d k =
       λ kind j g m b. mark-other plan kind (q / 8) j (timerAt d k) (w .state) (omega arith)
       (λ e. let here : q / 8 ≡ d = omega arith in quiet kind g here (omega arith)) in
-      arrives-cases plan sent q w (λ v. timer (v .state) d k ≡ timer (w .state) d k) refl
+      arrives-cases plan sent q small w (λ v. timer (v .state) d k ≡ timer (w .state) d k) (λ v b. b .front (timerAt d k) (omega arith))
       (λ kind j g m b. queue-all-left kind j (timerAt d k) g (omega arith) (plan .core .permissions) (q / 8) q small (mark plan kind (q / 8) j (w .state)) ∙ marks kind j g m b)
       marks
 
   pub arrives-more : (v : ℕ) → List·Memᴰ v (w .told) → List·Memᴰ v (arrives plan sent q w .told)
   arrives-more v m =
-      arrives-cases plan sent q w (λ u. List·Memᴰ v (u .told)) m (λ kind k g l b. m) (λ kind k g l b. Memᴰ·append-left (toldWord (ofInterrupt + kind) (q / 8) k ∷ []) m)
+      arrives-cases plan sent q small w (λ u. List·Memᴰ v (u .told)) (λ u b. beside-more b v m) (λ kind k g l b. m) (λ kind k g l b. Memᴰ·append-left (toldWord (ofInterrupt + kind) (q / 8) k ∷ []) m)
 
   -- no timeout is told
-  arrives-came : q / 8 < 32 → (d k : ℕ) → List·Memᴰ (toldWord ofTimeout d k) (arrives plan sent q w .told) → List·Memᴰ (toldWord ofTimeout d k) (w .told)
-  arrives-came h d k =
-      arrives-cases plan sent q w (λ u. List·Memᴰ (toldWord ofTimeout d k) (u .told) → List·Memᴰ (toldWord ofTimeout d k) (w .told)) (λ m. m) (λ kind j g l b m. m)
+  arrives-came : (d k : ℕ) → d < 32 → k < 32 → List·Memᴰ (toldWord ofTimeout d k) (arrives plan sent q w .told) → List·Memᴰ (toldWord ofTimeout d k) (w .told)
+  arrives-came d k h l =
+      arrives-cases plan sent q small w (λ u. List·Memᴰ (toldWord ofTimeout d k) (u .told) → List·Memᴰ (toldWord ofTimeout d k) (w .told))
+      (λ u b m. beside-came b (toldWord ofTimeout d k) (omega arith) m) (λ kind j g l b m. m)
       (λ kind j g l b m. elim (List·Memᴰ·append-cases (w .told) m) [ inl a ↦ a | inr c ↦ let e = List·Memᴰ·eq-of-singleton c in absurd (omega arith) ])
 
 -- what is not sent is not accepted
@@ -188,7 +202,9 @@ module _ (plan : Plan) (held : Held plan) (s : State) (x : Sound plan s) (d k : 
     where
       by-action : (a : Bool) → accepts (action plan q (incoming plan s q) (before plan s q .state)) ≡ a
           → timer (before plan s (suc q) .state) d k ≡ timer (before plan s q .state) d k
-      by-action false e = ap (λ v. timer (v .state) d k) (arrives-left plan (sentBytes plan s) q (before plan s q) e)
+      by-action false e =
+          let n = few plan held in
+          arrives-left plan (sentBytes plan s) q (before plan s q) (omega arith) e .front (timerAt d k) (omega arith)
       by-action true e =
           let n = few plan held in
           arrives-timer plan (sentBytes plan s) q (before plan s q) (omega arith) d k (omega arith) l (λ kind g here o. none kind g here (o, e))
@@ -222,7 +238,7 @@ module _ (plan : Plan) (held : Held plan) (s : State) (x : Sound plan s) (d k : 
       rw is at (none (q % 8) (omega arith))
 
   sending-still : timer (afterSending plan s .state) d k ≡ timer (afterTimers plan s .state) d k
-  sending-still = let n = few plan held in posted-left plan held s (timerAt d k) (afterTimers plan s .state) (omega arith)
+  sending-still = let n = few plan held in posted-left plan held s (timerAt d k) (afterTimers plan s .state) (omega arith) (omega arith)
 
   -- no code of k is accepted: the arrivals leave the timer as the timers' step did
   arrivals-still : Unaccepted plan s d k → timer (afterArrivals plan s .state) d k ≡ timer (afterTimers plan s .state) d k
@@ -267,14 +283,15 @@ module _ (plan : Plan) (held : Held plan) (w : World) (d k : ℕ) where
   reached-more : (sent : List ℕ) → List·Memᴰ (toldWord ofTimeout d k) (w .told) → List·Memᴰ (toldWord ofTimeout d k) (reached plan sent w .told)
   unfolding reached
   reached-more sent m =
-      keeps (arrives plan sent) (λ v. List·Memᴰ (toldWord ofTimeout d k) (v .told)) (8 * devices plan) (λ q v b. arrives-more plan sent q v (toldWord ofTimeout d k)) w m
+      let n = few plan held in
+      keeps (arrives plan sent) (λ v. List·Memᴰ (toldWord ofTimeout d k) (v .told)) (8 * devices plan) (λ q v b. arrives-more plan sent q v (omega arith) (toldWord ofTimeout d k)) w m
 
-  pub reached-came : (sent : List ℕ) → List·Memᴰ (toldWord ofTimeout d k) (reached plan sent w .told) → List·Memᴰ (toldWord ofTimeout d k) (w .told)
+  pub reached-came : d < 32 → k < 32 → (sent : List ℕ) → List·Memᴰ (toldWord ofTimeout d k) (reached plan sent w .told) → List·Memᴰ (toldWord ofTimeout d k) (w .told)
   unfolding reached
-  reached-came sent =
+  reached-came h l sent =
       let n = few plan held in
       keeps (arrives plan sent) (λ v. List·Memᴰ (toldWord ofTimeout d k) (v .told) → List·Memᴰ (toldWord ofTimeout d k) (w .told)) (8 * devices plan)
-      (λ q v b p m. p (arrives-came plan sent q v (omega arith) d k m)) w (λ m. m)
+      (λ q v b p m. p (arrives-came plan sent q v (omega arith) d k h l m)) w (λ m. m)
 
 -- ---- a round
 
@@ -306,7 +323,7 @@ module _ (plan : Plan) (held : Held plan) (s : State) (x : Sound plan s) (d k : 
         runs = λ o. bits .1 (omega arith);
         ends = λ z. bits .0 (now ∙ z);
         tells = λ z node. reached-more plan held w d k (sentBytes plan s) (f .tells z node);
-        only = λ m. f .only (reached-came plan held w d k (sentBytes plan s) m);
+        only = λ m. f .only (reached-came plan held w d k (omega (arith, few plan held)) l (sentBytes plan s) m);
       }
 
   -- a node's timer that stands at 1 ends in the round, whatever arrives, and its host is told

@@ -11,18 +11,19 @@ use Rattle.plan.specs.declared.Plan.{Plan}
 use Rattle.state.specs.State.{State, register, timer}
 use Rattle.state.specs.Network.{loadOf}
 use Rattle.state.specs.Sound.{Sound}
-use Rattle.calls.specs.Calls.{callAsks, called, Takes, Links, Resets}
+use Rattle.calls.specs.Calls.{callAsks, called, Takes, Ticks, Links, Resets}
 use Rattle.bench.specs.Round.{ofInterrupt, ofAcknowledge, ofTimeout, toldWord, round}
 use Rattle.laws.specs.Telling.{toldBy}
 use Rattle.laws.specs.Timing.{AcceptedAt, NoneAccepted}
 
 -- ---- what happens meanwhile
 
--- between two rounds calls are made, in any number, refused or not: hosts request (kind 0) and acknowledge (kind 1) any identifier, links are
--- stopped and started, and devices other than d are reset
+-- between two rounds calls are made, in any number, refused or not: hosts request (kind 0) and acknowledge (kind 1) any identifier, and tick; links
+-- are stopped and started, and devices other than d are reset
 pub data AnyCalls (plan : Plan) (d : ℕ) (s : State) : State → Type 0 where
   none : AnyCalls plan d s s
   host : {t u : State} (kind e j number : ℕ) → AnyCalls plan d s t → kind < 2 → Takes plan kind e j t number u → AnyCalls plan d s u
+  tick : {t u : State} (e number : ℕ) → AnyCalls plan d s t → Ticks plan e t number u → AnyCalls plan d s u
   link : {t u : State} (e p : ℕ) (runs : Bool) (number : ℕ) → AnyCalls plan d s t → Links plan e p runs t number u → AnyCalls plan d s u
   reset : {t u : State} (e number : ℕ) → AnyCalls plan d s t → e ≢ d → Resets plan e t number u → AnyCalls plan d s u
 
