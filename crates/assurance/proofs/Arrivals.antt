@@ -12,7 +12,7 @@ use Rattle.bits.proofs.Sets.{bit-two}
 use Rattle.device.specs.Permissions.{maySend, mayReceive}
 use Rattle.plan.specs.Reading.{Held}
 use Rattle.plan.specs.declared.Plan.{Plan}
-use Rattle.state.specs.State.{State, register, waiting, next, running}
+use Rattle.state.specs.State.{State, register, waiting, running}
 use Rattle.state.specs.Network.{devices, router, peer, permissions, loadOf}
 use Rattle.state.specs.Sound.{Sound}
 use Rattle.state.proofs.Plans.{few}
@@ -24,11 +24,12 @@ use Rattle.assurance.proofs.Choices.{sends-small, sends-inside, sent-wa
 use Rattle.assurance.proofs.Fits.{alike-back, Fit, fit-alike, fit-took}
 use Rattle.assurance.proofs.Taking.{Took, took}
 use Rattle.assurance.proofs.Entering.{arrives-meets, arrives-turns}
+use Rattle.assurance.proofs.Turns.{SameTurn, turn-same, turn-then}
 
--- what changed does not concern identifier k, and no port's next
+-- what changed does not concern identifier k, and no port's turn
 record Aside (k : ℕ) (v t : State) : Type 0 where
   like : Alike k v t
-  turns : (q : ℕ) → next t q ≡ next v q
+  turns : (q : ℕ) → q < 256 → SameTurn v t q
 
 module _ (plan : Plan) (kind k : ℕ) (s₀ s : State) where
   -- the code gets into device d, at port j
@@ -49,7 +50,7 @@ module _ (plan : Plan) (kind k : ℕ) (s₀ : State) (takers : ℕ → Type 0) (
   -- after some arrivals, from p to v
   pub record Going (u : ℕ) (p v : State) : Type 0 where
     pub fit : Fit plan kind k s₀ takers u v
-    pub turns : (q : ℕ) → next v q ≡ next p q
+    pub turns : (q : ℕ) → q < 256 → SameTurn p v q
     -- what held the code or had it waiting goes on so
     pub keeping : (d : ℕ) → d < devices plan → bit (register p d) k ≡ 1 - kind → bit (register v d) k ≡ 1 - kind
     pub waits-on : (q : ℕ) → q < 256 → bit (waiting p kind q) k ≡ 1 → bit (waiting v kind q) k ≡ 1
@@ -78,7 +79,7 @@ module _ (plan : Plan) (kind k : ℕ) (s₀ : State) (takers : ℕ → Type 0) (
     going-none p f =
         record {
           fit = f;
-          turns = λ q. refl;
+          turns = λ q h. turn-same p q;
           keeping = λ d h b. b;
           waits-on = λ q h b. b;
           begins = λ d h b. inl b;
@@ -93,7 +94,7 @@ module _ (plan : Plan) (kind k : ℕ) (s₀ : State) (takers : ℕ → Type 0) (
         let wait : (q : ℕ) → q < 256 → bit (waiting v kind q) k ≡ bit (waiting t kind q) k = λ q h. a .like .waits kind q g h in
         record {
           fit = fit-alike plan kind k s₀ takers held g u (a .like) y (x .fit);
-          turns = λ q. a .turns q ∙ x .turns q;
+          turns = λ q h. turn-then (x .turns q h) (a .turns q h);
           keeping = λ d h b. sym (mark d h) ∙ x .keeping d h b;
           waits-on = λ q h b. sym (wait q h) ∙ x .waits-on q h b;
           begins = λ d h b. x .begins d h (mark d h ∙ b);
@@ -172,7 +173,7 @@ module _ (plan : Plan) (kind k : ℕ) (s₀ : State) (takers : ℕ → Type 0) (
           let n = few plan held in
           record {
             fit = fit-took plan kind k s₀ takers held g u loads (omega arith) got y (x .fit);
-            turns = λ q. got .turns q ∙ x .turns q;
+            turns = λ q b. turn-then (x .turns q b) (record { start = got .turns q; late = got .lates q });
             keeping = λ d h b. entered-keeps d (omega arith) (x .keeping d h b);
             waits-on = λ q h b. got .more q h (x .waits-on q h b);
             begins = entered-begins;
@@ -193,8 +194,8 @@ module _ (plan : Plan) (kind k : ℕ) (s₀ : State) (takers : ℕ → Type 0) (
             elim (about k (getD (sentBytes plan s) (peer plan j) nothing)) [
               | inl c ↦
                   let e : SendsIt plan k s kind (peer plan j) = rw (of-kind held g l f (c .0) (peer plan j) (c .1) (c .2)) at (c .2) in
-                  arrives-meets plan j w k (λ t. Aside k (w .state) t ⊎ Enters plan kind k s₀ s j (w .state) t) (sentBytes plan s) l kind g e
-                  (λ shut. inl (record { like = alike-same k (w .state); turns = λ q. refl }))
+                  arrives-meets plan j (omega arith) w k (λ t. Aside k (w .state) t ⊎ Enters plan kind k s₀ s j (w .state) t) (sentBytes plan s) l kind g e
+                  (λ shut. inl (record { like = alike-same k (w .state); turns = λ q b. turn-same (w .state) q }))
                   (λ o. inr (record { sender = e; opens = o; taken = took plan kind k g l (j / 8) j (omega arith) (w .state) (x .size) (router plan (j / 8)) }))
               | inr none ↦
                   let same : Both k (w .state) (w .state) = record { like = alike-same k (w .state); left = x .size; right = x .size } in
@@ -232,7 +233,7 @@ module _ (plan : Plan) (kind k : ℕ) (s₀ : State) (takers : ℕ → Type 0) (
             mine v x =
                 let n = few plan held in
                 let two = bit-two (register (v .state) (j / 8)) k in
-                arrives-meets plan j v k (λ t. bit (register t (j / 8)) k ≡ 1 - kind) (sentBytes plan s) l kind g (c .sender)
+                arrives-meets plan j (omega arith) v k (λ t. bit (register t (j / 8)) k ≡ 1 - kind) (sentBytes plan s) l kind g (c .sender)
                 (λ shut. elim (ℕ-discrete (bit (register (v .state) (j / 8)) k) kind) [
                   | yes o ↦ absurd (shut (record { runs = x .runs j (omega arith) ∙ c .runs; may = c .may; stood = o }))
                   | no ne ↦ omega arith

@@ -1,6 +1,6 @@
 -- What a port sends of one code, and what waiting for it tells of the port; in a sound state.
 use mathlib.Core.Path.{_≡_, refl, ap, _∙_}
-use mathlib.Core.Bool.{true, not-eq-not}
+use mathlib.Core.Bool.{Bool, true, false, not-eq-not}
 use mathlib.Core.Logic.{_⊎_, inl, inr, _≢_, dite}
 use Prim.Native.Nat.{ℕ, zero, suc, _+_, _-_, _*_, _/_, _%_, _<_, max}
 use native.Mathlib.Decide.{ℕ-discrete, decLt}
@@ -14,18 +14,17 @@ use Rattle.bits.specs.First.{Finds, after}
 use Rattle.bits.specs.declared.Found.{Found}
 use Rattle.bits.specs.declared.Found.the-variants.{At, Nowhere}
 use Rattle.bits.proofs.Sets.{bit-two, bit-or, bit-zero}
-use Rattle.bits.proofs.Firsts.{firstFrom-finds}
 use Rattle.device.specs.Permissions.{maySend}
 use Rattle.plan.specs.Fields.{nobody}
 use Rattle.plan.specs.Reading.{Held}
 use Rattle.plan.specs.declared.Plan.{Plan}
 use Rattle.plan.proofs.BothWays.{held-peers}
-use Rattle.state.specs.State.{State, word, portWords, portAt, waiting, next, runningAt, running}
+use Rattle.state.specs.State.{State, word, portWords, portAt, waiting, next, runningAt, running, lately}
 use Rattle.state.specs.Network.{devices, exists, peer, permissions}
 use Rattle.state.specs.Sound.{Kept, Sound}
 use Rattle.state.proofs.Plans.{owned}
-use Rattle.bench.specs.Round.{nothing, chosen, sentWords, sentBytes}
-use Rattle.bench.proofs.Stepped.{post-interrupt, post-acknowledge}
+use Rattle.bench.specs.Round.{nothing, firstWaits, timeGoes, chosen, sentWords, sentBytes}
+use Rattle.bench.proofs.Stepped.{first-finds, chosen-first, first-chosen, goes-early, post-interrupt, post-acknowledge}
 use Rattle.laws.specs.Alike.{SendsIt}
 use Rattle.laws.proofs.Apart.{sent-at, sends-chosen, chosen-sends}
 use Rattle.assurance.proofs.Sights.{passed-over}
@@ -93,16 +92,16 @@ module _ (plan : Plan) (held : Held plan) (k : ℕ) (l : k < 32) (s : State) (q 
   waiting-of (suc zero) g = omega (arith, bit-or k (waiting s 0 q) (waiting s 1 q))
   waiting-of (suc (suc n)) g = absurd (omega arith)
 
-  found : (c : Found) → chosen s q ≡ c → Finds (bitOr (waiting s 0 q) (waiting s 1 q)) (next s q) c
-  unfolding chosen
-  found c e = rw e at (firstFrom-finds (bitOr (waiting s 0 q) (waiting s 1 q)) (next s q))
+  -- of what is found where no Time-Code goes
+  found : (c : Found) → firstWaits s q ≡ c → Finds (bitOr (waiting s 0 q) (waiting s 1 q)) (next s q) c
+  found c e = rw e at (first-finds s q)
 
   -- what is sent waits
   pub sent-waits : (kind : ℕ) → kind < 2 → SendsIt plan k s kind q → bit (waiting s kind q) k ≡ 1
   unfolding Finds
   sent-waits kind g e =
       let o = sends-chosen l plan held s q h kind g e in
-      let m = found (At k) o .member in
+      let m = found (At k) (chosen-first s q o .1) .member in
       elim (ℕ-discrete (bit (waiting s 0 q) k) 1) [
         | yes y ↦ let is : kind ≡ 0 = omega (arith, sent-at l plan held s q h, post-interrupt s q o y) in rw is y
         | no n ↦
@@ -122,20 +121,28 @@ module _ (plan : Plan) (held : Held plan) (k : ℕ) (l : k < 32) (s : State) (q 
               absurd (omega (arith, ap (λ v. bit (waiting s v q) k) is, sent-waits (c .0) (c .1) (c .2)))
         ]
 
-    -- a waiting code is sent, or another is and k comes nearer
-    pub chosen-or-nearer : bit (waiting s kind q) k ≡ 1
-        → SendsIt plan k s kind q ⊎ ((j : ℕ) × (chosen s q ≡ At j) × (j ≢ k) × (after ((j + 1) % 32) k < after (next s q) k))
+    -- a waiting code is sent; or a Time-Code is, and the last one sent was none; or another code is, and k comes nearer
+    pub data Served : Type 0 where
+      sent : SendsIt plan k s kind q → Served
+      late : timeGoes s q ≡ true → lately s q ≡ 0 → Served
+      nearer : (j : ℕ) → chosen s q ≡ At j → j ≢ k → after ((j + 1) % 32) k < after (next s q) k → Served
+
+    pub chosen-or-nearer : bit (waiting s kind q) k ≡ 1 → Served
     unfolding Finds
-    chosen-or-nearer b = by-choice (chosen s q) refl
+    chosen-or-nearer b = by-first (firstWaits s q) refl
       where
         all : bit (bitOr (waiting s 0 q) (waiting s 1 q)) k ≡ 1
         all = omega (arith, waiting-of kind g)
 
-        by-choice : (c : Found) → chosen s q ≡ c
-            → SendsIt plan k s kind q ⊎ ((j : ℕ) × (chosen s q ≡ At j) × (j ≢ k) × (after ((j + 1) % 32) k < after (next s q) k))
-        by-choice Nowhere e = absurd (omega (arith, all, found Nowhere e k l))
-        by-choice (At j) e =
-            elim (ℕ-discrete j k) [
-              | yes o ↦ inl (chosen-of-kind (e ∙ ap At o))
-              | no n ↦ inr (j, e, n, passed-over k (found (At j) e) l all n)
-            ]
+        by-first : (c : Found) → firstWaits s q ≡ c → Served
+        by-first Nowhere e = absurd (omega (arith, all, found Nowhere e k l))
+        by-first (At j) e = by-time (timeGoes s q) refl
+          where
+            by-time : (t : Bool) → timeGoes s q ≡ t → Served
+            by-time true o = late o (goes-early s q o e)
+            by-time false o =
+                let c = first-chosen s q o ∙ e in
+                elim (ℕ-discrete j k) [
+                  | yes is ↦ sent (chosen-of-kind (c ∙ ap At is))
+                  | no n ↦ nearer j c n (passed-over k (found (At j) e) l all n)
+                ]

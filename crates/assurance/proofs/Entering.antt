@@ -1,31 +1,59 @@
 -- A code arrives at a port: its device takes it in, or nothing changes.
-use mathlib.Core.Path.{_≡_, refl}
+use mathlib.Core.Path.{_≡_, ap, _∙_}
+use mathlib.Core.Bool.{Bool, true, false, cond, _&&_}
 use mathlib.Core.List.{List}
-use Prim.Native.Nat.{ℕ, _/_, _<_}
+use Prim.Native.Nat.{ℕ, _/_, _%_, _<_}
 use native.Mathlib.Omega.{arith}
 use lib.ListN.{length, getD}
 use Rattle.codes.specs.Codes.{byteOf}
 use Rattle.plan.specs.declared.Plan.{Plan}
-use Rattle.state.specs.State.{State, words, next}
+use Rattle.state.specs.State.{State, words, put, portAt, nextAt, counterAt, timeAt}
 use Rattle.state.specs.Network.{router, peer}
+use Rattle.state.specs.Queue.{queueTimeAll}
+use Rattle.state.proofs.Words.{length-put, word-other}
+use Rattle.state.proofs.Times.{queue-times-left, queue-times-lately}
 use Rattle.bench.specs.Round.{World, nothing, arrives}
-use Rattle.bench.proofs.RoundSound.{Opens, taking, arrives-taken}
+use Rattle.bench.proofs.RoundSound.{Opens, taking, counts, isNew, arrives-any}
 use Rattle.assurance.proofs.Taking.{took}
+use Rattle.assurance.proofs.Turns.{SameTurn, turn-same, turn-then}
 
 -- a code of identifier k arrives
-module _ (plan : Plan) (q : ℕ) (w : World) (k : ℕ) (P : State → Type 0) (sent : List ℕ) (l : k < 32) where
+module _ (plan : Plan) (q : ℕ) (small : q / 8 < 32) (w : World) (k : ℕ) (P : State → Type 0) (sent : List ℕ) (l : k < 32) where
   pub arrives-meets : (kind : ℕ) → kind < 2 → getD sent (peer plan q) nothing ≡ byteOf kind k → ((Opens plan kind k q (w .state) → ⊥) → P (w .state))
       → (Opens plan kind k q (w .state) → P (taking plan kind k (q / 8) q (router plan (q / 8)) (w .state))) → P (arrives plan sent q w .state)
   arrives-meets kind g e refused taken =
-      arrives-taken plan sent q w (λ v. P (v .state)) (λ none. refused (none kind k g l e))
+      arrives-any plan sent q small w (λ v. P (v .state)) (λ none. refused (none kind k g l e)) (λ v h o. absurd (omega arith))
       (λ c j f m o y.
       let a : c ≡ kind = omega arith in
       let b : j ≡ k = omega arith in
       rw (a, b) (taken (rw (a, b) at y)))
 
--- whatever arrives, every search starts where it would have started
-pub arrives-turns : (plan : Plan) (sent : List ℕ) (q : ℕ) → q < 256 → (w : World) → length (w .state) ≡ words → (p : ℕ)
-    → next (arrives plan sent q w .state) p ≡ next (w .state) p
-arrives-turns plan sent q h w size p =
-    arrives-taken plan sent q w (λ v. next (v .state) p ≡ next (w .state) p) (λ none. refl)
-    (λ kind k g l b o. took plan kind k g l (q / 8) q (omega arith) (w .state) size (router plan (q / 8)) .turns p)
+-- whatever arrives, every port has the turn that it would have had
+module _ (plan : Plan) (sent : List ℕ) (q : ℕ) (h : q < 256) (w : World) (size : length (w .state) ≡ words) (p : ℕ) (small : p < 256) where
+  counts-turns : (new hands : Bool) (v : ℕ) → v < 64 → SameTurn (w .state) (counts new hands v q w .state) p
+  counts-turns new hands v l = by-test (new && hands)
+    where
+      t : State
+      t = put (w .state) (counterAt (q / 8)) v
+
+      left : SameTurn (w .state) t p
+      left =
+          record {
+            start = word-other (w .state) (counterAt (q / 8)) v (portAt p nextAt) (omega arith);
+            late = ap (λ x. x / 128 % 2) (word-other (w .state) (counterAt (q / 8)) v (timeAt p) (omega arith));
+          }
+
+      by-test : (b : Bool) → SameTurn (w .state) (cond b (queueTimeAll v (q / 8) q t) t) p
+      by-test false = left
+      by-test true =
+          turn-then left
+          (record {
+            start = queue-times-left (portAt p nextAt) (λ j m. omega arith) v (q / 8) q (omega arith) t;
+            late = queue-times-lately p small v (q / 8) q l t (length-put (w .state) (counterAt (q / 8)) v ∙ size);
+          })
+
+  pub arrives-turns : SameTurn (w .state) (arrives plan sent q w .state) p
+  arrives-turns =
+      arrives-any plan sent q (omega arith) w (λ v. SameTurn (w .state) (v .state) p) (λ none. turn-same (w .state) p)
+      (λ v l e. counts-turns (isNew v q w) (router plan (q / 8)) v l)
+      (λ kind k g l b o. let x = took plan kind k g l (q / 8) q (omega arith) (w .state) size (router plan (q / 8)) in record { start = x .turns p; late = x .lates p })

@@ -12,6 +12,7 @@ pub mod Meanwhile
 pub mod Runs
 pub mod Crossings
 pub mod Trips
+pub mod Turns
 pub mod Demand
 pub mod Between
 pub mod Users

@@ -1,4 +1,4 @@
--- What hosts do for other identifiers changes nothing that concerns k, moves no port's next, and keeps the state sound.
+-- What hosts do for other identifiers, and ticks, change nothing that concerns k and no port's turn, and keep the state sound.
 use mathlib.Core.Path.{_≡_, refl, sym, subst, _∙_}
 use Prim.Native.Nat.{ℕ, zero, suc, _≤_, _<_}
 use native.Mathlib.Decide.{ℕ-discrete}
@@ -6,19 +6,20 @@ use native.Mathlib.Omega.{arith}
 use Rattle.answers.proofs.Outcomes.{holds}
 use Rattle.plan.specs.Reading.{Held}
 use Rattle.plan.specs.declared.Plan.{Plan}
-use Rattle.state.specs.State.{State, next}
+use Rattle.state.specs.State.{State, portAt, nextAt}
 use Rattle.state.specs.Sound.{Sound}
 use Rattle.state.proofs.Plans.{few}
-use Rattle.calls.specs.Calls.{callAsks}
-use Rattle.calls.proofs.Called.{call-sound}
+use Rattle.calls.specs.Calls.{callAsks, tickAsks}
+use Rattle.calls.proofs.Called.{call-sound, tick-sound, tick-left, tick-lately}
 use Rattle.bench.specs.Round.{round}
 use Rattle.bench.proofs.RoundSound.{round-sound}
 use Rattle.laws.specs.Alike.{Alike}
-use Rattle.laws.proofs.Apart.{alike-same, call-apart}
-use Rattle.assurance.specs.Demand3.{Calls, none, then, Course}
+use Rattle.laws.proofs.Apart.{alike-same, call-apart, tick-apart}
+use Rattle.assurance.specs.Demand3.{Calls, none, then, tick, Course}
 use Rattle.assurance.specs.Between.{After}
 use Rattle.assurance.proofs.Taking.{called-took}
 use Rattle.assurance.proofs.Fits.{alike-back}
+use Rattle.assurance.proofs.Turns.{SameTurn, turn-same, turn-then}
 
 pub alike-then : {k : ℕ} {s t u : State} → Alike k s t → Alike k t u → Alike k s u
 alike-then a b =
@@ -33,11 +34,11 @@ alike-then a b =
 pub record Beside (plan : Plan) (k : ℕ) (s t : State) : Type 0 where
   pub sound : Sound plan t
   pub like : Alike k s t
-  pub turns : (q : ℕ) → next t q ≡ next s q
+  pub turns : (q : ℕ) → q < 256 → SameTurn s t q
 
 module _ (plan : Plan) (held : Held plan) (k : ℕ) (l : k < 32) where
   pub calls-beside : {s t : State} → Sound plan s → Calls plan k s t → Beside plan k s t
-  calls-beside {s} x none = record { sound = x; like = alike-same k s; turns = λ q. refl }
+  calls-beside {s} x none = record { sound = x; like = alike-same k s; turns = λ q h. turn-same s q }
   calls-beside {s} x (then {t = t} {u = u} kind d j number before g call other) =
       let b = calls-beside x before in
       elim (ℕ-discrete number 0) [
@@ -48,7 +49,21 @@ module _ (plan : Plan) (held : Held plan) (k : ℕ) (l : k < 32) where
             subst (Beside plan k s) (sym (call .made z)) (record {
               sound = call-sound plan held t (b .sound) kind d j g h m;
               like = alike-then (b .like) (call-apart plan held t (b .sound) k l kind d j g h m (other z));
-              turns = λ q. called-took plan kind j g m d (omega (arith, h, few plan held)) t (b .sound .size) .turns q ∙ b .turns q;
+              turns = λ q small.
+                  let took = called-took plan kind j g m d (omega (arith, h, few plan held)) t (b .sound .size) in turn-then (b .turns q small) (record { start = took .turns q; late = took .lates q });
+            })
+        | no n ↦ subst (Beside plan k s) (sym (call .kept n)) b
+      ]
+  calls-beside {s} x (tick {t = t} {u = u} d number before call) =
+      let b = calls-beside x before in
+      elim (ℕ-discrete number 0) [
+        | yes z ↦
+            let h = holds (tickAsks plan d t) refl (call .answers) z .1 .1 .0 in
+            let room : d < 32 = omega (arith, h, few plan held) in
+            subst (Beside plan k s) (sym (call .made z)) (record {
+              sound = tick-sound plan held t (b .sound) d h;
+              like = alike-then (b .like) (tick-apart plan held t (b .sound) k l d h);
+              turns = λ q small. turn-then (b .turns q small) (record { start = tick-left d room t (portAt q nextAt) (omega arith); late = tick-lately d room t (b .sound .size) q small });
             })
         | no n ↦ subst (Beside plan k s) (sym (call .kept n)) b
       ]

@@ -1,8 +1,9 @@
 -- The first two steps of a round, as a code sees them: no timer of its identifier ends, and where it is sent it waits no more.
 use mathlib.Core.Path.{_≡_, refl, sym, ap, _∙_}
+use mathlib.Core.Bool.{Bool, true, false, cond}
 use mathlib.Core.List.{[]}
 use mathlib.Core.Logic.{_≢_}
-use Prim.Native.Nat.{ℕ, suc, _+_, _-_, _*_, _/_, _%_, _<_}
+use Prim.Native.Nat.{ℕ, suc, _+_, _-_, _*_, _/_, _%_, _≤_, _<_}
 use native.Mathlib.Decide.{ℕ-discrete}
 use native.Mathlib.Omega.{arith}
 use lib.ListN.{length}
@@ -14,14 +15,15 @@ use Rattle.bits.specs.declared.Found.the-variants.{At, Nowhere}
 use Rattle.bits.proofs.Sets.{bit-two, leave-same, leave-other}
 use Rattle.plan.specs.Reading.{Held}
 use Rattle.plan.specs.declared.Plan.{Plan}
-use Rattle.state.specs.State.{State, words, word, put, registerAt, timerAt, portWords, portAt, register, timer, waiting, nextAt, next, runningAt, running}
+use Rattle.state.specs.State.{State, words, word, put, registerAt, timerAt, portsAt, portWords, portAt, register, timer, waiting, nextAt, next, runningAt, running, timeAt, time, lately}
 use Rattle.state.specs.Network.{devices, router}
 use Rattle.state.specs.Sound.{Sound}
 use Rattle.state.proofs.Words.{length-put, word-same, word-other}
 use Rattle.state.proofs.Plans.{few}
 use Rattle.state.proofs.Keeping.{both-kinds}
-use Rattle.bench.specs.Round.{World, chosen, unqueued, ticked, posted, afterTimers, afterSending}
+use Rattle.bench.specs.Round.{World, timeGoes, chosen, unqueued, stamped, posts as Round·posts, ticked, posted, afterTimers, afterSending}
 use Rattle.bench.proofs.Ticks.{tick-other, ticked-sound}
+use Rattle.bench.proofs.Stepped.{chosen-first, time-chosen}
 use Rattle.bench.proofs.Unqueued.{posted-sound, posted-left}
 use Rattle.laws.specs.Alike.{SendsIt}
 use Rattle.laws.proofs.Timers.{turn, timed-bit, ticked-timer}
@@ -88,6 +90,46 @@ module _ (old : State) (q : ℕ) (t : State) where
         (λ j e. word-same (second j) (portAt q nextAt) _
         (omega (arith, length-put (first j) (portAt q 1) (leave (waiting t 1 q) j), length-put t (portAt q 0) (leave (waiting t 0 q) j))))
 
+-- what a port's word of Time-Codes becomes
+unfoldable stamp : Bool → Found → ℕ → ℕ
+stamp goes other v = cond goes 128 (elim other [ At k ↦ v % 128 | Nowhere ↦ v ])
+
+module _ (goes : Bool) (c : Found) (q : ℕ) (t : State) where
+  stamped-other : (i : ℕ) → i ≢ timeAt q → word (stamped goes c q t) i ≡ word t i
+  unfolding stamped
+  stamped-other i ne = by-test goes c
+    where
+      by-test : (g : Bool) (c : Found) → word (stamped g c q t) i ≡ word t i
+      by-test true c = word-other t (timeAt q) 128 i ne
+      by-test false Nowhere = refl
+      by-test false (At k) = word-other t (timeAt q) _ i ne
+
+  stamped-size : length (stamped goes c q t) ≡ length t
+  unfolding stamped
+  stamped-size = by-test goes c
+    where
+      by-test : (g : Bool) (c : Found) → length (stamped g c q t) ≡ length t
+      by-test true c = length-put t (timeAt q) 128
+      by-test false Nowhere = refl
+      by-test false (At k) = length-put t (timeAt q) _
+
+  stamped-time : q < 256 → length t ≡ words → time (stamped goes c q t) q ≡ stamp goes c (time t q)
+  unfolding stamped stamp
+  stamped-time h size = by-test goes c
+    where
+      by-test : (g : Bool) (c : Found) → time (stamped g c q t) q ≡ stamp g c (time t q)
+      by-test true c = word-same t (timeAt q) 128 (omega arith)
+      by-test false Nowhere = refl
+      by-test false (At k) = word-same t (timeAt q) _ (omega arith)
+
+-- both together
+module _ (old : State) (q : ℕ) (t : State) where
+  turn-other : (i : ℕ) → i ≢ portAt q 0 → i ≢ portAt q 1 → i ≢ portAt q nextAt → i ≢ timeAt q → word (Round·posts old q t) i ≡ word t i
+  turn-other i a b c d = stamped-other (timeGoes old q) (chosen old q) q (unqueued old q t) i d ∙ unqueued-other old q t i a b c
+
+  turn-size : length (Round·posts old q t) ≡ length t
+  turn-size = stamped-size (timeGoes old q) (chosen old q) q (unqueued old q t) ∙ unqueued-size old q t
+
 -- ---- all timers fall, and all ports send
 
 module _ (plan : Plan) (held : Held plan) {s : State} (x : Sound plan s) where
@@ -106,50 +148,84 @@ module _ (plan : Plan) (held : Held plan) {s : State} (x : Sound plan s) where
   pub posts-sound : Sound plan posts
   posts-sound = posted-sound plan held s x falls falls-sound
 
-  falls-port : (q i : ℕ) → word falls (portAt q i) ≡ word s (portAt q i)
+  -- the timers leave every word of a port
+  falls-left : (i : ℕ) → portsAt ≤ i → word falls i ≡ word s i
   unfolding ticked
-  falls-port q i =
+  falls-left i h =
       let n = few plan held in
-      untouched (turn plan) (λ v. word (v .state) (portAt q i)) (32 * devices plan)
-      (λ j v b. tick-other (router plan (j / 32)) (j / 32) (j % 32) v (portAt q i) (omega arith) (omega arith)) start
+      untouched (turn plan) (λ v. word (v .state) i) (32 * devices plan)
+      (λ j v b. tick-other (router plan (j / 32)) (j / 32) (j % 32) v i (omega arith) (omega arith)) start
 
-  pub posts-runs : (q : ℕ) → running posts q ≡ running s q
+  pub posts-runs : (q : ℕ) → q < 256 → running posts q ≡ running s q
   unfolding posted
-  posts-runs q =
-      untouched (unqueued s) (λ t. running t q) (8 * devices plan) (λ j t b. unqueued-other s j t (portAt q runningAt) (omega arith) (omega arith) (omega arith)) falls
-      ∙ falls-port q runningAt
+  posts-runs q h =
+      untouched (Round·posts s) (λ t. running t q) (8 * devices plan)
+      (λ j t b. turn-other s j t (portAt q runningAt) (omega arith) (omega arith) (omega arith) (omega arith)) falls
+      ∙ falls-left (portAt q runningAt) (omega arith)
 
-  -- a word of a port that only its own turn changes
-  posts-own : (q i : ℕ) (change : ℕ → ℕ) → q < 8 * devices plan → i < portWords
+  -- a word that only the turn of port q changes
+  posts-own : (q i : ℕ) (change : ℕ → ℕ) → q < 8 * devices plan → portsAt ≤ i
+      → ((j : ℕ) (t : State) → j < 8 * devices plan → j ≢ q → word (Round·posts s j t) i ≡ word t i)
+      → ((t : State) → length t ≡ words → word (Round·posts s q t) i ≡ change (word t i)) → word posts i ≡ change (word s i)
+  unfolding posted
+  posts-own q i change h low others mine =
+      own (Round·posts s) (λ t. length t ≡ words) (8 * devices plan) (λ j t c e. turn-size s j t ∙ e) (λ t. word t i) change q h
+      (λ j t c ne e. others j t c ne) mine falls (falls-sound .size)
+      ∙ ap change (falls-left i low)
+
+  -- one of its four
+  posts-port : (q i : ℕ) (change : ℕ → ℕ) → q < 8 * devices plan → i < portWords
       → ((t : State) → length t ≡ words → word (unqueued s q t) (portAt q i) ≡ change (word t (portAt q i))) → word posts (portAt q i) ≡ change (word s (portAt q i))
-  unfolding posted
-  posts-own q i change h b mine =
-      own (unqueued s) (λ t. length t ≡ words) (8 * devices plan) (λ j t c e. unqueued-size s j t ∙ e) (λ t. word t (portAt q i)) change q h
-      (λ j t c ne e. unqueued-other s j t (portAt q i) (omega arith) (omega arith) (omega arith)) mine falls (falls-sound .size)
-      ∙ ap change (falls-port q i)
+  posts-port q i change h b mine =
+      let n = few plan held in
+      posts-own q (portAt q i) change h (omega arith) (λ j t c ne. turn-other s j t (portAt q i) (omega arith) (omega arith) (omega arith) (omega arith))
+      (λ t e. stamped-other (timeGoes s q) (chosen s q) q (unqueued s q t) (portAt q i) (omega arith) ∙ mine t e)
+
+  -- its word of Time-Codes
+  posts-time : (q : ℕ) → q < 8 * devices plan → time posts q ≡ stamp (timeGoes s q) (chosen s q) (time s q)
+  posts-time q h =
+      let n = few plan held in
+      posts-own q (timeAt q) (stamp (timeGoes s q) (chosen s q)) h (omega arith)
+      (λ j t c ne. turn-other s j t (timeAt q) (omega arith) (omega arith) (omega arith) (omega arith))
+      (λ t e.
+      stamped-time (timeGoes s q) (chosen s q) q (unqueued s q t) (omega arith) (unqueued-size s q t ∙ e)
+      ∙ ap (stamp (timeGoes s q) (chosen s q)) (unqueued-other s q t (timeAt q) (omega arith) (omega arith) (omega arith)))
+
+  -- after a Time-Code it was one, and its search starts where it did; after another code it was none
+  pub posts-late : (q : ℕ) → q < 8 * devices plan → timeGoes s q ≡ true → (next posts q ≡ next s q) × (lately posts q ≡ 1)
+  unfolding stamp following
+  posts-late q h g =
+      let n = few plan held in (
+        posts-port q nextAt (λ v. following v (chosen s q)) h (omega arith) (λ t e. unqueued-next s q t (omega arith) e) ∙ rw (time-chosen s q g, following),
+        rw (posts-time q h, g),
+      )
+
+  pub posts-early : (q j : ℕ) → q < 8 * devices plan → chosen s q ≡ At j → lately posts q ≡ 0
+  unfolding stamp
+  posts-early q j h c = rw (posts-time q h, chosen-first s q c .0, c) (omega arith)
 
   posts-waits : (q kind : ℕ) → q < 8 * devices plan → kind < 2 → waiting posts kind q ≡ left (chosen s q) (waiting s kind q)
   posts-waits q kind h g =
       let n = few plan held in
-      posts-own q kind (left (chosen s q)) h (omega arith) (λ t e. unqueued-waits s q t (omega arith) e kind g)
+      posts-port q kind (left (chosen s q)) h (omega arith) (λ t e. unqueued-waits s q t (omega arith) e kind g)
 
   pub posts-next : (q j : ℕ) → q < 8 * devices plan → chosen s q ≡ At j → next posts q ≡ (j + 1) % 32
   unfolding following
   posts-next q j h c =
       let n = few plan held in
-      posts-own q nextAt (λ v. following v (chosen s q)) h (omega arith) (λ t e. unqueued-next s q t (omega arith) e) ∙ ap (following (next s q)) c
+      posts-port q nextAt (λ v. following v (chosen s q)) h (omega arith) (λ t e. unqueued-next s q t (omega arith) e) ∙ ap (following (next s q)) c
 
   module _ (k : ℕ) (l : k < 32) where
     posts-timer : (d : ℕ) → d < devices plan → timer posts d k ≡ timer s d k - 1
     posts-timer d h =
         let n = few plan held in
-        posted-left plan held s (timerAt d k) falls (omega arith) ∙ ticked-timer plan held d k h l start x
+        posted-left plan held s (timerAt d k) falls (omega arith) (omega arith) ∙ ticked-timer plan held d k h l start x
 
     -- a timer that does not end leaves its bit
     pub posts-marks : (d : ℕ) → d < devices plan → (bit (register s d) k ≡ 1 → 1 < timer s d k) → bit (register posts d) k ≡ bit (register s d) k
     posts-marks d h long =
         let n = few plan held in
-        let same : register posts d ≡ register falls d = posted-left plan held s (registerAt d) falls (omega arith) in
+        let same : register posts d ≡ register falls d = posted-left plan held s (registerAt d) falls (omega arith) (omega arith) in
         let now = timed-bit (falls-sound .timers d k h (omega arith) l) in
         let fell : timer falls d k ≡ timer s d k - 1 = ticked-timer plan held d k h l start x in
         ap (λ v. bit v k) same ∙ elim (ℕ-discrete (bit (register s d) k) 1) [
@@ -175,6 +251,11 @@ module _ (plan : Plan) (held : Held plan) {s : State} (x : Sound plan s) where
           let c = posts-waits q kind i g ∙ ap (λ r. left r (waiting s kind q)) (sends-chosen l plan held s q i kind g e) in
           omega (arith, ap (λ v. bit v k) c, leave-same (waiting s kind q) k l)
 
+      -- where a Time-Code is sent, all waits on
+      pub posts-wait-late : q < 8 * devices plan → timeGoes s q ≡ true → bit (waiting s kind q) k ≡ 1 → bit (waiting posts kind q) k ≡ 1
+      unfolding left
+      posts-wait-late i o b = ap (λ v. bit v k) (posts-waits q kind i g ∙ ap (λ r. left r (waiting s kind q)) (time-chosen s q o)) ∙ b
+
       -- what is not chosen waits on
       pub posts-wait-on : (j : ℕ) → q < 8 * devices plan → chosen s q ≡ At j → j ≢ k → bit (waiting s kind q) k ≡ 1 → bit (waiting posts kind q) k ≡ 1
       unfolding left
@@ -190,7 +271,7 @@ fit-posts plan kind k s₀ takers held g l u {s} f =
     λ d h. posts-marks plan held (f .sound) k l d h (λ b. let more = f .long d h b in omega arith) in
     record {
       sound = posts-sound plan held (f .sound);
-      runs = λ q h. posts-runs plan held (f .sound) q ∙ f .runs q h;
+      runs = λ q h. posts-runs plan held (f .sound) q h ∙ f .runs q h;
       other = λ q h.
           let none : bit (waiting (afterSending plan s .state) (1 - kind) q) k ≡ 1 → ⊥ =
           λ e. omega (arith, posts-waited plan held (f .sound) k l (1 - kind) q (omega arith) h e, f .other q h) in

@@ -69,7 +69,7 @@ module _ (plan : Plan) (held : Held plan) (k : ℕ) (l : k < 32) {s : State} (x 
         sym (after .like .marks d (omega arith)) ∙ arrivals-aside .like .marks d (omega arith) ∙ posts-marks plan held x k l d h (λ b. absurd (omega arith)) ∙ off
 
     pub links-on : (q : ℕ) → q < 256 → running t q ≡ running s q
-    links-on q h = sym (after .like .runs q h) ∙ arrivals-aside .like .runs q h ∙ posts-runs plan held x q
+    links-on q h = sym (after .like .runs q h) ∙ arrivals-aside .like .runs q h ∙ posts-runs plan held x q h
 
 -- from a round on in which it waits nowhere, as long as nobody calls for it
 module _ (plan : Plan) (held : Held plan) (k : ℕ) (l : k < 32) (at : ℕ → State) (last : ℕ) (sound : (t : ℕ) → t ≤ last → Sound plan (at t))

@@ -1,30 +1,35 @@
 -- The network and the rounds as one code sees them: identifier k, as an interrupt (kind 0) or an acknowledge (kind 1).
 use mathlib.Core.Path.{_≡_}
 use mathlib.Core.Logic.{_⊎_, inl, inr, _≢_}
-use Prim.Native.Nat.{ℕ, _+_, _-_, _%_, _<_}
+use Prim.Native.Nat.{ℕ, _+_, _-_, _*_, _%_, _<_}
 use native.Mathlib.Decide.{ℕ-discrete, decLe}
 use native.Mathlib.Omega.{arith}
 use Rattle.bits.specs.Set.{bit}
 use Rattle.bits.specs.First.{after, First}
 use Rattle.bits.proofs.Firsts.{after-lt, after-same}
 use Rattle.plan.specs.declared.Plan.{Plan}
-use Rattle.state.specs.State.{State, register, waiting, next}
+use Rattle.state.specs.State.{State, register, waiting, next, lately}
 use Rattle.state.specs.Network.{devices}
 use Rattle.laws.specs.Alike.{SendsIt}
 use Rattle.flood.specs.Flood.{Sight}
 use Rattle.assurance.specs.Demand3.{crossing}
 use Rattle.assurance.proofs.Nets.{net}
+use Rattle.assurance.proofs.Turns.{SameTurn}
+
+-- how often k may be passed over at port q: for each identifier that comes before it, going round from next, by that one and by a Time-Code; and once
+-- more by a Time-Code, unless the last code sent was one
+abbrev pub rank : ℕ → State → ℕ → ℕ
+rank k s q = 2 * after (next s q) k + (1 - lately s q)
 
 -- s₀ : the state whose running flags count. takers : the devices that the code is new to
 module _ (plan : Plan) (kind k : ℕ) (s₀ : State) (takers : ℕ → Type 0) (source : ℕ) where
-  -- a device holds the code if its bit has gone over: to 1 by an interrupt, to 0 by an acknowledge; a code's rank is how many
-  -- identifiers come before it, going round from next
+  -- a device holds the code if its bit has gone over: to 1 by an interrupt, to 0 by an acknowledge
   abbrev pub sight : State → Sight (net plan kind k s₀ takers source)
   sight s =
       record {
         holds = λ d. (d < devices plan) × takers d × (bit (register s d) k ≡ 1 - kind);
         waits = λ q. (q < 256) × (bit (waiting s kind q) k ≡ 1);
-        rank = λ q. after (next s q) k;
+        rank = rank k s;
       }
 
 -- the devices that the code is new to: an interrupt where bit k is 0, an acknowledge where it is 1
@@ -35,9 +40,13 @@ takersOf kind k s d = bit (register s d) k ≡ kind
 abbrev pub sending : Plan → ℕ → ℕ → State → ℕ → Type 0
 sending plan kind k s q = (q < 256) × SendsIt plan k s kind q
 
--- the identifiers fit a crossing: fewer come before k than it has rounds
-pub rank-fits : (from k : ℕ) → after from k < crossing
-rank-fits from k = omega (arith, after-lt from k)
+-- a crossing has more rounds than k may be passed over
+pub rank-fits : (k : ℕ) (s : State) (q : ℕ) → rank k s q < crossing
+rank-fits k s q = omega (arith, after-lt (next s q) k)
+
+-- where a port's turn is the same, the rank is
+pub rank-same : (k : ℕ) {s t : State} {q : ℕ} → SameTurn s t q → rank k t q ≡ rank k s q
+rank-same k e = rw (e .start, e .late)
 
 -- ---- the choice is fair: where another identifier is sent, k is nearer afterwards
 

@@ -17,7 +17,7 @@ use Rattle.device.specs.Reaction.{marked}
 use Rattle.device.proofs.Reactions.{marked-same}
 use Rattle.plan.specs.Fields.{nobody}
 use Rattle.plan.specs.declared.Plan.{Plan}
-use Rattle.state.specs.State.{State, words, word, put, registerAt, timerAt, portsAt, portsEnd, portWords, portAt, register, timer, waiting, nextAt, next, runningAt, running}
+use Rattle.state.specs.State.{State, words, word, put, registerAt, timerAt, portsAt, portsEnd, portWords, portAt, register, timer, waiting, nextAt, next, runningAt, running, timeAt, lately}
 use Rattle.state.specs.Network.{permissions, loadOf}
 use Rattle.state.specs.Queue.{sendsAt, queueAt, queueBut, queueAllAt, queueAll}
 use Rattle.state.specs.Mark.{loaded, mark}
@@ -47,6 +47,7 @@ module _ (plan : Plan) (kind k : ℕ) where
   -- device d took the code in, and if it hands it on, queued it at its ports but one
   pub record Took (d but : ℕ) (hands : Bool) (s t : State) : Type 0 where
     pub turns : (p : ℕ) → next t p ≡ next s p
+    pub lates : (p : ℕ) → lately t p ≡ lately s p
     pub runs : (p : ℕ) → running t p ≡ running s p
     pub other : (p : ℕ) → p < 256 → bit (waiting s (1 - kind) p) k ≡ 0 → bit (waiting t (1 - kind) p) k ≡ 0
     pub more : (p : ℕ) → p < 256 → bit (waiting s kind p) k ≡ 1 → bit (waiting t kind p) k ≡ 1
@@ -195,6 +196,7 @@ module _ (plan : Plan) (kind k : ℕ) (g : kind < 2) (l : k < 32) where
         let bits : (p i : ℕ) → bit (waiting marks i p) k ≡ bit (waiting s i p) k = λ p i. ap (λ v. bit v k) (marks-port p i) in
         record {
           turns = λ p. x .turns p ∙ marks-port p nextAt;
+          lates = λ p. ap (λ v. v / 128 % 2) (left (timeAt p) (omega arith) ∙ mark-other plan kind d k (timeAt p) s (omega arith) (omega arith));
           runs = λ p. x .runs p ∙ marks-port p runningAt;
           other = λ p b e. x .other p b (bits p (1 - kind) ∙ e);
           more = λ p b e. x .more p b (bits p kind ∙ e);

@@ -141,5 +141,5 @@ module _ (plan : Plan) (k from n : ℕ) (s : State) (held : Held plan) (at-rest 
   settling-quiets until h = (
     plain until,
     idle-lasts plan held k (place sent) alone until (course-sound plan held k (place sent) until (called plan 0 from k s) alone (first sent) (plain until))
-        (later sent (plain until)) n (λ kind q g b. ap (λ v. bit v k) (settles .quiet q kind b g) ∙ bit-zero k) until h (le-refl _),
+        (later sent (plain until)) n (λ kind q g b. ap (λ v. bit v k) (settles .quiet .0 q kind b g) ∙ bit-zero k) until h (le-refl _),
   )

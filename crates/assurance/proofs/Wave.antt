@@ -1,5 +1,5 @@
 -- One round, and whatever concerns other identifiers after it, is a step of the flood; and what the steps rest on stays so.
-use mathlib.Core.Path.{_≡_, sym, _∙_}
+use mathlib.Core.Path.{_≡_, sym, ap, _∙_}
 use mathlib.Core.Bool.{true}
 use mathlib.Core.Logic.{_⊎_, inl, inr}
 use Prim.Native.Nat.{ℕ, suc, _-_, _*_, _/_, _<_}
@@ -8,7 +8,7 @@ use Rattle.bits.specs.Set.{bit}
 use Rattle.bits.specs.First.{after}
 use Rattle.plan.specs.Reading.{Held}
 use Rattle.plan.specs.declared.Plan.{Plan}
-use Rattle.state.specs.State.{State, register, waiting, next, running}
+use Rattle.state.specs.State.{State, register, waiting, running}
 use Rattle.state.specs.Network.{devices, exists, peer, loadOf}
 use Rattle.state.specs.Sound.{Sound}
 use Rattle.state.proofs.Plans.{FarEnd, few, owned, far-end}
@@ -18,10 +18,11 @@ use Rattle.reach.specs.Walk.{Leads}
 use Rattle.flood.specs.Flood.{Step}
 use Rattle.assurance.specs.Demand3.{crossing}
 use Rattle.assurance.proofs.Nets.{net}
-use Rattle.assurance.proofs.Sights.{sight, sending, rank-fits}
-use Rattle.assurance.proofs.Choices.{runs-there, waits-there, waits-runs, waits-may, waits-owned, sends-small, sends-inside, sent-waits, chosen-or-nearer}
+use Rattle.assurance.proofs.Sights.{rank, sight, sending, rank-fits, rank-same}
+use Rattle.assurance.proofs.Choices.{runs-there, waits-there, waits-runs, waits-may, waits-owned, sends-small, sends-inside, sent-waits, sent, late, nearer, chosen-or-nearer}
 use Rattle.assurance.proofs.Fits.{Fit, fit-alike}
-use Rattle.assurance.proofs.Posted.{posts-next, posts-marks, posts-waited, posts-unsent, posts-wait-on, fit-posts}
+use Rattle.assurance.proofs.Posted.{posts-late, posts-early, posts-next, posts-marks, posts-waited, posts-unsent, posts-wait-late, posts-wait-on, fit-posts}
+use Rattle.assurance.proofs.Turns.{SameTurn}
 use Rattle.assurance.proofs.Arrivals.{Came, Going, all-going, gets-in}
 
 module _ (plan : Plan) (held : Held plan) (kind k : ℕ) (g : kind < 2) (l : k < 32) (s₀ : State) (takers : ℕ → Type 0) where
@@ -50,17 +51,23 @@ module _ (plan : Plan) (held : Held plan) (kind k : ℕ) (g : kind < 2) (l : k <
     small q e = sends-small plan k kind s q l g e
 
     served : (q : ℕ) → q < 256 → bit (waiting s kind q) k ≡ 1
-        → SendsIt plan k s kind q ⊎ ((bit (waiting (round plan s .next) kind q) k ≡ 1) × (after (next (round plan s .next) q) k < after (next s q) k))
+        → SendsIt plan k s kind q ⊎ ((bit (waiting (round plan s .next) kind q) k ≡ 1) × (rank k (round plan s .next) q < rank k s q))
     served q h b =
         let o = waits-owned plan held (f .sound) q h kind k g b in
         let i : q < 8 * devices plan = omega arith in
+        let same = rank-same k (going .turns q h) in
         elim (chosen-or-nearer plan held k l s q i kind g (f .other q h) b) [
-          | inl e ↦ inl e
-          | inr c ↦
-              let j = c .0 in
+          | sent e ↦ inl e
+          | late c early ↦
+              let turn = posts-late plan held (f .sound) q i c in
               inr (
-                going .waits-on q h (posts-wait-on plan held (f .sound) k l kind q g h j i (c .1) (c .2) b),
-                rw (going .turns q, posts-next plan held (f .sound) q j i (c .1)) (c .3),
+                going .waits-on q h (posts-wait-late plan held (f .sound) k l kind q g h i c b),
+                omega (arith, same, early, turn .1, ap (λ n. after n k) (turn .0)),
+              )
+          | nearer j c ne less ↦
+              inr (
+                going .waits-on q h (posts-wait-on plan held (f .sound) k l kind q g h j i c ne b),
+                omega (arith, same, less, posts-early plan held (f .sound) q j i c, ap (λ n. after n k) (posts-next plan held (f .sound) q j i c)),
               )
         ]
 
@@ -107,17 +114,17 @@ module _ (plan : Plan) (held : Held plan) (kind k : ℕ) (g : kind < 2) (l : k <
       here : (q : ℕ) → q < 256 → bit (waiting t kind q) k ≡ bit (waiting (round plan s .next) kind q) k
       here q h = sym (like .waits kind q g h)
 
-      -- the calls change no port's next
-      pub step : ((q : ℕ) → next t q ≡ next (round plan s .next) q) → (source : ℕ)
+      -- the calls change no port's turn
+      pub step : ((q : ℕ) → q < 256 → SameTurn (round plan s .next) t q) → (source : ℕ)
           → Step (net plan kind k s₀ takers source) crossing (sight plan kind k s₀ takers source s) (sending plan kind k s) (sight plan kind k s₀ takers source t)
       step turns source =
           record {
             keeps = λ {d} h. (h .0, h .1, now d (h .0) ∙ going .keeping d (h .0) (marks d (h .0) ∙ h .2));
             waited = λ {q} h. (h .0, waited q (h .1));
-            bounded = λ {q} h. rank-fits (next s q) k;
+            bounded = λ {q} h. rank-fits k s q;
             served = λ {q} h. elim (served q (h .0) (h .1)) [
               | inl e ↦ inl (h .0, e)
-              | inr c ↦ inr ((h .0, here q (h .0) ∙ c .0), rw (turns q) (c .1))
+              | inr c ↦ inr ((h .0, here q (h .0) ∙ c .0), omega (arith, rank-same k (turns q (h .0)), c .1))
             ];
             arrives = λ {q} {e} h m. let c = arrives q e (h .1) (m .1) in (c .0, m .2, now e (c .0) ∙ c .1);
             begins = λ {e} h. elim (going .begins e (h .0) (sym (now e (h .0)) ∙ h .2)) [

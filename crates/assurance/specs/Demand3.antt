@@ -9,7 +9,7 @@ use Rattle.plan.specs.declared.Plan.{Plan}
 use Rattle.state.specs.State.{State, register, waiting}
 use Rattle.state.specs.Network.{devices, loadOf}
 use Rattle.state.specs.Sound.{Sound}
-use Rattle.calls.specs.Calls.{callAsks, called, Takes}
+use Rattle.calls.specs.Calls.{callAsks, called, Takes, Ticks}
 use Rattle.bench.specs.Round.{round}
 use Rattle.laws.specs.Alike.{SendsIt}
 use Rattle.reach.specs.Walk.{Walk}
@@ -17,12 +17,13 @@ use Rattle.reach.specs.Away.{Farthest}
 
 -- ---- what happens meanwhile
 
--- hosts call, as often as they like: they request (kind 0) and acknowledge (kind 1) any identifier at any device, refused or not; but no
+-- hosts call, as often as they like: they request (kind 0) and acknowledge (kind 1) any identifier at any device, and tick, refused or not; but no
 -- call for k is taken
 pub data Calls (plan : Plan) (k : ℕ) (s : State) : State → Type 0 where
   none : Calls plan k s s
   then : {t u : State} (kind d j number : ℕ) → Calls plan k s t → kind < 2
       → Takes plan kind d j t number u → (number ≡ 0 → j ≢ k) → Calls plan k s u
+  tick : {t u : State} (d number : ℕ) → Calls plan k s t → Ticks plan d t number u → Calls plan k s u
 
 -- so many rounds are played from s on, each with calls after it; `at t` is the state after t rounds and the calls after them
 pub record Course (plan : Plan) (k rounds : ℕ) (s : State) (at : ℕ → State) : Type 0 where
@@ -33,7 +34,7 @@ pub record Course (plan : Plan) (k rounds : ℕ) (s : State) (at : ℕ → State
 
 -- the rounds that a crossing takes at most
 abbrev pub crossing : ℕ
-crossing = 32
+crossing = 64
 
 abbrev pub window : ℕ → ℕ
 window D = crossing * (D + 1)

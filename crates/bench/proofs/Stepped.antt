@@ -1,13 +1,13 @@
 -- What each step of a round does to a world, in the cases that the code tells apart.
 use mathlib.Core.Path.{_≡_, refl, sym, ap, _∙_}
-use mathlib.Core.Bool.{Bool, true, false, cond}
+use mathlib.Core.Bool.{Bool, true, false, cond, false≢true}
 use mathlib.Core.List.{List, [], _∷_, _++_}
 use mathlib.Core.Logic.{_⊎_, inl, inr}
 use Prim.Native.Nat.{ℕ, zero, suc, _+_, _-_, _/_, _%_, _≤_, _<_}
 use native.Mathlib.Omega.{arith}
 use lib.Bits.{bitOr}
 use lib.ListN.{getD}
-use borrow.Author.Tests.{eq-eqb, ne-eqb, lt-ltb, le-ltb}
+use borrow.Author.Tests.{eq-eqb, ne-eqb, eqb-true, lt-ltb, le-ltb}
 use Rattle.bits.specs.Set.{bit, leave}
 use Rattle.bits.specs.First.{Finds, following}
 use Rattle.bits.specs.declared.Found.{Found}
@@ -20,7 +20,7 @@ use Rattle.device.specs.Reaction.{reacts}
 use Rattle.device.specs.declared.Reaction.{Reaction}
 use Rattle.device.specs.declared.Action.the-variants.{Forwarded, Told}
 use Rattle.plan.specs.declared.Plan.{Plan}
-use Rattle.state.specs.State.{State, put, word, registerAt, timerAt, portAt, register, timer, waiting, nextAt, next, counterAt, counter, timeAt, timeWaits}
+use Rattle.state.specs.State.{State, put, word, registerAt, timerAt, portAt, register, timer, waiting, nextAt, next, counterAt, counter, timeAt, timeWaits, lately}
 use Rattle.state.specs.Network.{router, peer, loadOf}
 use Rattle.bench.specs.Round.{World, nothing, ofTimeout, toldWord, tick, firstWaits, goes, timeGoes, chosen, sentWord, sends, unqueued, stamped, posts, timed, forwarded, tells, sideAt, acted, arrived, arrives}
 use Rattle.state.proofs.Words.{word-other}
@@ -100,6 +100,15 @@ module _ (old : State) (q : ℕ) where
   pub goes-not : timeWaits old q ≡ 0 → timeGoes old q ≡ false
   unfolding timeGoes goes
   goes-not e = rw (e, goes)
+
+  -- where something else waits, a Time-Code goes only if the last code sent was none
+  pub goes-early : {k : ℕ} → timeGoes old q ≡ true → firstWaits old q ≡ At k → lately old q ≡ 0
+  unfolding timeGoes goes
+  goes-early {k} g e = by-waits (timeWaits old q) (rw e at g)
+    where
+      by-waits : (n : ℕ) → goes n (lately old q) (At k) ≡ true → lately old q ≡ 0
+      by-waits zero o = absurd (false≢true o)
+      by-waits (suc v) o = eqb-true (lately old q) 0 o
 
   pub chosen-none : ((kind : ℕ) → kind < 2 → waiting old kind q ≡ 0) → chosen old q ≡ Nowhere
   unfolding chosen

@@ -6,22 +6,23 @@ use Prim.Native.Nat.{ℕ, _+_, _*_, _%_, _≤_, _<_}
 use native.Mathlib.Decide.{decLt}
 use native.Mathlib.Omega.{arith}
 use lib.Bits.{and-zero-l}
+use lib.ListN.{length}
 use Rattle.bits.specs.Set.{bit}
 use Rattle.bits.proofs.Sets.{bit-zero}
 use Rattle.device.specs.Reaction.{nextTime}
 use Rattle.plan.specs.Fields.{nobody}
 use Rattle.plan.specs.Reading.{Held}
 use Rattle.plan.specs.declared.Plan.{Plan}
-use Rattle.state.specs.State.{State, word, put, portsEnd, portAt, runningAt, counterAt, counter}
+use Rattle.state.specs.State.{State, words, word, put, portsEnd, portAt, runningAt, counterAt, counter, timeAt, lately}
 use Rattle.state.specs.Network.{devices, portsOf, exists, peer}
 use Rattle.state.specs.Sound.{Sound}
 use Rattle.state.specs.Mark.{mark}
-use Rattle.state.proofs.Words.{word-other}
+use Rattle.state.proofs.Words.{length-put, word-other}
 use Rattle.state.proofs.Plans.{FarEnd, few, port-there, far-end}
 use Rattle.state.proofs.Keeping.{device-step, empty-step, sets-step, flags-step, clock-step}
 use Rattle.state.proofs.Marks.{mark-step}
 use Rattle.state.proofs.Waits.{queue-all-sound}
-use Rattle.state.proofs.Times.{time-step, counter-step, queue-time-sound, queue-times-left}
+use Rattle.state.proofs.Times.{time-step, counter-step, queue-time-sound, length-times, queue-times-left, queue-times-lately}
 use Rattle.calls.specs.Calls.{called, cleared, emptied, untimed, drained, advanced, switched, reset}
 use Rattle.calls.proofs.Stopping.{both-drained, both-timeless}
 use Rattle.calls.proofs.Zeros.{cleared-register, cleared-timer, cleared-left, cleared-fits, emptied-left, emptied-port, emptied-flag, emptied-fits, untimed-left, untimed-counter, untimed-word, untimed-fits}
@@ -32,6 +33,17 @@ unfolding advanced
 tick-left d h s i l =
     let v = nextTime (counter s d) in
     queue-times-left i (λ q m. omega arith) v d nobody h (put s (counterAt d) v) ∙ word-other s (counterAt d) v i (omega arith)
+
+pub tick-size : (d : ℕ) (s : State) → length (advanced d s) ≡ length s
+unfolding advanced
+tick-size d s = length-times (nextTime (counter s d)) d nobody _ ∙ length-put s (counterAt d) _
+
+-- nor whether the last code that a port sent was a Time-Code
+pub tick-lately : (d : ℕ) → d < 32 → (s : State) → length s ≡ words → (q : ℕ) → q < 256 → lately (advanced d s) q ≡ lately s q
+unfolding advanced
+tick-lately d h s size q l =
+    let v = nextTime (counter s d) in
+    queue-times-lately q l v d nobody (omega arith) (put s (counterAt d) v) (length-put s (counterAt d) v ∙ size) ∙ rw (word-other s (counterAt d) v (timeAt q) (omega arith))
 
 module _ (plan : Plan) (held : Held plan) where
   -- ---- the register and the timers of a device become 0

@@ -33,7 +33,8 @@ use Rattle.state.specs.Network.{devices, router, peer, permissions, loadOf}
 use Rattle.state.specs.Sound.{Sound}
 use Rattle.state.specs.Queue.{sendsAt, queueAt, queueBut, queueAllAt}
 use Rattle.state.specs.Mark.{loaded, mark}
-use Rattle.calls.specs.Calls.{called}
+use Rattle.calls.specs.Calls.{called, advanced}
+use Rattle.calls.proofs.Called.{tick-left, tick-size}
 use Rattle.bench.specs.Round.{World, nothing, sentWords, tick, timeGoes, chosen, sends, unqueued, stamped, posts, timed, forwarded, sideAt, acted, arrived, ticked, sentBytes, posted, arrives, reached, afterTimers, afterSending, round}
 use Rattle.laws.specs.Alike.{Alike, SendsIt, SendAlike}
 use Rattle.state.proofs.Words.{length-put, word-same, word-other, put-word}
@@ -457,6 +458,12 @@ identifiers-apart plan held s t x y k l like same =
 
 pub alike-same : (k : ℕ) (s : State) → Alike k s s
 alike-same k s = record { marks = λ d h. refl; timers = λ d h. refl; waits = λ kind q g h. refl; runs = λ q h. refl }
+
+-- a tick changes nothing that concerns any identifier
+pub tick-apart : (plan : Plan) → Held plan → (s : State) → Sound plan s → (k : ℕ) → k < 32 → (d : ℕ) → d < devices plan → Alike k s (advanced d s)
+tick-apart plan held s x k l d h =
+    let start : Both k s s = record { like = alike-same k s; left = x .size; right = x .size } in
+    back (front-aside l start (tick-size d s) (tick-left d (omega (arith, few plan held)) s)) .like
 
 -- a call for another identifier changes nothing that concerns k
 pub call-apart : (plan : Plan) → Held plan → (s : State) → Sound plan s → (k : ℕ) → k < 32 → (kind d j : ℕ) → kind < 2 → d < devices plan → j < 32 → j ≢ k

@@ -123,6 +123,30 @@ module _ (i : ℕ) (out : (q : ℕ) → q < 256 → i ≢ timeAt q) where
       by-test p t l true = refl
       by-test p t l false = queue-time-left v (8 * d + p) (omega arith) t
 
+-- whether the last code sent was a Time-Code stays as it was
+module _ (p : ℕ) (small : p < 256) where
+  queue-time-lately : (v q : ℕ) → v < 64 → (s : State) → length s ≡ words → lately (queueTime v q s) p ≡ lately s p
+  unfolding queueTime
+  queue-time-lately v q h s size = by-test (eqb (running s q) 1)
+    where
+      by-test : (t : Bool) → lately (cond t (put s (timeAt q) (128 * lately s q + (v + 1))) s) p ≡ lately s p
+      by-test false = refl
+      by-test true =
+          elim (ℕ-discrete p q) [
+            | yes e ↦ rw (e, word-same s (timeAt q) (128 * lately s q + (v + 1)) (omega arith)) (omega arith)
+            | no ne ↦ rw (word-other s (timeAt q) (128 * lately s q + (v + 1)) (timeAt p) (omega arith))
+          ]
+
+  pub queue-times-lately : (v d but : ℕ) → v < 64 → (s : State) → length s ≡ words → lately (queueTimeAll v d but s) p ≡ lately s p
+  unfolding queueTimeAll
+  queue-times-lately v d but h s size =
+      keeps (queueTimeBut v d but) (λ t. (length t ≡ words) × (lately t p ≡ lately s p)) 8
+      (λ j t l x. (length-time-but v d but j t ∙ x .0, by-test j t x (eqb (8 * d + j) but))) s (size, refl) .1
+    where
+      by-test : (j : ℕ) (t : State) → (length t ≡ words) × (lately t p ≡ lately s p) → (b : Bool) → lately (cond b t (queueTime v (8 * d + j) t)) p ≡ lately s p
+      by-test j t x true = x .1
+      by-test j t x false = queue-time-lately v (8 * d + j) h t (x .0) ∙ x .1
+
 -- ---- in any area
 
 pub timed-in : (v d but : ℕ) (s : State) → length s ≡ words → d < 32 → queueTimeIn v d but s ≡ queueTimeAll v d but s
