@@ -87,7 +87,7 @@ sends-inside plan k kind s q l g e =
 
 module _ (plan : Plan) (held : Held plan) (k : ℕ) (l : k < 32) (s : State) (q : ℕ) (h : q < 8 * devices plan) where
   -- k waits here, as the kind or as the other
-  waiting-of : (kind : ℕ) → kind < 2 → bit (bitOr (waiting s 0 q) (waiting s 1 q)) k ≡ max (bit (waiting s kind q) k) (bit (waiting s (1 - kind) q) k)
+  pub waiting-of : (kind : ℕ) → kind < 2 → bit (bitOr (waiting s 0 q) (waiting s 1 q)) k ≡ max (bit (waiting s kind q) k) (bit (waiting s (1 - kind) q) k)
   waiting-of zero g = bit-or k (waiting s 0 q) (waiting s 1 q)
   waiting-of (suc zero) g = omega (arith, bit-or k (waiting s 0 q) (waiting s 1 q))
   waiting-of (suc (suc n)) g = absurd (omega arith)

@@ -3,7 +3,7 @@ use mathlib.Core.Path.{_≡_, refl, ap, _∙_}
 use mathlib.Core.Bool.{Bool, true, _&&_}
 use mathlib.Core.List.{List, []}
 use mathlib.Core.Logic.{dite}
-use Prim.Native.Nat.{ℕ, suc, _≤_, _<_}
+use Prim.Native.Nat.{ℕ, suc, _+_, _*_, _≤_, _<_}
 use native.Mathlib.Decide.{decLt}
 use native.Mathlib.Nat.{le-trans}
 use native.Mathlib.Omega.{arith}
@@ -12,6 +12,8 @@ use lib.ListN.{length, getD, List·getD-eq-default}
 use Rattle.lists.specs.Loop.{upTo}
 use Rattle.lists.specs.Table.{every}
 use Rattle.lists.proofs.Facts.{facts}
+use Rattle.lists.proofs.Loops.{keeps}
+use Rattle.answers.proofs.Outcomes.{passed, outcome-done}
 use Rattle.bits.specs.Set.{bit}
 use Rattle.bits.proofs.Sets.{bit-zero}
 use Rattle.device.specs.Permissions.{maySend, mayReceive}
@@ -20,20 +22,26 @@ use Rattle.plan.specs.declared.Plan.{Plan}
 use Rattle.plan.specs.inner.Memory.{at, right}
 use Rattle.plan.proofs.Shape.{Numbers}
 use Rattle.plan.proofs.BothWays.{right-held}
-use Rattle.state.specs.State.{State, registerAt}
+use Rattle.state.specs.State.{State, registerAt, portAt, runningAt, running}
 use Rattle.state.specs.Network.{devices}
 use Rattle.state.specs.Start.{started}
+use Rattle.state.specs.Sound.{Sound}
 use Rattle.state.proofs.Plans.{few}
 use Rattle.state.proofs.Started.{start-device, start-port, started-sound}
 use Rattle.state.proofs.Keeping.{both-kinds}
+use Rattle.calls.specs.Calls.{tickAsks, advanced}
+use Rattle.calls.proofs.Called.{tick-sound, tick-left}
 use Rattle.bench.specs.Round.{round}
+use Rattle.bench.proofs.RoundSound.{round-sound}
 use Rattle.bench.specs.Settling.{rounds}
 use Rattle.reach.specs.Walk.{Walk}
 use Rattle.reach.specs.Away.{Away, Farthest}
 use Rattle.reach.proofs.Distances.{walk-device}
-use Rattle.assurance.specs.Demand3.{Calls, none, Course}
+use Rattle.assurance.specs.Demand3.{Calls, none, tick, Course}
+use Rattle.assurance.specs.Ticking.{ticking}
 use Rattle.assurance.specs.Cycle.{AtRest}
 use Rattle.assurance.proofs.Crossings.{away-least}
+use Rattle.assurance.proofs.Flags.{round-runs}
 
 -- ---- two computed tests are true of a plan that some accepted file holds
 
@@ -96,6 +104,43 @@ module _ (plan : Plan) (held : Held plan) where
         some = some;
         most = λ n e a. let c = near e (walk-device plan held s kind k from h (a .there)) in le-trans (away-least a (c .2)) (c .1);
       }
+
+-- ---- rounds before each of which the master ticks
+
+module _ (plan : Plan) (held : Held plan) (d p : ℕ) (there : d < devices plan) (is-master : plan .core .master ≡ d + 1) (small : p < 8) where
+  -- port p of the master runs
+  record Ticks-on (s : State) : Type 0 where
+    sound : Sound plan s
+    runs : running s (8 * d + p) ≡ 1
+
+  room : d < 32
+  room = omega (arith, few plan held)
+
+  tick-on : {s : State} → Ticks-on s → Ticks-on (advanced d s)
+  tick-on {s} x = record { sound = tick-sound plan held s (x .sound) d there; runs = tick-left d room s (portAt (8 * d + p) runningAt) (omega (arith, room)) ∙ x .runs }
+
+  round-on : {s : State} → Ticks-on s → Ticks-on (round plan s .next)
+  round-on {s} x =
+      record { sound = round-sound plan held s (x .sound); runs = round-runs plan held (8 * d + p) (omega (arith, room)) s (x .sound) ∙ x .runs }
+
+  -- so the tick is taken
+  ticks : (k : ℕ) {s t : State} → Calls plan k s t → Ticks-on t → Calls plan k s (advanced d t)
+  ticks k {t = t} before x =
+      tick d 0 before (outcome-done (passed (tickAsks plan d t) [] 0 (held, (x .sound, (there, (is-master, ((p, small, x .runs), tt))))) refl) refl refl)
+
+  module _ (k : ℕ) {s u : State} (before : Calls plan k s u) (x : Sound plan u) (runs : running u (8 * d + p) ≡ 1) where
+    at-tick : (t : ℕ) → Ticks-on (ticking plan d u t)
+    unfolding ticking
+    at-tick t =
+        keeps (λ i s. advanced d (round plan s .next)) Ticks-on t (λ i s b y. tick-on (round-on y)) (advanced d u) (tick-on (record { sound = x; runs = runs }))
+
+    pub ticked : (n : ℕ) → Course plan k n s (ticking plan d u)
+    unfolding ticking upTo
+    ticked n =
+        record {
+          begins = ticks k before (record { sound = x; runs = runs });
+          goes-on = λ t h. ticks k none (round-on (at-tick t));
+        }
 
 -- 15 grants all four permissions
 pub all-grant : (kind : ℕ) → kind < 2 → (maySend kind 15 ≡ true) × (mayReceive kind 15 ≡ true)

@@ -13,6 +13,8 @@ pub mod Runs
 pub mod Crossings
 pub mod Trips
 pub mod Turns
+pub mod Flags
+pub mod Slow
 pub mod Demand
 pub mod Between
 pub mod Users

@@ -34,7 +34,7 @@ use Rattle.assurance.proofs.Fits.{Fit}
 -- ---- one port sends
 
 -- what a choice leaves of a waiting set
-unfoldable left : Found → ℕ → ℕ
+unfoldable pub left : Found → ℕ → ℕ
 left (At j) v = leave v j
 left Nowhere v = v
 
@@ -204,7 +204,7 @@ module _ (plan : Plan) (held : Held plan) {s : State} (x : Sound plan s) where
   unfolding stamp
   posts-early q j h c = rw (posts-time q h, chosen-first s q c .0, c) (omega arith)
 
-  posts-waits : (q kind : ℕ) → q < 8 * devices plan → kind < 2 → waiting posts kind q ≡ left (chosen s q) (waiting s kind q)
+  pub posts-waits : (q kind : ℕ) → q < 8 * devices plan → kind < 2 → waiting posts kind q ≡ left (chosen s q) (waiting s kind q)
   posts-waits q kind h g =
       let n = few plan held in
       posts-port q kind (left (chosen s q)) h (omega arith) (λ t e. unqueued-waits s q t (omega arith) e kind g)
@@ -216,7 +216,7 @@ module _ (plan : Plan) (held : Held plan) {s : State} (x : Sound plan s) where
       posts-port q nextAt (λ v. following v (chosen s q)) h (omega arith) (λ t e. unqueued-next s q t (omega arith) e) ∙ ap (following (next s q)) c
 
   module _ (k : ℕ) (l : k < 32) where
-    posts-timer : (d : ℕ) → d < devices plan → timer posts d k ≡ timer s d k - 1
+    pub posts-timer : (d : ℕ) → d < devices plan → timer posts d k ≡ timer s d k - 1
     posts-timer d h =
         let n = few plan held in
         posted-left plan held s (timerAt d k) falls (omega arith) (omega arith) ∙ ticked-timer plan held d k h l start x

@@ -33,6 +33,18 @@ use Rattle.assurance.proofs.Hearing.{adds-up, none-sent}
 abbrev pub Idle : ℕ → State → Type 0
 Idle k s = (kind q : ℕ) → kind < 2 → q < 256 → bit (waiting s kind q) k ≡ 0
 
+-- where no port sends it, nothing that arrives concerns it
+pub unsent-aside : (plan : Plan) → Held plan → (k : ℕ) → k < 32 → {s : State} → Sound plan s → ((q : ℕ) → SendsK plan k s q → ⊥)
+    → Both k (round plan s .next) (afterSending plan s .state)
+unfolding round reached
+unsent-aside plan held k l {s} x none =
+    let n = few plan held in
+    let posts = afterSending plan s .state in
+    let size = posts-sound plan held x .size in
+    keeps (arrives plan (sentBytes plan s)) (λ v. Both k (v .state) posts) (8 * devices plan)
+    (λ j v b p. arrives-aside l plan j (omega arith) (sentBytes plan s) v p (λ kind g e. none (peer plan j) (kind, g, e)))
+    (afterSending plan s) (record { like = alike-same k posts; left = size; right = size })
+
 module _ (plan : Plan) (held : Held plan) (k : ℕ) (l : k < 32) {s : State} (x : Sound plan s) (idle : Idle k s) where
   -- no port sends it
   pub none-sends : (q : ℕ) → SendsK plan k s q → ⊥
@@ -45,16 +57,8 @@ module _ (plan : Plan) (held : Held plan) (k : ℕ) (l : k < 32) {s : State} (x 
   unheard d h kind g m =
       omega (arith, told-some plan (ofInterrupt + kind) d k s m, none-told plan held s x d k h l kind g (λ q e. none-sends q (kind, g, e)))
 
-  -- nothing that arrives concerns it
   arrivals-aside : Both k (round plan s .next) (afterSending plan s .state)
-  unfolding round reached
-  arrivals-aside =
-      let n = few plan held in
-      let posts = afterSending plan s .state in
-      let size = posts-sound plan held x .size in
-      keeps (arrives plan (sentBytes plan s)) (λ v. Both k (v .state) posts) (8 * devices plan)
-      (λ j v b p. arrives-aside l plan j (omega arith) (sentBytes plan s) v p (λ kind g e. none-sends (peer plan j) (kind, g, e)))
-      (afterSending plan s) (record { like = alike-same k posts; left = size; right = size })
+  arrivals-aside = unsent-aside plan held k l x none-sends
 
   module _ {t : State} (after : Beside plan k (round plan s .next) t) where
     pub idle-on : Idle k t

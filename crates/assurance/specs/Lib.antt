@@ -3,3 +3,4 @@ pub mod Between
 pub mod Return
 pub mod Cycle
 pub mod Clock
+pub mod Ticking

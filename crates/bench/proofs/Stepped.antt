@@ -110,6 +110,23 @@ module _ (old : State) (q : ℕ) where
       by-waits zero o = absurd (false≢true o)
       by-waits (suc v) o = eqb-true (lately old q) 0 o
 
+  -- and then it does; after one, it does not
+  pub goes-first : {k : ℕ} → 1 ≤ timeWaits old q → lately old q ≡ 0 → firstWaits old q ≡ At k → timeGoes old q ≡ true
+  unfolding timeGoes goes
+  goes-first {k} some none e = rw e (by-waits (timeWaits old q) some)
+    where
+      by-waits : (n : ℕ) → 1 ≤ n → goes n (lately old q) (At k) ≡ true
+      by-waits zero o = absurd (omega arith)
+      by-waits (suc v) o = eq-eqb (lately old q) 0 none
+
+  pub goes-second : {k : ℕ} → lately old q ≡ 1 → firstWaits old q ≡ At k → timeGoes old q ≡ false
+  unfolding timeGoes goes
+  goes-second {k} one e = rw e (by-waits (timeWaits old q))
+    where
+      by-waits : (n : ℕ) → goes n (lately old q) (At k) ≡ false
+      by-waits zero = refl
+      by-waits (suc v) = ne-eqb (lately old q) 0 (omega arith)
+
   pub chosen-none : ((kind : ℕ) → kind < 2 → waiting old kind q ≡ 0) → chosen old q ≡ Nowhere
   unfolding chosen
   chosen-none h = by-test (timeGoes old q)

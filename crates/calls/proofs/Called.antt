@@ -13,7 +13,7 @@ use Rattle.device.specs.Reaction.{nextTime}
 use Rattle.plan.specs.Fields.{nobody}
 use Rattle.plan.specs.Reading.{Held}
 use Rattle.plan.specs.declared.Plan.{Plan}
-use Rattle.state.specs.State.{State, words, word, put, portsEnd, portAt, runningAt, counterAt, counter, timeAt, lately}
+use Rattle.state.specs.State.{State, words, word, put, portsEnd, portAt, runningAt, running, counterAt, counter, timeAt, timeWaits, lately}
 use Rattle.state.specs.Network.{devices, portsOf, exists, peer}
 use Rattle.state.specs.Sound.{Sound}
 use Rattle.state.specs.Mark.{mark}
@@ -22,7 +22,7 @@ use Rattle.state.proofs.Plans.{FarEnd, few, port-there, far-end}
 use Rattle.state.proofs.Keeping.{device-step, empty-step, sets-step, flags-step, clock-step}
 use Rattle.state.proofs.Marks.{mark-step}
 use Rattle.state.proofs.Waits.{queue-all-sound}
-use Rattle.state.proofs.Times.{time-step, counter-step, queue-time-sound, length-times, queue-times-left, queue-times-lately}
+use Rattle.state.proofs.Times.{time-step, counter-step, queue-time-sound, length-times, queue-times-left, queue-times-lately, queue-times-waits}
 use Rattle.calls.specs.Calls.{called, cleared, emptied, untimed, drained, advanced, switched, reset}
 use Rattle.calls.proofs.Stopping.{both-drained, both-timeless}
 use Rattle.calls.proofs.Zeros.{cleared-register, cleared-timer, cleared-left, cleared-fits, emptied-left, emptied-port, emptied-flag, emptied-fits, untimed-left, untimed-counter, untimed-word, untimed-fits}
@@ -37,6 +37,15 @@ tick-left d h s i l =
 pub tick-size : (d : ℕ) (s : State) → length (advanced d s) ≡ length s
 unfolding advanced
 tick-size d s = length-times (nextTime (counter s d)) d nobody _ ∙ length-put s (counterAt d) _
+
+-- at a port that runs, a Time-Code then waits
+pub tick-waits : (d p : ℕ) → d < 32 → p < 8 → (s : State) → length s ≡ words → running s (8 * d + p) ≡ 1
+    → timeWaits (advanced d s) (8 * d + p) ≡ nextTime (counter s d) + 1
+unfolding advanced
+tick-waits d p h small s size runs =
+    let v = nextTime (counter s d) in
+    queue-times-waits v d nobody p (omega arith) h small (omega arith) (put s (counterAt d) v) (length-put s (counterAt d) v ∙ size)
+    (word-other s (counterAt d) v (portAt (8 * d + p) runningAt) (omega arith) ∙ runs)
 
 -- nor whether the last code that a port sent was a Time-Code
 pub tick-lately : (d : ℕ) → d < 32 → (s : State) → length s ≡ words → (q : ℕ) → q < 256 → lately (advanced d s) q ≡ lately s q

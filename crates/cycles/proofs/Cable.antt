@@ -25,7 +25,7 @@ use Rattle.laws.specs.Requested.{AnyCalls, none, link}
 use Rattle.assurance.proofs.Taking.{called-took}
 use Rattle.assurance.proofs.Choices.{runs-there, runs-joined}
 use Rattle.cycles.specs.Cable.{Pulled, OutAndIn}
-use Rattle.cycles.proofs.Flags.{round-runs}
+use Rattle.assurance.proofs.Flags.{round-runs}
 
 module _ (plan : Plan) (held : Held plan) (d p : ℕ) (h : d < devices plan) (l : p < portsOf plan d) (joined : peer plan (8 * d + p) < nobody) where
   -- a link that is not yet what it is to be becomes that
@@ -55,7 +55,7 @@ out-and-in plan d k total s held x taken = known (holds (callAsks plan 0 d k s) 
         let runs = called-took plan 0 k (omega arith) place d small s (x .size) .runs q in
         let out = switches plan held d p there has joined false t y (omega arith) in
         let z = link-sound plan held t y d p there has joined false in
-        let stands = round-runs plan held q a z ∙ link-stops plan d p t a out .flags .0 in
+        let stands = round-runs plan held q (omega arith) a z ∙ link-stops plan d p t a out .flags .0 in
         let b = switched plan true q (round plan a .next) in
         let back = switches plan held d p there has joined true (round plan a .next) (round-sound plan held a z) (omega arith) in
         record {

@@ -44,7 +44,7 @@ module _ {plan : Plan} {n : ℕ} (x : Star plan n) (k : ℕ) (l : k < 32) (i : �
 
   -- a cycle, with node j + 1 as its handler; other calls follow the request, and none later
   pub a-cycle : AtRest plan k s → bit (source plan (suc i)) k ≡ 1 → (u : State) → Calls plan k (called plan 0 (suc i) k s) u
-      → (j gap : ℕ) → j < n → bit (handler plan (suc j)) k ≡ 1 → gap < 208
+      → (j gap : ℕ) → j < n → bit (handler plan (suc j)) k ≡ 1 → gap < 416
       → Cycle plan k (suc i) (suc j) 2 2 gap s (λ t. rounds plan t u) (λ t. rounds plan t (called plan 1 (suc j) k (rounds plan (window 2 + gap) u)))
       × FoundBack plan k (suc i) (suc j) s
   a-cycle rest own u first j gap m handles short = (

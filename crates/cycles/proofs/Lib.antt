@@ -1,6 +1,5 @@
 pub mod Stars
 pub mod Ways
-pub mod Flags
 pub mod Usual
 pub mod Conditions
 pub mod Idle

@@ -35,7 +35,7 @@ pub record Star (plan : Plan) (n : ℕ) : Type 0 where
   pub back : (j : ℕ) → j < n → peer plan (8 * suc j + 0) ≡ j
   pub no-more : (j : ℕ) → j < n → (p : ℕ) → p < 7 → peer plan (8 * suc j + suc p) ≡ nobody
   -- all loads are long
-  pub long : (k e : ℕ) → e < devices plan → 400 ≤ loadOf plan e k
+  pub long : (k e : ℕ) → e < devices plan → 800 ≤ loadOf plan e k
 
 module _ (plan : Plan) where
   abbrev granted : ℕ → Bool
@@ -52,7 +52,7 @@ module _ (plan : Plan) where
       && router plan 0
       && every (8 * devices plan) (λ q. cond (eqb (running (started plan) q) 1) (granted q) true)
       && every n ended
-      && every (devices plan) (λ e. leb 400 (loadOf plan e 0))
+      && every (devices plan) (λ e. leb 800 (loadOf plan e 0))
 
   tested-star : (n : ℕ) → shaped plan ≡ true → right plan ≡ true → starred n ≡ true → Star plan n
   unfolding loadFor

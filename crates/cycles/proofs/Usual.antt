@@ -12,7 +12,7 @@ use Rattle.calls.proofs.Called.{call-sound}
 use Rattle.bench.specs.Settling.{rounds}
 use Rattle.bench.proofs.RoundSound.{rounds-sound}
 use Rattle.assurance.proofs.Taking.{called-took}
-use Rattle.cycles.proofs.Flags.{rounds-run}
+use Rattle.assurance.proofs.Flags.{rounds-run}
 use Rattle.cycles.proofs.Stars.{Star}
 use Rattle.cycles.proofs.Ways.{Links, node-there}
 
@@ -27,7 +27,7 @@ module _ {plan : Plan} {n : ℕ} (x : Star plan n) where
   module _ {s : State} (y : Usual plan s) where
     pub usual-rounds : (t : ℕ) → Usual plan (rounds plan t s)
     usual-rounds t =
-        record { sound = rounds-sound plan (x .held) s (y .sound) t; links = λ q b. rounds-run plan (x .held) q s (y .sound) t ∙ y .links q b }
+        record { sound = rounds-sound plan (x .held) s (y .sound) t; links = λ q b. rounds-run plan (x .held) q b s (y .sound) t ∙ y .links q b }
 
     -- node i + 1 requests or acknowledges, whether it may or not
     pub usual-call : (kind i k : ℕ) → kind < 2 → i < n → k < 32 → Usual plan (called plan kind (suc i) k s)

@@ -10,6 +10,7 @@ use Rattle.state.specs.Start.{started}
 use Rattle.calls.specs.Calls.{called}
 use Rattle.bench.specs.Settling.{rounds}
 use Rattle.assurance.specs.Demand3.{window}
+use Rattle.assurance.specs.Ticking.{ticking}
 
 -- router 0, with four nodes at it and one link from itself to itself: nodes 1 and 2 are sources of every identifier, nodes 3 and 4 handlers
 unfoldable pub star : Plan
@@ -19,7 +20,7 @@ star =
           record {
             devices = 5;
             master = 0;
-            loads = 500 ∷ 400 ∷ [];
+            loads = 900 ∷ 800 ∷ [];
             role = 1 ∷ replicate 31 0;
             ports = 6 ∷ 1 ∷ 1 ∷ 1 ∷ 1 ∷ replicate 27 0;
             source = 0 ∷ (2 ^ 32 - 1) ∷ (2 ^ 32 - 1) ∷ replicate 29 0;
@@ -36,15 +37,15 @@ star =
           ∷ replicate 27 (replicate 8 nobody);
     }
 
--- the same with one source, node 1, and one handler, node 2
+-- the same with one source, node 1, and one handler, node 2, which is the master too
 unfoldable pub small : Plan
 small =
     record {
       core =
           record {
             devices = 3;
-            master = 0;
-            loads = 500 ∷ 400 ∷ [];
+            master = 3;
+            loads = 900 ∷ 800 ∷ [];
             role = 1 ∷ replicate 31 0;
             ports = 4 ∷ 1 ∷ 1 ∷ replicate 29 0;
             source = 0 ∷ (2 ^ 32 - 1) ∷ replicate 30 0;
@@ -95,6 +96,6 @@ answered t u = rounds star u (called star 1 3 1 (spreading t))
 unfoldable pub crowded : State
 crowded = upTo (called small 1 2) 31 (rounds small 2 (called small 0 1 31 (started small)))
 
--- node 2 acknowledges 31; then rounds are played
+-- node 2 acknowledges 31; then rounds are played, and it ticks before each
 unfoldable pub returning : ℕ → State
-returning t = rounds small t (called small 1 2 31 crowded)
+returning = ticking small 2 (called small 1 2 31 crowded)

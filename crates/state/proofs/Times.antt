@@ -7,8 +7,8 @@ use native.Mathlib.Decide.{decLt, ℕ-discrete}
 use native.Mathlib.Omega.{arith}
 use lib.Dec.{eqb, ltb}
 use lib.ListN.{length}
-use borrow.Author.Tests.{eq-eqb, eqb-true, lt-ltb, ltb-true}
-use Rattle.lists.proofs.Loops.{keeps, untouched}
+use borrow.Author.Tests.{eq-eqb, ne-eqb, eqb-true, lt-ltb, ltb-true}
+use Rattle.lists.proofs.Loops.{keeps, untouched, hit}
 use Rattle.plan.specs.Reading.{Held}
 use Rattle.plan.specs.declared.Plan.{Plan}
 use Rattle.state.specs.State.{State, words, word, put, portsEnd, runningAt, portAt, running, counterAt, timeAt, time, timeWaits, lately}
@@ -146,6 +146,29 @@ module _ (p : ℕ) (small : p < 256) where
       by-test : (j : ℕ) (t : State) → (length t ≡ words) × (lately t p ≡ lately s p) → (b : Bool) → lately (cond b t (queueTime v (8 * d + j) t)) p ≡ lately s p
       by-test j t x true = x .1
       by-test j t x false = queue-time-lately v (8 * d + j) h t (x .0) ∙ x .1
+
+-- at a port that runs the Time-Code waits, with that value
+pub queue-times-waits : (v d but p : ℕ) → v < 64 → d < 32 → p < 8 → 8 * d + p ≢ but → (s : State) → length s ≡ words → running s (8 * d + p) ≡ 1
+    → timeWaits (queueTimeAll v d but s) (8 * d + p) ≡ v + 1
+unfolding queueTimeAll queueTime
+queue-times-waits v d but p l h small ne s size runs =
+    hit (queueTimeBut v d but) (λ t. (length t ≡ words) × (running t (8 * d + p) ≡ 1)) 8
+    (λ j t b x. (length-time-but v d but j t ∙ x .0, but-left j t b (portAt (8 * d + p) runningAt) (omega arith) ∙ x .1))
+    (λ t. timeWaits t (8 * d + p) ≡ v + 1) p small mine
+    (λ j t a b x y. rw (but-left j t b (timeAt (8 * d + p)) (omega arith)) y) s (size, runs)
+  where
+    but-left : (j : ℕ) (t : State) → j < 8 → (i : ℕ) → i ≢ timeAt (8 * d + j) → word (queueTimeBut v d but j t) i ≡ word t i
+    but-left j t b i out = by-test (eqb (8 * d + j) but) (eqb (running t (8 * d + j)) 1)
+      where
+        by-test : (a c : Bool) → word (cond a t (cond c (put t (timeAt (8 * d + j)) (128 * lately t (8 * d + j) + (v + 1))) t)) i ≡ word t i
+        by-test true c = refl
+        by-test false true = word-other t (timeAt (8 * d + j)) _ i out
+        by-test false false = refl
+
+    mine : (t : State) → (length t ≡ words) × (running t (8 * d + p) ≡ 1) → timeWaits (queueTimeBut v d but p t) (8 * d + p) ≡ v + 1
+    mine t x =
+        rw (ne-eqb (8 * d + p) but ne, eq-eqb (running t (8 * d + p)) 1 (x .1), word-same t (timeAt (8 * d + p)) (128 * lately t (8 * d + p) + (v + 1)) (omega (arith, x .0)))
+        (omega arith)
 
 -- ---- in any area
 

@@ -3,7 +3,7 @@ use mathlib.Core.Path.{_≡_, refl, sym, ap, _∙_}
 use mathlib.Core.Bool.{Bool, true, false, cond, false≢true}
 use mathlib.Core.List.{List}
 use mathlib.Core.Logic.{_≢_, dite}
-use Prim.Native.Nat.{ℕ, zero, suc, _+_, _-_, _*_, _^_, _≤_, _<_, min}
+use Prim.Native.Nat.{ℕ, zero, suc, _+_, _-_, _*_, _/_, _^_, _≤_, _<_, min}
 use native.Mathlib.Decide.{decLt, ℕ-discrete}
 use native.Mathlib.Omega.{arith}
 use lib.Bits.{bitAnd, and-le-l, and-zero-l}
@@ -17,7 +17,7 @@ use Rattle.bits.proofs.Sets.{bit-zero, bit-and, same-members, join-other, join-
 use Rattle.device.specs.Permissions.{maySend}
 use Rattle.plan.specs.Reading.{Held}
 use Rattle.plan.specs.declared.Plan.{Plan}
-use Rattle.state.specs.State.{State, word, put, portsAt, portsEnd, portAt, waiting, running}
+use Rattle.state.specs.State.{State, word, put, portsAt, portsEnd, portWords, portAt, waiting, running}
 use Rattle.state.specs.Network.{devices, exists, permissions}
 use Rattle.state.specs.Sound.{Kept, Sound}
 use Rattle.state.specs.Queue.{sendsAt, queueAt, queueBut, queueAllAt, queueAll}
@@ -124,23 +124,33 @@ module _ (plan : Plan) (held : Held plan) where
           by-test true = y
           by-test false = let n = few plan held in queue-step plan held y (8 * d + p) (omega arith) kind k g l
 
--- ---- what queueing leaves: every word that is no port's
+-- ---- what queueing leaves: every word that is no port's, and those of the ports of other devices
 
-module _ (kind k i : ℕ) (g : kind < 2) (out : portsAt ≤ i → i < portsEnd → ⊥) where
-  queue-left : (permissions q : ℕ) → q < 256 → (s : State) → word (queueAt permissions kind k q s) i ≡ word s i
+-- word i is none of the waiting sets of device d's ports
+abbrev Apart : ℕ → ℕ → Type 0
+Apart d i = (p j : ℕ) → p < 8 → j < 2 → i ≢ portAt (8 * d + p) j
+
+module _ (kind k i : ℕ) (g : kind < 2) where
+  queue-left : (permissions q : ℕ) → ((j : ℕ) → j < 2 → i ≢ portAt q j) → (s : State) → word (queueAt permissions kind k q s) i ≡ word s i
   unfolding queueAt
-  queue-left permissions q l s = by-test (sendsAt permissions kind q s)
+  queue-left permissions q out s = by-test (sendsAt permissions kind q s)
     where
       by-test : (t : Bool)
           → word (cond t (put (put s (portAt q kind) (join (waiting s kind q) k)) (portAt q (1 - kind)) (leave (waiting s (1 - kind) q) k)) s) i ≡ word s i
-      by-test true =
-          word-other _ (portAt q (1 - kind)) _ i (λ e. out (omega arith) (omega arith)) ∙ word-other s (portAt q kind) _ i (λ e. out (omega arith) (omega arith))
+      by-test true = word-other _ (portAt q (1 - kind)) _ i (out (1 - kind) (omega arith)) ∙ word-other s (portAt q kind) _ i (out kind g)
       by-test false = refl
 
-  pub queue-all-left : (permissions : List ℕ) (d but : ℕ) → d < 32 → (s : State) → word (queueAllAt permissions kind k d but s) i ≡ word s i
+  queue-all-apart : (permissions : List ℕ) (d but : ℕ) → Apart d i → (s : State) → word (queueAllAt permissions kind k d but s) i ≡ word s i
   unfolding queueAllAt
-  queue-all-left permissions d but h s = untouched (queueBut permissions kind k d but) (λ t. word t i) 8 (λ p t l. by-test p t l (eqb (8 * d + p) but)) s
+  queue-all-apart permissions d but out s = untouched (queueBut permissions kind k d but) (λ t. word t i) 8 (λ p t l. by-test p t l (eqb (8 * d + p) but)) s
     where
       by-test : (p : ℕ) (t : State) → p < 8 → (b : Bool) → word (cond b t (queueAt (getD permissions (8 * d + p) 0) kind k (8 * d + p) t)) i ≡ word t i
       by-test p t l true = refl
-      by-test p t l false = queue-left (getD permissions (8 * d + p) 0) (8 * d + p) (omega arith) t
+      by-test p t l false = queue-left (getD permissions (8 * d + p) 0) (8 * d + p) (λ j m. out p j l m) t
+
+  pub queue-all-left : (portsAt ≤ i → i < portsEnd → ⊥) → (permissions : List ℕ) (d but : ℕ) → d < 32 → (s : State) → word (queueAllAt permissions kind k d but s) i ≡ word s i
+  queue-all-left out permissions d but h = queue-all-apart permissions d but (λ p j l m e. out (omega arith) (omega arith))
+
+pub queue-all-else : (kind k q : ℕ) → kind < 2 → (permissions : List ℕ) (d but : ℕ) → q / 8 ≢ d → (i : ℕ) → i < portWords → (s : State)
+    → word (queueAllAt permissions kind k d but s) (portAt q i) ≡ word s (portAt q i)
+queue-all-else kind k q g permissions d but ne i h = queue-all-apart kind k (portAt q i) g permissions d but (λ p j l m. omega arith)

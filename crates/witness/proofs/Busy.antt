@@ -7,12 +7,12 @@ use Rattle.lists.proofs.Loops.{keeps, hit}
 use Rattle.bits.specs.Set.{bit}
 use Rattle.device.specs.Permissions.{maySend}
 use Rattle.plan.specs.Fields.{nobody}
-use Rattle.state.specs.State.{State, register, waiting, running}
+use Rattle.state.specs.State.{State, register, waiting, nextAt, next, running, timeAt, lately}
 use Rattle.state.specs.Network.{devices, peer, permissions}
 use Rattle.state.specs.Sound.{Sound}
 use Rattle.state.specs.Start.{started}
 use Rattle.state.proofs.Plans.{few}
-use Rattle.state.proofs.Started.{start-joined, started-sound}
+use Rattle.state.proofs.Started.{start-port, start-behind, start-joined, started-sound}
 use Rattle.calls.specs.Calls.{called}
 use Rattle.calls.proofs.Called.{call-sound}
 use Rattle.laws.specs.Alike.{Alike}
@@ -28,10 +28,16 @@ use Rattle.assurance.proofs.Instances.{start-rests}
 record So (plan : Plan) (t : State) : Type 0 where
   sound : Sound plan t
   left : (j : ℕ) → 30 ≤ j → j < 32 → Alike j (started plan) t
+  turn : (next t 0 ≡ 0) × (lately t 0 ≡ 0)
 
 module _ (plan : Plan) (held : Held plan) (here : 0 < devices plan) where
   so-first : So plan (started plan)
-  so-first = record { sound = started-sound plan held; left = λ j a b. alike-same j (started plan) }
+  so-first =
+      record {
+        sound = started-sound plan held;
+        left = λ j a b. alike-same j (started plan);
+        turn = (start-port plan 0 (omega arith) nextAt (omega arith), rw (start-behind plan (timeAt 0) (omega arith)));
+      }
 
   -- connected ports run
   so-runs : (t : State) → So plan t → (q : ℕ) → q < 256 → peer plan q < nobody → running t q ≡ 1
@@ -45,6 +51,7 @@ module _ (plan : Plan) (held : Held plan) (here : 0 < devices plan) where
       record {
         sound = call-sound plan held t (x .sound) 0 0 k (omega arith) here (omega arith);
         left = λ j a b. alike-then (x .left j a b) (call-apart plan held t (x .sound) j b 0 0 k (omega arith) here (omega arith) (λ e. omega arith));
+        turn = let took = called-took plan 0 k (omega arith) (omega arith) 0 (omega arith) t (x .sound .size) in (took .turns 0 ∙ x .turn .0, took .lates 0 ∙ x .turn .1);
       }
 
   busy-so : So plan (busy plan)
@@ -60,6 +67,10 @@ module _ (plan : Plan) (held : Held plan) (here : 0 < devices plan) where
 
     pub busy-idle : (kind q : ℕ) → kind < 2 → q < 256 → bit (waiting (busy plan) kind q) j ≡ 0
     busy-idle kind q g h = sym (busy-so .left j a b .waits kind q g h) ∙ start-rests plan held j .idle kind q g h
+
+  -- the node's first port has sent nothing
+  pub busy-turn : (next (busy plan) 0 ≡ 0) × (lately (busy plan) 0 ≡ 0)
+  busy-turn = busy-so .turn
 
   pub busy-runs : (q : ℕ) → q < 256 → peer plan q < nobody → running (busy plan) q ≡ 1
   busy-runs = so-runs (busy plan) busy-so

@@ -1,26 +1,16 @@
--- The rounds of a crossing are enough, and no fewer are: where all other identifiers wait before it, a code is sent in the last of them.
--- So are the rounds of the window: until the last of them a code may wait.
+-- The rounds of a crossing are enough, and no fewer are: where all other identifiers wait before it, and a Time-Code before each of them, a code is sent
+-- in the last of them. So are the rounds of the window: until the last of them a code may wait.
 use mathlib.Core.Path.{_≡_, refl, ap, _∙_}
+use mathlib.Core.Bool.{false}
 use Prim.Native.Nat.{ℕ, _-_, _<_}
 use native.Mathlib.Omega.{arith}
-use Rattle.lists.specs.Loop.{upTo}
-use Rattle.lists.specs.Table.{table, joined}
-use Rattle.bits.specs.Set.{bit, join, leave}
-use Rattle.bits.specs.First.{searched, firstFrom, following}
-use Rattle.codes.specs.Codes.{reads}
-use Rattle.device.specs.Permissions.{maySend, mayReceive}
-use Rattle.device.specs.Reaction.{marked, ruled, reactsTo, reacts}
-use Rattle.state.specs.State.{word, put, register, waiting, stateOf}
-use Rattle.state.specs.Network.{loadFor}
-use Rattle.state.specs.Queue.{queueAt, queueAllAt}
-use Rattle.state.specs.Mark.{mark}
-use Rattle.calls.specs.Calls.{called}
-use Rattle.bench.specs.Round.{tick, chosen, sentWord, sends, unqueued, timed, forwarded, tells, acted, arrived, ticked, sentBytes, posted, arrives, reached, round}
+use Rattle.bits.specs.Set.{bit}
+use Rattle.state.specs.State.{register, waiting}
 use Rattle.assurance.specs.Demand3.{crossing, window, Demand3}
 use Rattle.assurance.proofs.Demand.{demand-3}
 use Rattle.witness.specs.Line.{line, deaf, busy, course}
 use Rattle.witness.specs.Rate.{Enough, Empties}
-use Rattle.witness.proofs.Conditions.{to-router, given, given-alone}
+use Rattle.witness.proofs.Conditions.{to-router, given, given-alone, line-slow, deaf-slow}
 
 pub enough : Enough crossing
 unfolding Enough Demand3
@@ -32,15 +22,13 @@ empties plan k source D s at x kind q t g h from to =
     let end : t ≡ window D = omega arith in
     ap (λ r. bit (waiting (at r) kind q) k) end ∙ demand-3 plan k source D s at x .gone kind q g h
 
--- computed: the router is one crossing away from node 0, and a round before the end of that crossing it does not hold 31
+-- the router is one crossing away from node 0, and a round before the end of that crossing it does not hold 31
 late : bit (register (course line (crossing - 1)) 1) 31 ≡ 0
-unfolding course busy line upTo table joined bit join leave searched firstFrom following reads maySend mayReceive marked ruled reactsTo reacts word put stateOf loadFor queueAt queueAllAt called mark tick chosen sentWord sends unqueued timed forwarded tells acted arrived ticked sentBytes posted arrives reached round
-late = refl
+late = line-slow .1
 
--- computed: no device is a crossing away from node 0, and a round before the end of the window 31 waits at its port still
+-- no device is a crossing away from node 0, and a round before the end of the window 31 waits at its port still
 waits-still : bit (waiting (course deaf (crossing - 1)) 0 0) 31 ≡ 1
-unfolding course busy deaf upTo table joined bit join leave searched firstFrom following reads maySend mayReceive marked ruled reactsTo reacts word put stateOf loadFor queueAt queueAllAt called mark tick chosen sentWord sends unqueued timed forwarded tells acted arrived ticked sentBytes posted arrives reached round
-waits-still = refl
+waits-still = deaf-slow .0
 
 pub no-fewer : (W : ℕ) → W < crossing → Enough W → ⊥
 unfolding Enough

@@ -1,6 +1,6 @@
 -- No rules: two plans, states and courses for which the demands are worked out.
 use mathlib.Core.List.{[], _∷_, _++_}
-use Prim.Native.Nat.{ℕ, zero, suc, _-_, _^_}
+use Prim.Native.Nat.{ℕ, _-_, _^_}
 use lib.ListN.{replicate}
 use Rattle.lists.specs.Loop.{upTo}
 use Rattle.plan.specs.Fields.{nobody}
@@ -8,17 +8,17 @@ use Rattle.plan.specs.declared.Plan.{Plan}
 use Rattle.state.specs.State.{State}
 use Rattle.state.specs.Start.{started}
 use Rattle.calls.specs.Calls.{called}
-use Rattle.bench.specs.Round.{round}
+use Rattle.assurance.specs.Ticking.{ticking}
 
--- node 0, source of every identifier, at router 1, and at that node 2, handler of every identifier
+-- node 0, source of every identifier and master, at router 1, and at that node 2, handler of every identifier
 unfoldable pub line : Plan
 line =
     record {
       core =
           record {
             devices = 3;
-            master = 0;
-            loads = 200 ∷ 100 ∷ [];
+            master = 1;
+            loads = 400 ∷ 300 ∷ [];
             role = 0 ∷ 1 ∷ replicate 30 0;
             ports = 1 ∷ 2 ∷ 1 ∷ replicate 29 0;
             source = (2 ^ 32 - 1) ∷ replicate 31 0;
@@ -32,15 +32,15 @@ line =
           ∷ replicate 29 (replicate 8 nobody);
     }
 
--- node 0, source of every identifier, at a port of router 1 that may not receive interrupts
+-- node 0, source of every identifier and master, at a port of router 1 that may not receive interrupts
 unfoldable pub deaf : Plan
 deaf =
     record {
       core =
           record {
             devices = 2;
-            master = 0;
-            loads = 200 ∷ 100 ∷ [];
+            master = 1;
+            loads = 400 ∷ 300 ∷ [];
             role = 0 ∷ 1 ∷ replicate 30 0;
             ports = 1 ∷ 1 ∷ replicate 30 0;
             source = (2 ^ 32 - 1) ∷ replicate 31 0;
@@ -54,7 +54,6 @@ deaf =
 unfoldable pub busy : Plan → State
 busy plan = upTo (called plan 0 0) 30 (started plan)
 
--- it requests 31, then 30; then rounds are played
+-- it requests 31, then 30; then rounds are played, and it ticks before each
 unfoldable pub course : Plan → ℕ → State
-course plan zero = called plan 0 0 30 (called plan 0 0 31 (busy plan))
-course plan (suc t) = round plan (course plan t) .next
+course plan = ticking plan 0 (called plan 0 0 30 (called plan 0 0 31 (busy plan)))
