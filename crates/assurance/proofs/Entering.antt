@@ -22,7 +22,7 @@ module _ (plan : Plan) (q : ℕ) (small : q / 8 < 32) (w : World) (k : ℕ) (P :
   pub arrives-meets : (kind : ℕ) → kind < 2 → getD sent (peer plan q) nothing ≡ byteOf kind k → ((Opens plan kind k q (w .state) → ⊥) → P (w .state))
       → (Opens plan kind k q (w .state) → P (taking plan kind k (q / 8) q (router plan (q / 8)) (w .state))) → P (arrives plan sent q w .state)
   arrives-meets kind g e refused taken =
-      arrives-any plan sent q small w (λ v. P (v .state)) (λ none. refused (none kind k g l e)) (λ v h o. absurd (omega arith))
+      arrives-any plan sent q small w (λ v. P (v .state)) (λ none big. refused (none kind k g l e)) (λ v h o. absurd (omega arith))
       (λ c j f m o y.
       let a : c ≡ kind = omega arith in
       let b : j ≡ k = omega arith in
@@ -54,6 +54,6 @@ module _ (plan : Plan) (sent : List ℕ) (q : ℕ) (h : q < 256) (w : World) (si
 
   pub arrives-turns : SameTurn (w .state) (arrives plan sent q w .state) p
   arrives-turns =
-      arrives-any plan sent q (omega arith) w (λ v. SameTurn (w .state) (v .state) p) (λ none. turn-same (w .state) p)
+      arrives-any plan sent q (omega arith) w (λ v. SameTurn (w .state) (v .state) p) (λ none big. turn-same (w .state) p)
       (λ v l e. counts-turns (isNew v q w) (router plan (q / 8)) v l)
       (λ kind k g l b o. let x = took plan kind k g l (q / 8) q (omega arith) (w .state) size (router plan (q / 8)) in record { start = x .turns p; late = x .lates p })

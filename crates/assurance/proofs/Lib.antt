@@ -15,6 +15,8 @@ pub mod Trips
 pub mod Turns
 pub mod Flags
 pub mod Slow
+pub mod Timely
+pub mod Distribution
 pub mod Demand
 pub mod Between
 pub mod Users

@@ -15,7 +15,7 @@ use Rattle.bits.specs.declared.Found.the-variants.{At, Nowhere}
 use Rattle.bits.proofs.Sets.{bit-two, leave-same, leave-other}
 use Rattle.plan.specs.Reading.{Held}
 use Rattle.plan.specs.declared.Plan.{Plan}
-use Rattle.state.specs.State.{State, words, word, put, registerAt, timerAt, portsAt, portWords, portAt, register, timer, waiting, nextAt, next, runningAt, running, timeAt, time, lately}
+use Rattle.state.specs.State.{State, words, word, put, registerAt, timerAt, portsAt, portWords, portAt, register, timer, waiting, nextAt, next, runningAt, running, counterAt, counter, timeAt, time, timeWaits, lately}
 use Rattle.state.specs.Network.{devices, router}
 use Rattle.state.specs.Sound.{Sound}
 use Rattle.state.proofs.Words.{length-put, word-same, word-other}
@@ -190,6 +190,23 @@ module _ (plan : Plan) (held : Held plan) {s : State} (x : Sound plan s) where
       (λ t e.
       stamped-time (timeGoes s q) (chosen s q) q (unqueued s q t) (omega arith) (unqueued-size s q t ∙ e)
       ∙ ap (stamp (timeGoes s q) (chosen s q)) (unqueued-other s q t (timeAt q) (omega arith) (omega arith) (omega arith)))
+
+  -- what waits there of Time-Codes: none any more, or the same
+  pub posts-time-gone : (q : ℕ) → q < 8 * devices plan → timeGoes s q ≡ true → timeWaits posts q ≡ 0
+  unfolding stamp
+  posts-time-gone q h g = rw (posts-time q h, g)
+
+  pub posts-time-on : (q : ℕ) → q < 8 * devices plan → timeGoes s q ≡ false → timeWaits posts q ≡ timeWaits s q
+  unfolding stamp
+  posts-time-on q h g = rw (posts-time q h, g) (by-choice (chosen s q))
+    where
+      by-choice : (c : Found) → stamp false c (time s q) % 128 ≡ timeWaits s q
+      by-choice Nowhere = refl
+      by-choice (At k) = omega arith
+
+  -- counters stay
+  pub posts-counter : (d : ℕ) → d < 32 → counter posts d ≡ counter s d
+  posts-counter d h = posted-left plan held s (counterAt d) falls (omega arith) (omega arith) ∙ falls-left (counterAt d) (omega arith)
 
   -- after a Time-Code it was one, and its search starts where it did; after another code it was none
   pub posts-late : (q : ℕ) → q < 8 * devices plan → timeGoes s q ≡ true → (next posts q ≡ next s q) × (lately posts q ≡ 1)

@@ -4,3 +4,4 @@ pub mod Return
 pub mod Cycle
 pub mod Clock
 pub mod Ticking
+pub mod Distribution

@@ -3,7 +3,7 @@ use mathlib.Core.Path.{_≡_, refl, sym, ap, _∙_}
 use mathlib.Core.Bool.{Bool, true, false, cond, not, _&&_}
 use mathlib.Core.List.{List, [], _∷_, _++_}
 use mathlib.Core.Logic.{_⊎_, inl, inr}
-use Prim.Native.Nat.{ℕ, _+_, _*_, _/_, _<_}
+use Prim.Native.Nat.{ℕ, _+_, _*_, _/_, _≤_, _<_}
 use native.Mathlib.Omega.{arith}
 use lib.Dec.{eqb, ltb}
 use lib.ListN.{length, getD}
@@ -13,7 +13,7 @@ use Rattle.bits.specs.Set.{bit}
 use Rattle.codes.specs.Codes.{byteOf, reads}
 use Rattle.codes.specs.declared.Code.{Code}
 use Rattle.codes.specs.declared.Code.the-variants.{Time, Interrupt, Acknowledge, Reserved}
-use Rattle.codes.proofs.BothWays.{Stands, stands, time, interrupt, acknowledge, reserved-apart}
+use Rattle.codes.proofs.BothWays.{Stands, stands, time, interrupt, acknowledge, reserved, reserved-apart}
 use Rattle.device.specs.Permissions.{mayReceive}
 use Rattle.device.specs.Reaction.{nextTime, marked, ruled, counted as Reaction·counted, reactsTo, reacts}
 use Rattle.device.specs.declared.Action.the-variants.{Named, Forwarded, Told}
@@ -84,7 +84,8 @@ counter-only s d v h =
 -- a code comes that the port is open to, and the device takes it in, and hands it on if it is a router; or a Time-Code comes; or neither does, and
 -- nothing changes. What is so in these cases is so of what arrives
 module _ (plan : Plan) (sent : List ℕ) (q : ℕ) (small : q / 8 < 32) (w : World) (P : World → Type 0)
-    (left : ((kind k : ℕ) → kind < 2 → k < 32 → getD sent (peer plan q) nothing ≡ byteOf kind k → Opens plan kind k q (w .state) → ⊥) → P w)
+    (left : ((kind k : ℕ) → kind < 2 → k < 32 → getD sent (peer plan q) nothing ≡ byteOf kind k → Opens plan kind k q (w .state) → ⊥)
+    → 64 ≤ getD sent (peer plan q) nothing → P w)
     (counted : (v : ℕ) → v < 64 → getD sent (peer plan q) nothing ≡ v → P (counts (isNew v q w) (router plan (q / 8)) v q w))
     (taken : (kind k : ℕ) → kind < 2 → k < 32 → getD sent (peer plan q) nothing ≡ byteOf kind k → Opens plan kind k q (w .state)
     → P (takes plan kind k q (router plan (q / 8)) w)) where
@@ -122,7 +123,8 @@ module _ (plan : Plan) (sent : List ℕ) (q : ℕ) (small : q / 8 < 32) (w : Wor
         (λ c j f m o y.
         let a : kind ≡ c = omega arith in
         let b : k ≡ j = omega arith in
-        n (rw (a, b) (record { runs = eq-eqb (running (w .state) q) 1 (y .runs); may = y .may; stood = y .stood }))))
+        n (rw (a, b) (record { runs = eq-eqb (running (w .state) q) 1 (y .runs); may = y .may; stood = y .stood })))
+        (omega arith))
 
     ruled-taken : P (after plan q w (ruled side bits count kind k code))
     unfolding acted
@@ -146,7 +148,11 @@ module _ (plan : Plan) (sent : List ℕ) (q : ℕ) (small : q / 8 < 32) (w : Wor
   reacts-taken : (code : Code) → Stands byte code → P (after plan q w (reactsTo side bits count code))
   unfolding reactsTo Reaction·counted acted timed forwarded tells mark
   reacts-taken (Time v) (time h) = time-taken v (isNew v q w) (router plan (q / 8)) (counted v (omega arith) (omega arith))
-  reacts-taken (Reserved top low) p = unchanged (left (λ kind k g l e o. reserved-apart kind k p g l e))
+  reacts-taken (Reserved top low) p = unchanged (left (λ kind k g l e o. reserved-apart kind k p g l e) (above p))
+    where
+      above : Stands byte (Reserved top low) → 64 ≤ byte
+      above (reserved (inl u) l e) = omega arith
+      above (reserved (inr u) l e) = omega arith
   reacts-taken (Interrupt k) (interrupt l e) = ruled-taken 0 k (omega arith) (omega arith) (omega arith) (Interrupt k) refl (λ t. refl) refl
   reacts-taken (Acknowledge k) (acknowledge l e) = ruled-taken 1 k (omega arith) (omega arith) (omega arith) (Acknowledge k) refl (λ t. refl) refl
 
@@ -155,7 +161,7 @@ module _ (plan : Plan) (sent : List ℕ) (q : ℕ) (small : q / 8 < 32) (w : Wor
   arrives-any = by-test (ltb byte nothing) refl
     where
       by-test : (t : Bool) → ltb byte nothing ≡ t → P (arrives plan sent q w)
-      by-test false e = rw e (left (λ kind k g l o. absurd (omega (arith, ltb-false byte nothing e))))
+      by-test false e = rw e (left (λ kind k g l o. absurd (omega (arith, ltb-false byte nothing e))) (omega (arith, ltb-false byte nothing e)))
       by-test true e = rw e (reacts-taken (reads byte) (stands byte))
 
 -- ---- what a Time-Code leaves
@@ -189,7 +195,7 @@ module _ (plan : Plan) (sent : List ℕ) (q : ℕ) (small : q / 8 < 32) (w : Wor
   pub arrives-taken : ((kind k : ℕ) → kind < 2 → k < 32 → getD sent (peer plan q) nothing ≡ byteOf kind k → Opens plan kind k q (w .state)
       → P (takes plan kind k q (router plan (q / 8)) w)) → P (arrives plan sent q w)
   arrives-taken =
-      arrives-any plan sent q small w P (λ none. left none w (beside-same w))
+      arrives-any plan sent q small w P (λ none big. left none w (beside-same w))
       (λ v h e. left (λ kind k g l o. absurd (omega arith)) (counts (isNew v q w) (router plan (q / 8)) v q w) (counts-beside (isNew v q w) (router plan (q / 8)) v q w small))
 
 -- nothing of these changes; or a router marks the code and queues it at its other ports; or a node marks it and tells its host
@@ -207,7 +213,7 @@ module _ (plan : Plan) (held : Held plan) where
   pub arrives-sound : (sent : List ℕ) (q : ℕ) → q / 8 < devices plan → (w : World) → Sound plan (w .state) → Sound plan (arrives plan sent q w .state)
   arrives-sound sent q h w x =
       let n = few plan held in
-      arrives-any plan sent q (omega arith) w (λ v. Sound plan (v .state)) (λ none. x)
+      arrives-any plan sent q (omega arith) w (λ v. Sound plan (v .state)) (λ none big. x)
       (λ v l e.
       let y = counter-step plan held x (q / 8) v h l in
       by-test (isNew v q w && router plan (q / 8)) (queue-time-sound plan held v (q / 8) q l (omega arith) _ y) y)

@@ -2,12 +2,13 @@
 use mathlib.Core.Path.{_≡_, refl, sym, ap, _∙_}
 use mathlib.Core.Bool.{Bool, true, false, cond, false≢true}
 use mathlib.Core.List.{List, [], _∷_, _++_}
-use mathlib.Core.Logic.{_⊎_, inl, inr}
+use mathlib.Core.Logic.{_⊎_, inl, inr, _≢_}
 use Prim.Native.Nat.{ℕ, zero, suc, _+_, _-_, _/_, _%_, _≤_, _<_}
+use native.Mathlib.Decide.{ℕ-discrete}
 use native.Mathlib.Omega.{arith}
 use lib.Bits.{bitOr}
 use lib.ListN.{getD}
-use borrow.Author.Tests.{eq-eqb, ne-eqb, eqb-true, lt-ltb, le-ltb}
+use borrow.Author.Tests.{eq-eqb, ne-eqb, eqb-true, eqb-false, lt-ltb, le-ltb}
 use Rattle.bits.specs.Set.{bit, leave}
 use Rattle.bits.specs.First.{Finds, following}
 use Rattle.bits.specs.declared.Found.{Found}
@@ -101,6 +102,25 @@ module _ (old : State) (q : ℕ) where
   unfolding timeGoes goes
   goes-not e = rw (e, goes)
 
+  -- what goes waits
+  pub goes-waits : timeGoes old q ≡ true → 1 ≤ timeWaits old q
+  unfolding timeGoes goes
+  goes-waits = by-waits (timeWaits old q)
+    where
+      by-waits : (n : ℕ) → goes n (lately old q) (firstWaits old q) ≡ true → 1 ≤ n
+      by-waits zero o = absurd (false≢true o)
+      by-waits (suc v) o = omega arith
+
+  -- what waits and does not go has another code before it, and the last one sent was a Time-Code
+  pub goes-late : 1 ≤ timeWaits old q → timeGoes old q ≡ false → (k : ℕ) × (chosen old q ≡ At k) × (lately old q ≢ 0)
+  unfolding timeGoes goes
+  goes-late some g = by-first (timeWaits old q) (firstWaits old q) some refl g
+    where
+      by-first : (n : ℕ) (c : Found) → 1 ≤ n → firstWaits old q ≡ c → goes n (lately old q) c ≡ false → (k : ℕ) × (chosen old q ≡ At k) × (lately old q ≢ 0)
+      by-first zero c o e f = absurd (omega arith)
+      by-first (suc v) Nowhere o e f = absurd (false≢true (sym f))
+      by-first (suc v) (At k) o e f = (k, first-chosen g ∙ e, eqb-false (lately old q) 0 f)
+
   -- where something else waits, a Time-Code goes only if the last code sent was none
   pub goes-early : {k : ℕ} → timeGoes old q ≡ true → firstWaits old q ≡ At k → lately old q ≡ 0
   unfolding timeGoes goes
@@ -189,6 +209,22 @@ module _ (old : State) (q : ℕ) where
       where
         leaves : b ≡ leave (waiting s 1 q) k → unqueued old q s ≡ put (put (put s (portAt q 0) a) (portAt q 1) b) (portAt q nextAt) ((k + 1) % 32)
         leaves l = rw (e, p, l, unqueued)
+
+  -- a byte below 64 is that of a Time-Code
+  pub sends-time : sends old q < 64 → timeGoes old q ≡ true
+  sends-time small = by-test (timeGoes old q) refl
+    where
+      by-choice : timeGoes old q ≡ false → (c : Found) → chosen old q ≡ c → ⊥
+      by-choice g Nowhere e = omega (arith, post-nothing g e)
+      by-choice g (At k) e =
+          elim (ℕ-discrete (bit (waiting old 0 q) k) 1) [
+            | yes y ↦ omega (arith, post-interrupt e y)
+            | no n ↦ omega (arith, post-acknowledge e n)
+          ]
+
+      by-test : (t : Bool) → timeGoes old q ≡ t → timeGoes old q ≡ true
+      by-test true g = g
+      by-test false g = absurd (by-choice g (chosen old q) refl)
 
 -- ---- 3. arrivals
 

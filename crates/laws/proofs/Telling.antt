@@ -45,13 +45,13 @@ once a b = cond (eqb a b) 1 0
 
 module _ (word : ℕ) where
   -- one more word
-  times-more : (l : List ℕ) (w : ℕ) → times word (l ++ (w ∷ [])) ≡ times word l + once w word
+  pub times-more : (l : List ℕ) (w : ℕ) → times word (l ++ (w ∷ [])) ≡ times word l + once w word
   unfolding times
   times-more [] w = omega arith
   times-more (v ∷ l) w = omega (arith, times-more l w)
 
   -- another word, which a node tells
-  times-other : (w : ℕ) → w ≢ word → (isRouter : Bool) (l : List ℕ) → times word (cond isRouter l (l ++ (w ∷ []))) ≡ times word l
+  pub times-other : (w : ℕ) → w ≢ word → (isRouter : Bool) (l : List ℕ) → times word (cond isRouter l (l ++ (w ∷ []))) ≡ times word l
   times-other w ne true l = refl
   times-other w ne false l = times-more l w ∙ rw (ne-eqb w word ne) (omega arith)
 

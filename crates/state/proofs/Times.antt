@@ -1,13 +1,13 @@
 -- A Time-Code is queued: a sound state stays sound, and no word changes but those of Time-Codes at the ports that run.
 use mathlib.Core.Path.{_≡_, refl, sym, _∙_}
 use mathlib.Core.Bool.{Bool, true, false, cond, _&&_, false≢true}
-use mathlib.Core.Logic.{_≢_, dite}
+use mathlib.Core.Logic.{_⊎_, inl, inr, _≢_}
 use Prim.Native.Nat.{ℕ, _+_, _*_, _/_, _%_, _≤_, _<_}
-use native.Mathlib.Decide.{decLt, ℕ-discrete}
+use native.Mathlib.Decide.{ℕ-discrete}
 use native.Mathlib.Omega.{arith}
 use lib.Dec.{eqb, ltb}
 use lib.ListN.{length}
-use borrow.Author.Tests.{eq-eqb, ne-eqb, eqb-true, lt-ltb, ltb-true}
+use borrow.Author.Tests.{eq-eqb, ne-eqb, eqb-true, eqb-false, lt-ltb, ltb-true}
 use Rattle.lists.proofs.Loops.{keeps, untouched, hit}
 use Rattle.plan.specs.Reading.{Held}
 use Rattle.plan.specs.declared.Plan.{Plan}
@@ -146,6 +146,29 @@ module _ (p : ℕ) (small : p < 256) where
       by-test : (j : ℕ) (t : State) → (length t ≡ words) × (lately t p ≡ lately s p) → (b : Bool) → lately (cond b t (queueTime v (8 * d + j) t)) p ≡ lately s p
       by-test j t x true = x .1
       by-test j t x false = queue-time-lately v (8 * d + j) h t (x .0) ∙ x .1
+
+-- what waits at a port is as it was, or is that Time-Code, at a port of the device other than the one left out
+pub queue-times-cases : (v d but q : ℕ) → v < 64 → q < 256 → (s : State) → length s ≡ words
+    → (timeWaits (queueTimeAll v d but s) q ≡ timeWaits s q) ⊎ ((timeWaits (queueTimeAll v d but s) q ≡ v + 1) × (q / 8 ≡ d) × (q ≢ but))
+unfolding queueTimeAll queueTime
+queue-times-cases v d but q l small s size =
+    keeps (queueTimeBut v d but) Now 8 (λ j t b x. (length-time-but v d but j t ∙ x .0, by-test j t b (x .0) (x .1) (eqb (8 * d + j) but) (eqb (running t (8 * d + j)) 1) refl)) s (size, inl refl) .1
+  where
+    Cases : State → Type 0
+    Cases t = (timeWaits t q ≡ timeWaits s q) ⊎ ((timeWaits t q ≡ v + 1) × (q / 8 ≡ d) × (q ≢ but))
+
+    Now : State → Type 0
+    Now t = (length t ≡ words) × Cases t
+
+    by-test : (j : ℕ) (t : State) → j < 8 → length t ≡ words → Cases t → (a c : Bool) → eqb (8 * d + j) but ≡ a
+        → Cases (cond a t (cond c (put t (timeAt (8 * d + j)) (128 * lately t (8 * d + j) + (v + 1))) t))
+    by-test j t b size x true c e = x
+    by-test j t b size x false false e = x
+    by-test j t b size x false true e =
+        elim (ℕ-discrete q (8 * d + j)) [
+          | yes is ↦ inr (rw (is, word-same t (timeAt (8 * d + j)) (128 * lately t (8 * d + j) + (v + 1)) (omega arith)) (omega arith), omega arith, λ o. eqb-false (8 * d + j) but e (sym is ∙ o))
+          | no ne ↦ rw (word-other t (timeAt (8 * d + j)) (128 * lately t (8 * d + j) + (v + 1)) (timeAt q) (omega arith)) x
+        ]
 
 -- at a port that runs the Time-Code waits, with that value
 pub queue-times-waits : (v d but p : ℕ) → v < 64 → d < 32 → p < 8 → 8 * d + p ≢ but → (s : State) → length s ≡ words → running s (8 * d + p) ≡ 1
