@@ -246,11 +246,17 @@ module _ (d : ℕ) (s : State) (long : length s ≡ words) where
             (λ q i h l. rw (port-of _ q i h l) (small (portAt q i)))
             (by-behind (λ i. word (untimed d s) i < 2 ^ 32) (λ e h. untimed-counter e h (λ v. v < 2 ^ 32) (omega arith) (small (counterAt e)))
             (λ q h. untimed-word q h (λ v. v < 2 ^ 32) (omega arith) (small (timeAt q)))
-            (λ i h. omega (arith, word-past (untimed d s) i (omega (arith, length-state (record {
-              registers = register s;
-              timers = timer s;
-              ports = λ q i. word s (portAt q i);
-              counters = λ e. cond (eqb e d) 0 (counter s e);
-              times = λ q. cond (eqb (q / 8) d) 0 (time s q);
-            }))))));
+            (λ i h. omega (
+              arith,
+              word-past (untimed d s) i (omega (
+                arith,
+                length-state (record {
+                  registers = register s;
+                  timers = timer s;
+                  ports = λ q i. word s (portAt q i);
+                  counters = λ e. cond (eqb e d) 0 (counter s e);
+                  times = λ q. cond (eqb (q / 8) d) 0 (time s q);
+                }),
+              )),
+            )));
       }

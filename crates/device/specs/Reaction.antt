@@ -16,7 +16,7 @@ use Rattle.device.specs.declared.Side.{Side}
 unfoldable pub marked : ℕ → ℕ → ℕ → ℕ
 marked kind register k = cond (eqb kind 0) (join register k) (cond (eqb kind 1) (leave register k) register)
 
--- nothing changes
+-- register and counter stay
 abbrev pub kept : ℕ → ℕ → Action → Reaction
 kept register counter action = record { register = register; counter = counter; action = action }
 
@@ -45,7 +45,7 @@ module _ (side : Side) (register counter : ℕ) where
 
   -- a Time-Code becomes the counter's value, and is passed on where that is one more than it was; the register stays
   unfoldable pub counted : ℕ → Reaction
-  counted v = kept register v (cond (eqb v (nextTime counter)) (passedOn (Time v)) (Named (Time v)))
+  counted v = record { register = register; counter = v; action = cond (eqb v (nextTime counter)) (passedOn (Time v)) (Named (Time v)) }
 
   unfoldable pub reactsTo : Code → Reaction
   reactsTo (Time v) = counted v

@@ -74,7 +74,7 @@ pub fn react(side: Side, register: u32, counter: u32, byte: u8) -> Reaction
     let Code::Interrupt(k) = code else {
         let Code::Acknowledge(k) = code else {
             let Code::Time(v) = code else {
-                return kept(register, counter, Action::Named(code));
+                return outcome(register, counter, Action::Named(code));
             };
             return counted(side, register, counter, v);
         };
@@ -83,8 +83,8 @@ pub fn react(side: Side, register: u32, counter: u32, byte: u8) -> Reaction
     ruled(side, register, counter, 0, k, code)
 }
 
-// Nothing changes.
-fn kept(register: u32, counter: u32, action: Action) -> Reaction
+// The three parts together.
+fn outcome(register: u32, counter: u32, action: Action) -> Reaction
     ensures { λ r. ⌜ r ≡ record { register = register; counter = counter; action = action } ⌝ }
 {
     Reaction {
@@ -110,9 +110,9 @@ fn counted(side: Side, register: u32, counter: u32, v: u8) -> Reaction
 {
     let code = Code::Time(v);
     if v as u32 != (counter % 64 + 1) % 64 {
-        return kept(register, v as u32, Action::Named(code));
+        return outcome(register, v as u32, Action::Named(code));
     }
-    kept(register, v as u32, passed_on(side.router, code))
+    outcome(register, v as u32, passed_on(side.router, code))
 }
 
 // The rule for a code of a kind with its identifier. The bit has to stand as the kind's own number:
@@ -121,14 +121,14 @@ fn ruled(side: Side, register: u32, counter: u32, kind: u8, k: u8, code: Code) -
     ensures { λ r. ⌜ r ≡ Reaction·ruled side register counter kind k code ⌝ }
 {
     if !side.running {
-        return kept(register, counter, Action::LinkError(code));
+        return outcome(register, counter, Action::LinkError(code));
     }
     if !may_receive(kind, side.permissions) {
-        return kept(register, counter, Action::Ignored(code));
+        return outcome(register, counter, Action::Ignored(code));
     }
     if bits::get(register, k as u32) != kind as u32 {
-        return kept(register, counter, Action::Ignored(code));
+        return outcome(register, counter, Action::Ignored(code));
     }
     let next = marked(kind, register, k);
-    kept(next, counter, passed_on(side.router, code))
+    outcome(next, counter, passed_on(side.router, code))
 }

@@ -22,27 +22,27 @@ module _ (side : Side) (register counter v : ℕ) where
   follows action e a = rw (eq-eqb v (nextTime counter) e, a)
 
 returns : tie.Need-returns
-returns c = c .kept .ensures ∙ another _ _ _ _ (λ e. c .before .if1 .taken (omega (arith, e)))
+returns c = c .outcome .ensures ∙ another _ _ _ _ (λ e. c .before .if1 .taken (omega (arith, e)))
 
 returns-2 : tie.Need-returns-2
-returns-2 c = c .kept2 .ensures ∙ follows _ _ _ _ _ (omega (arith, c .before .before .if1 .left)) (c .before .passed-on .ensures)
+returns-2 c = c .outcome2 .ensures ∙ follows _ _ _ _ _ (omega (arith, c .before .before .if1 .left)) (c .before .passed-on .ensures)
 
-kept-requires : tie.Need-kept-requires
-kept-requires c κs = search needs
+outcome-requires : tie.Need-outcome-requires
+outcome-requires c κs = search needs
 
 passed-on-requires : tie.Need-passed-on-requires
 passed-on-requires c κs = search needs
 
-kept-requires-2 : tie.Need-kept-requires-2
-kept-requires-2 c κs = search needs
+outcome-requires-2 : tie.Need-outcome-requires-2
+outcome-requires-2 c κs = search needs
 
 pub counted-spec : {M : Type 1} → statement M
 counted-spec =
     tie.close
     (tie.spec
     (λ c. search needs)
-    kept-requires
+    outcome-requires
     returns
     passed-on-requires
-    kept-requires-2
+    outcome-requires-2
     returns-2)

@@ -28,7 +28,7 @@ returns : tie.Need-returns
 unfolding reacts
 returns c =
     let m = c .before in
-    c .kept .ensures ∙ none _ _ _ (m .before .before .before .read .result) (m .before .before .match .keys2) (m .before .match2 .keys2) (m .match3 .keys2)
+    c .outcome .ensures ∙ none _ _ _ (m .before .before .before .read .result) (m .before .before .match .keys2) (m .before .match2 .keys2) (m .match3 .keys2)
     ∙ ap (reactsTo _ _ _) (m .before .before .before .read .ensures)
 
 returns-2 : tie.Need-returns-2
@@ -52,8 +52,8 @@ returns-4 c =
 read-requires : tie.Need-read-requires
 read-requires c κs = search needs
 
-kept-requires : tie.Need-kept-requires
-kept-requires c κs = search needs
+outcome-requires : tie.Need-outcome-requires
+outcome-requires c κs = search needs
 
 counted-requires : tie.Need-counted-requires
 counted-requires c κs = search needs
@@ -72,7 +72,7 @@ react-spec =
     (λ c. search needs)
     (λ c. search needs)
     (λ c. search needs)
-    kept-requires
+    outcome-requires
     returns
     counted-requires
     returns-2
