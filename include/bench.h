@@ -10,8 +10,8 @@
  *      that cannot be lent (see below)         10 the link is already so
  *    4 no such device or port                  11 an allowance above BENCH_ROUNDS
  *    5 an identifier or a value too great,     12 still waiting after the allowance
- *      or a code that nobody writes            20 to 26 a plan file that is not accepted
- *    6 no source or no handler of it
+ *      or a code that nobody writes            14 a tick at a device that is not the master
+ *    6 no source or no handler of it           20 to 26 a plan file that is not accepted
  *    7 no port runs, or the port leads nowhere
  *
  * What is wrong with the file: 20 its length; of a block 21 the check, 22 the kind or the number, 23 a field, 24 a byte that has
@@ -45,15 +45,17 @@ typedef char bench_size_fits_an_address[sizeof(bench_size) == sizeof(void *) ? 1
 
 /* Lengths: of a state and of the areas for what is sent and told, in words; of the least area for a text and of the longest plan
  * file, in bytes. */
-enum { BENCH_STATE = 2080, BENCH_SENT = 256, BENCH_TOLD = 1088, BENCH_TEXT = 14347, BENCH_FILE = 16896 };
+enum { BENCH_STATE = 2368, BENCH_SENT = 256, BENCH_TOLD = 1088, BENCH_TEXT = 14347, BENCH_FILE = 16896 };
 
 /* The most rounds that may be allowed, and the word of a port that sent nothing. */
 enum { BENCH_ROUNDS = 4096, BENCH_NOTHING = 256 };
 
 /* Where words stand in a state. Device d has its register at BENCH_DEVICE x d, and behind it its 32 timers. Port p of device d has
  * BENCH_PORT words from BENCH_PORTS + BENCH_PORT x (8 x d + p) on: two sets that wait, interrupts and acknowledges, then its next
- * and whether it runs. */
+ * and whether it runs. Device d has its counter, 0 to 63, at BENCH_COUNTERS + d. Port p of it has at BENCH_TIMES + 8 x d + p the
+ * Time-Code that waits plus 1, or 0 where none does, and 128 more where the last code that it sent was a Time-Code. */
 enum { BENCH_DEVICE = 33, BENCH_PORTS = 1056, BENCH_PORT = 4, BENCH_NEXT = 2, BENCH_RUNNING = 3 };
+enum { BENCH_COUNTERS = 2080, BENCH_TIMES = 2112 };
 
 /* Kinds of code. */
 enum { BENCH_TIME, BENCH_INTERRUPT, BENCH_ACKNOWLEDGE, BENCH_RESERVED };
@@ -67,8 +69,8 @@ enum { BENCH_NAMED, BENCH_LINK_ERROR, BENCH_IGNORED, BENCH_FORWARDED, BENCH_TOLD
 enum {
     BENCH_STACK_CODE_READ = 256, BENCH_STACK_CODE_WRITE = 256, BENCH_STACK_REACT = 256, BENCH_STACK_PLAN_READ = 9216,
     BENCH_STACK_START = 10240, BENCH_STACK_REQUEST = 11264, BENCH_STACK_ACKNOWLEDGE = 11264, BENCH_STACK_LINK = 10240,
-    BENCH_STACK_RESET = 10240, BENCH_STACK_ROUND = 10240, BENCH_STACK_SETTLE = 17408, BENCH_STACK_REACH = 28672,
-    BENCH_STACK_REPORT = 41984,
+    BENCH_STACK_RESET = 10240, BENCH_STACK_TICK = 11264, BENCH_STACK_ROUND = 10240, BENCH_STACK_SETTLE = 17408,
+    BENCH_STACK_REACH = 28672, BENCH_STACK_REPORT = 41984,
     BENCH_STACK_PROGRAM_SETTLE = 73728, BENCH_STACK_PROGRAM_DECODE = 92160
 };
 
@@ -77,8 +79,8 @@ enum {
 
 bench_u32 bench_for_header_code_read_2(bench_u8 byte, bench_u32 *top, bench_u32 *value);
 bench_u32 bench_for_header_code_write(bench_u32 kind, bench_u32 value, bench_u32 *byte);
-bench_u32 bench_for_header_react_2(bench_u32 role, bench_u32 running, bench_u32 permissions, bench_u32 *bits, bench_u8 byte,
-                                 bench_u32 *kind, bench_u32 *top, bench_u32 *value);
+bench_u32 bench_for_header_react_3(bench_u32 role, bench_u32 running, bench_u32 permissions, bench_u32 *bits,
+                                   bench_u32 *counter, bench_u8 byte, bench_u32 *kind, bench_u32 *top, bench_u32 *value);
 bench_u32 bench_for_header_plan_read(const bench_u8 *file, bench_size file_length, bench_u32 *block);
 bench_u32 bench_for_header_start(const bench_u8 *plan, bench_size plan_length, bench_u32 *state, bench_size state_length);
 bench_u32 bench_for_header_request(const bench_u8 *plan, bench_size plan_length, bench_u32 *state, bench_size state_length,
@@ -89,6 +91,8 @@ bench_u32 bench_for_header_link(const bench_u8 *plan, bench_size plan_length, be
                                 bench_size device, bench_size port, bench_u32 running);
 bench_u32 bench_for_header_reset(const bench_u8 *plan, bench_size plan_length, bench_u32 *state, bench_size state_length,
                                  bench_size device);
+bench_u32 bench_for_header_tick(const bench_u8 *plan, bench_size plan_length, bench_u32 *state, bench_size state_length,
+                                bench_size device);
 bench_u32 bench_for_header_round(const bench_u8 *plan, bench_size plan_length, const bench_u32 *old, bench_size old_length,
                                  bench_u32 *next, bench_size next_length, bench_u32 *sent, bench_size sent_length,
                                  bench_u32 *told, bench_size told_length, bench_u32 *count);
@@ -145,13 +149,16 @@ static inline int bench_apart(const struct bench_lent *all, int count) {
     return 1;
 }
 
-/* Puts a value where the caller wants it, byte by byte, as the place need not be aligned. */
-static inline void bench_put(bench_u32 *place, bench_u32 value) {
-    const bench_u8 *from = (const bench_u8 *)&value;
-    bench_u8 *to = (bench_u8 *)place;
+/* A value goes byte by byte to or from where the caller has it, as the place need not be aligned. At null there is none: nothing
+ * goes there, and what it goes to stays. */
+static inline void bench_move(bench_u32 *to, const bench_u32 *from) {
     unsigned i;
-    for (i = 0; place && i < sizeof value; i++)
-        to[i] = from[i];
+    for (i = 0; to && from && i < sizeof *to; i++)
+        ((bench_u8 *)to)[i] = ((const bench_u8 *)from)[i];
+}
+
+static inline void bench_put(bench_u32 *place, bench_u32 value) {
+    bench_move(place, &value);
 }
 
 /* The value of a call that refuses what it is lent, whose place is the i-th of that: 0, or as it was where the place is shared. */
@@ -163,8 +170,9 @@ static inline void bench_put_none(const struct bench_lent *all, int count, int i
     bench_put(place, 0);
 }
 
-/* ---- codes, and one device: nothing is refused by 3. A register is read before anything is put. Where places share bytes, the
- * register is put first, and then the values in the order of the parameters, so that the last one stands. */
+/* ---- codes, and one device: nothing is refused by 3. Register and counter are read before anything is put. Where places share
+ * bytes, the register is put first, then the counter, and then the values in the order of the parameters, so that the last one
+ * stands. */
 
 /* The kind of the code in a byte. Its two top bits go to *top: 0 for a Time-Code, 2 for an interrupt or an acknowledge, 1 or 3 for
  * reserved. To *value goes the Time-Code's value, the identifier, or the low six bits of a reserved byte; that byte is 64 x top +
@@ -184,17 +192,18 @@ static inline bench_u32 bench_code_write(bench_u32 kind, bench_u32 value, bench_
 }
 
 /* One device gets a byte at a port: role 0 for a node, else a router; running 0 for no. Its register is updated where it
- * stands, at bits; null is a register of 0 that nobody wants back. Returns what the device does; kind, top and value are those of
- * the byte, as bench_code_read gives them, whatever is done with it. */
-static inline bench_u32 bench_react(bench_u32 role, bench_u32 running, bench_u32 permissions, bench_u32 *bits, bench_u8 byte,
-                                    bench_u32 *kind, bench_u32 *top, bench_u32 *value) {
-    const bench_u8 *from = (const bench_u8 *)bits;
-    bench_u32 held = 0, of, high, given, action;
-    unsigned i;
-    for (i = 0; bits && i < sizeof held; i++)
-        ((bench_u8 *)&held)[i] = from[i];
-    action = bench_for_header_react_2(role, running, permissions, &held, byte, &of, &high, &given);
+ * stands, at bits, and so is its counter, of which a number above 63 counts as its remainder by 64; null is one of 0 that nobody
+ * wants back. A Time-Code becomes the counter, and is forwarded or told where it is one above it, modulo 64, and else named.
+ * Returns what the device does; kind, top and value are those of the byte, as bench_code_read gives them, whatever is done with
+ * it. */
+static inline bench_u32 bench_react(bench_u32 role, bench_u32 running, bench_u32 permissions, bench_u32 *bits,
+                                    bench_u32 *counter, bench_u8 byte, bench_u32 *kind, bench_u32 *top, bench_u32 *value) {
+    bench_u32 held = 0, count = 0, of, high, given, action;
+    bench_move(&held, bits);
+    bench_move(&count, counter);
+    action = bench_for_header_react_3(role, running, permissions, &held, &count, byte, &of, &high, &given);
     bench_put(bits, held);
+    bench_put(counter, count);
     bench_put(kind, of);
     bench_put(top, high);
     bench_put(value, given);
@@ -246,7 +255,7 @@ static inline bench_u32 bench_acknowledge(const bench_u8 *plan, bench_size plan_
 }
 
 /* The link at a port: running is what it is to be, 0 stops it and any other number starts it. 20 to 26; 2; 4; 7; 10 where it is
- * so already. A stop loses what waits at both ends; registers, timers and where searches begin stay. */
+ * so already. A stop loses what waits at both ends, Time-Codes too; registers, timers, counters and where searches begin stay. */
 static inline bench_u32 bench_link(const bench_u8 *plan, bench_size plan_length, bench_u32 *state, bench_size state_length,
                                    bench_size device, bench_size port, bench_u32 running) {
     if (!bench_two_apart(plan, plan_length, state, state_length))
@@ -262,11 +271,21 @@ static inline bench_u32 bench_reset(const bench_u8 *plan, bench_size plan_length
     return bench_for_header_reset(plan, plan_length, state, state_length, device);
 }
 
+/* The host of the master ticks: its counter goes up by one, from 63 to 0, and the Time-Code is queued at all its ports that run.
+ * 20 to 26; 2; 4; 14; 7. */
+static inline bench_u32 bench_tick(const bench_u8 *plan, bench_size plan_length, bench_u32 *state, bench_size state_length,
+                                   bench_size device) {
+    if (!bench_two_apart(plan, plan_length, state, state_length))
+        return 3;
+    return bench_for_header_tick(plan, plan_length, state, state_length, device);
+}
+
 /* ---- rounds, settling, reach, and the text */
 
 /* One round from an old state. The word of the bytes sent at 8 x device + port is the byte that the port sent, or
  * BENCH_NOTHING; a word told has the identifier in its low byte, the device in the next, and above them 1 for an interrupt, 2 for
- * an acknowledge or 3 for a timeout. How many words were told goes to *count, and behind them are zeros. 20 to 26; 2; 3. */
+ * an acknowledge or 3 for a timeout; or 4 for a Time-Code, with its value in the low byte. How many words were told goes to
+ * *count, and behind them are zeros. 20 to 26; 2; 3. */
 static inline bench_u32 bench_round(const bench_u8 *plan, bench_size plan_length, const bench_u32 *old, bench_size old_length,
                                     bench_u32 *next, bench_size next_length, bench_u32 *sent, bench_size sent_length,
                                     bench_u32 *told, bench_size told_length, bench_u32 *count) {
@@ -284,8 +303,8 @@ static inline bench_u32 bench_round(const bench_u8 *plan, bench_size plan_length
     return number;
 }
 
-/* Rounds until no port waits; how many goes to *rounds. 20 to 26; 2; 11; 12: still waiting, *rounds is the allowance
- * and the state is the one after it. */
+/* Rounds until nothing waits at any port, no Time-Code either; how many goes to *rounds. 20 to 26; 2; 11; 12: still waiting,
+ * *rounds is the allowance and the state is the one after it. */
 static inline bench_u32 bench_settle(const bench_u8 *plan, bench_size plan_length, bench_u32 *state, bench_size state_length,
                                      bench_u32 allowance, bench_u32 *rounds) {
     const struct bench_lent all[] = {bench_bytes(plan, plan_length), bench_words(state, state_length), bench_place(rounds)};

@@ -94,6 +94,26 @@ u32 judge_start(const u8 *plan, size plan_length, u32 *state, size state_length)
     return 0;
 }
 
+/* The host of the master ticks. No permission is asked for. */
+u32 judge_tick(const u8 *plan, size plan_length, u32 *state, size state_length, size device) {
+    struct network net;
+    u32 number = network_read(&net, plan, plan_length, state, state_length);
+    if (number)
+        return number;
+    if (device >= net.devices)
+        return 4;
+    if (device != net.master)
+        return 14;
+    struct device *master = &net.device[device];
+    if (!any_runs(master))
+        return 7;
+    master->counter = (master->counter + 1) % TIMES;
+    for (u32 p = 0; p < master->ports; p++)
+        queue(&master->port[p], (struct code){TIME_CODE, master->counter});
+    state_write(&net, state);
+    return 0;
+}
+
 /* The running flags stay: a reset stops no link. */
 u32 judge_reset(const u8 *plan, size plan_length, u32 *state, size state_length, size device) {
     struct network net;

@@ -25,15 +25,25 @@ u32 code_byte(struct code code) {
 }
 
 void permit(u32 permissions, flag may_send[], flag may_receive[]) {
+    may_send[TIME_CODE] = may_receive[TIME_CODE] = 1;
     may_send[INTERRUPT] = permissions & 1;
     may_receive[INTERRUPT] = permissions & 2;
     may_send[ACKNOWLEDGE] = permissions & 4;
     may_receive[ACKNOWLEDGE] = permissions & 8;
 }
 
+/* Any Time-Code becomes the counter, and one that is just above it is taken, whatever the port is and may. */
+static enum action react_to_time(flag router, u32 *counter, u32 value) {
+    flag above = (*counter + 1) % TIMES == value;
+    *counter = value;
+    return !above ? NAMED : router ? FORWARDED : TELLS_HOST;
+}
+
 /* The order is the paper's: a stopped port is a link error even where nothing may be received. */
-enum action react(flag router, flag running, const flag may_receive[], flag set[], struct code code) {
-    if (code.kind != INTERRUPT && code.kind != ACKNOWLEDGE)
+enum action react(flag router, flag running, const flag may_receive[], flag set[], u32 *counter, struct code code) {
+    if (code.kind == TIME_CODE)
+        return react_to_time(router, counter, code.value);
+    if (code.kind == RESERVED)
         return NAMED;
     if (!running)
         return LINK_ERROR;
@@ -64,13 +74,14 @@ u32 judge_code_write(u32 kind, u32 value, u32 *byte) {
 }
 
 /* The code is handed on as it was read, whatever is done with it. */
-u32 judge_react(u32 role, u32 running, u32 permissions, u32 *device_register, u8 byte, u32 *kind, u32 *top, u32 *value) {
+u32 judge_react(u32 role, u32 running, u32 permissions, u32 *device_register, u32 *counter, u8 byte, u32 *kind, u32 *top,
+                u32 *value) {
     flag may_send[ACKNOWLEDGE + 1], may_receive[ACKNOWLEDGE + 1], set[IDENTIFIERS];
     *kind = judge_code_read(byte, top, value);
     permit(permissions, may_send, may_receive);
     for (u32 k = 0; k < IDENTIFIERS; k++)
         set[k] = *device_register >> k & 1;
-    enum action action = react(role != 0, running != 0, may_receive, set, (struct code){*kind, *value});
+    enum action action = react(role != 0, running != 0, may_receive, set, counter, (struct code){*kind, *value});
     *device_register = 0;
     for (u32 k = 0; k < IDENTIFIERS; k++)
         *device_register |= (u32)set[k] << k;

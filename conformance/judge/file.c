@@ -3,7 +3,7 @@
 
 /* An entry of a port in a device's block: peer device, peer port, permissions, zero. */
 enum { FIRST_ENTRY = 12, ENTRY = 4, PEER_DEVICE = 0, PEER_PORT = 1, PERMISSIONS = 2, SPARE = 3, NOWHERE = 255 };
-enum { BEHIND_FIELDS_0 = 6, BEHIND_FIELDS = FIRST_ENTRY + ENTRY * PORTS, CHECK_AT = 510 };
+enum { BEHIND_LOADS = 6, MASTER = 10, BEHIND_FIELDS = FIRST_ENTRY + ENTRY * PORTS, CHECK_AT = 510 };
 
 static u32 number_at(const u8 *at, u32 bytes) {
     return bytes ? at[0] + 256 * number_at(at + 1, bytes - 1) : 0;
@@ -16,8 +16,8 @@ u32 block_check(const u8 *block) {
     return sum % 65521;
 }
 
-static flag zero(const u8 *block, u32 from) {
-    for (u32 i = from; i < CHECK_AT; i++)
+static flag zero(const u8 *block, u32 from, u32 to) {
+    for (u32 i = from; i < to; i++)
         if (block[i])
             return 0;
     return 1;
@@ -39,7 +39,10 @@ static u32 block_0_read(struct network *net, const u8 *block) {
         return 23;
     if (net->router_load < 1 || net->node_load < 1 || net->router_load > net->node_load)
         return 23;
-    return zero(block, BEHIND_FIELDS_0) ? 0 : 24;
+    if (block[MASTER] > net->devices)
+        return 23;
+    net->master = block[MASTER] ? block[MASTER] - 1 : NO_MASTER;
+    return zero(block, BEHIND_LOADS, MASTER) && zero(block, MASTER + 1, CHECK_AT) ? 0 : 24;
 }
 
 static flag entry_good(const u8 *entry, flag exists, u32 devices) {
@@ -67,12 +70,13 @@ static flag role_read(struct device *device, const u8 *block) {
     return device->ports >= 1 && device->ports <= (device->router ? PORTS : NODE_PORTS);
 }
 
-static u32 device_block_read(struct device *device, const u8 *block, u32 devices) {
+/* Block 0 names the master, but only here it is seen that it is a router. */
+static u32 device_block_read(struct device *device, const u8 *block, u32 devices, u32 master) {
     if (number_at(block + CHECK_AT, 2) != block_check(block))
         return 21;
     if (block[0] != 2 || block[1] != device->number)
         return 22;
-    if (!role_read(device, block))
+    if (!role_read(device, block) || (device->router && device->number == master))
         return 23;
     for (u32 p = 0; p < PORTS; p++) {
         const u8 *entry = block + FIRST_ENTRY + ENTRY * p;
@@ -81,7 +85,7 @@ static u32 device_block_read(struct device *device, const u8 *block, u32 devices
         permit(entry[PERMISSIONS], device->port[p].may_send, device->port[p].may_receive);
         device->port[p].device = device;
     }
-    return zero(block, BEHIND_FIELDS) ? 0 : 24;
+    return zero(block, BEHIND_FIELDS, CHECK_AT) ? 0 : 24;
 }
 
 /* The other end is a port that its device has, another one than this, and its entry names this one. A port that leads nowhere has
@@ -112,7 +116,7 @@ u32 file_read(struct network *net, const u8 *file, size length, u32 *block) {
     for (u32 d = 0; d < net->devices; d++) {
         *block = 1 + d;
         net->device[d].number = d;
-        number = device_block_read(&net->device[d], file + BLOCK * *block, net->devices);
+        number = device_block_read(&net->device[d], file + BLOCK * *block, net->devices, net->master);
         if (number)
             return number;
     }

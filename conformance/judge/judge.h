@@ -1,8 +1,9 @@
 /* The judge: the paper's bench, written again from the paper alone and made to be read beside it.
  *
- * It keeps no area of words and no masks. A device has a flag and a timer per identifier, a port points to its peer and
- * knows for each identifier what waits. Files and areas are turned into these records, and back, at the edge: file.c and
- * state.c. The calls at the end take what those of include/bench.h take, and answer with the same numbers. */
+ * It keeps no area of words and no masks. A device has a flag and a timer per identifier, and a counter; a port points to its
+ * peer and knows for each identifier what waits, and which Time-Code does. Files and areas are turned into these records, and
+ * back, at the edge: file.c and state.c. The calls at the end take what those of include/bench.h take, and answer with the same
+ * numbers. */
 #ifndef JUDGE_H
 #define JUDGE_H
 
@@ -11,12 +12,17 @@ typedef unsigned char u8;
 typedef unsigned int u32;
 typedef unsigned long size;
 
-enum { DEVICES = 32, PORTS = 8, NODE_PORTS = 2, IDENTIFIERS = 32, BLOCK = 512, LONGEST_FILE = BLOCK * (1 + DEVICES) };
-enum { STATE_WORDS = 2080, SENT_WORDS = 256, TOLD_WORDS = 1088, TEXT_BYTES = 14347, MOST_ALLOWED = 4096, SENT_NONE = 256 };
+enum { DEVICES = 32, PORTS = 8, NODE_PORTS = 2, IDENTIFIERS = 32, TIMES = 64 };
+enum { BLOCK = 512, LONGEST_FILE = BLOCK * (1 + DEVICES) };
+enum { STATE_WORDS = 2368, SENT_WORDS = 256, TOLD_WORDS = 1088, TEXT_BYTES = 14347, MOST_ALLOWED = 4096, SENT_NONE = 256 };
 
 /* The words of a state. Of a device: the register and the timers. Behind all devices, of a port: these four. */
 enum { AT_INTERRUPTS, AT_ACKNOWLEDGES, AT_NEXT, AT_RUNNING, PORT_WORDS };
 enum { DEVICE_WORDS = 1 + IDENTIFIERS, FIRST_PORT = DEVICE_WORDS * DEVICES };
+
+/* Behind all ports the counters, by device, and then a word of each port: the Time-Code that waits plus 1, or 0, and AFTER_TIME
+ * more where the last code that the port sent was a Time-Code. */
+enum { FIRST_COUNTER = FIRST_PORT + PORT_WORDS * PORTS * DEVICES, FIRST_TIME = FIRST_COUNTER + DEVICES, AFTER_TIME = 128 };
 
 /* Kinds of code. NOTHING is what waits, or is sent, where no code does. */
 enum kind { TIME_CODE, INTERRUPT, ACKNOWLEDGE, RESERVED, NOTHING };
@@ -25,10 +31,12 @@ struct code {
     u32 value;
 };
 
+enum { NO_TIME = TIMES, NO_MASTER = DEVICES };
+
 /* What a device does with a code. */
 enum action { NAMED, LINK_ERROR, IGNORED, FORWARDED, TELLS_HOST };
 
-/* Permissions are looked up by kind: INTERRUPT or ACKNOWLEDGE. */
+/* Permissions are looked up by kind: TIME_CODE, which needs none, INTERRUPT or ACKNOWLEDGE. */
 struct port {
     struct device *device;
     struct port *peer; /* null where the port leads nowhere */
@@ -36,6 +44,8 @@ struct port {
     flag running;
     enum kind waiting[IDENTIFIERS]; /* one kind at most: the two waiting sets have nothing in common */
     u32 next;
+    u32 time; /* the Time-Code that waits, or NO_TIME */
+    flag after_time; /* the last code sent was a Time-Code */
     struct code sent; /* in the round that is being played */
 };
 
@@ -46,11 +56,13 @@ struct device {
     flag source[IDENTIFIERS], handler[IDENTIFIERS];
     flag set[IDENTIFIERS]; /* the register */
     u32 timer[IDENTIFIERS];
+    u32 counter;
     struct port port[PORTS];
 };
 
 struct network {
     u32 devices, router_load, node_load;
+    u32 master; /* a device, or NO_MASTER */
     struct device device[DEVICES];
 };
 
@@ -60,10 +72,10 @@ struct told {
     u32 word[TOLD_WORDS];
 };
 
-/* code.c: codes, and one device's reaction, which changes the register and says what is done. */
+/* code.c: codes, and one device's reaction, which changes the register and the counter and says what is done. */
 u32 code_byte(struct code code);
 void permit(u32 permissions, flag may_send[], flag may_receive[]);
-enum action react(flag router, flag running, const flag may_receive[], flag set[], struct code code);
+enum action react(flag router, flag running, const flag may_receive[], flag set[], u32 *counter, struct code code);
 
 /* file.c: the number of the first fault in a plan file, or 0 with the plan in the network. */
 u32 block_check(const u8 *block);
@@ -71,7 +83,7 @@ u32 file_read(struct network *net, const u8 *file, size length, u32 *block);
 
 /* state.c: the areas' edge. network_read gives the number of a refused file, 2, or 0 with plan and state in the network. */
 void clear_device(struct device *device);
-void clear_waiting(struct port *port);
+void clear_waiting(struct port *port); /* of Time-Codes the last one sent too, so that the port's word is 0 */
 void start(struct network *net);
 u32 network_read(struct network *net, const u8 *plan, size plan_length, const u32 *state, size state_length);
 void state_write(const struct network *net, u32 *words);
@@ -91,13 +103,15 @@ u32 crossings(const struct network *net, u32 start, enum kind kind, const u32 *w
 /* The calls, as in include/bench.h. */
 u32 judge_code_read(u8 byte, u32 *top, u32 *value);
 u32 judge_code_write(u32 kind, u32 value, u32 *byte);
-u32 judge_react(u32 role, u32 running, u32 permissions, u32 *device_register, u8 byte, u32 *kind, u32 *top, u32 *value);
+u32 judge_react(u32 role, u32 running, u32 permissions, u32 *device_register, u32 *counter, u8 byte, u32 *kind, u32 *top,
+                u32 *value);
 u32 judge_plan_read(const u8 *file, size length, u32 *block);
 u32 judge_start(const u8 *plan, size plan_length, u32 *state, size state_length);
 u32 judge_request(const u8 *plan, size plan_length, u32 *state, size state_length, size device, u32 k);
 u32 judge_acknowledge(const u8 *plan, size plan_length, u32 *state, size state_length, size device, u32 k);
 u32 judge_link(const u8 *plan, size plan_length, u32 *state, size state_length, size device, size port, u32 running);
 u32 judge_reset(const u8 *plan, size plan_length, u32 *state, size state_length, size device);
+u32 judge_tick(const u8 *plan, size plan_length, u32 *state, size state_length, size device);
 u32 judge_round(const u8 *plan, size plan_length, const u32 *old, size old_length, u32 *next, size next_length, u32 *sent,
                 size sent_length, u32 *told, size told_length, u32 *count);
 u32 judge_settle(const u8 *plan, size plan_length, u32 *state, size state_length, u32 allowance, u32 *rounds);

@@ -2,16 +2,22 @@
  * what is sent comes from the old waiting sets only. */
 #include "judge.h"
 
-enum { TOLD_INTERRUPT = 1, TOLD_ACKNOWLEDGE = 2, TOLD_TIMEOUT = 3 };
+enum { TOLD_TIMEOUT = 3 };
+static const u32 told_of[] = {[INTERRUPT] = 1, [ACKNOWLEDGE] = 2, [TIME_CODE] = 4};
 
-/* A kind that the port may not send changes nothing: what waits of the other kind stays. */
+/* A kind that the port may not send changes nothing: what waits of the other kind stays. A Time-Code takes the place of an older
+ * one. */
 void queue(struct port *port, struct code code) {
-    if (port->running && port->may_send[code.kind])
+    if (!port->running || !port->may_send[code.kind])
+        return;
+    if (code.kind == TIME_CODE)
+        port->time = code.value;
+    else
         port->waiting[code.value] = code.kind;
 }
 
-static void tell(struct told *told, u32 kind, const struct device *node, u32 k) {
-    told->word[told->count++] = kind * 65536 + node->number * 256 + k;
+static void tell(struct told *told, u32 kind, const struct device *node, u32 value) {
+    told->word[told->count++] = kind * 65536 + node->number * 256 + value;
 }
 
 /* Step 1. */
@@ -25,30 +31,45 @@ static void timers_fall(struct device *device, struct told *told) {
     }
 }
 
-/* Step 2. */
-static void send(struct port *port) {
-    port->sent.kind = NOTHING;
+/* The interrupt or acknowledge whose turn it is. */
+static struct code first_waiting(const struct port *port) {
     for (u32 i = 0; i < IDENTIFIERS; i++) {
         u32 k = (port->next + i) % IDENTIFIERS;
-        if (port->waiting[k] == NOTHING)
-            continue;
-        port->sent = (struct code){port->waiting[k], k};
-        port->waiting[k] = NOTHING;
-        port->next = (k + 1) % IDENTIFIERS;
-        return;
+        if (port->waiting[k] != NOTHING)
+            return (struct code){port->waiting[k], k};
     }
+    return (struct code){NOTHING, 0};
 }
 
-/* Step 3, for one code. */
+/* Step 2. A Time-Code goes first, but does not keep others back twice in a row. */
+static void send(struct port *port) {
+    struct code other = first_waiting(port);
+    flag others_turn = port->after_time && other.kind != NOTHING;
+    if (port->time != NO_TIME && !others_turn) {
+        port->sent = (struct code){TIME_CODE, port->time};
+        port->time = NO_TIME;
+        port->after_time = 1;
+        return;
+    }
+    port->sent = other;
+    if (other.kind == NOTHING)
+        return;
+    port->waiting[other.value] = NOTHING;
+    port->next = (other.value + 1) % IDENTIFIERS;
+    port->after_time = 0;
+}
+
+/* Step 3, for one code. Time-Codes have no timers. */
 static void arrive(struct network *net, struct port *port, struct code code, struct told *told) {
     struct device *device = port->device;
-    enum action action = react(device->router, port->running, port->may_receive, device->set, code);
+    enum action action = react(device->router, port->running, port->may_receive, device->set, &device->counter, code);
     if (action != FORWARDED && action != TELLS_HOST)
         return;
     u32 load = device->router ? net->router_load : net->node_load;
-    device->timer[code.value] = code.kind == INTERRUPT ? load : 0;
+    if (code.kind != TIME_CODE)
+        device->timer[code.value] = code.kind == INTERRUPT ? load : 0;
     if (action == TELLS_HOST) {
-        tell(told, code.kind == INTERRUPT ? TOLD_INTERRUPT : TOLD_ACKNOWLEDGE, device, code.value);
+        tell(told, told_of[code.kind], device, code.value);
         return;
     }
     for (u32 p = 0; p < device->ports; p++)
@@ -71,12 +92,15 @@ void play_round(struct network *net, struct told *told) {
         }
 }
 
+static flag port_waits(const struct port *port) {
+    return port->time != NO_TIME || first_waiting(port).kind != NOTHING;
+}
+
 static flag anything_waits(const struct network *net) {
     for (u32 d = 0; d < net->devices; d++)
         for (u32 p = 0; p < net->device[d].ports; p++)
-            for (u32 k = 0; k < IDENTIFIERS; k++)
-                if (net->device[d].port[p].waiting[k] != NOTHING)
-                    return 1;
+            if (port_waits(&net->device[d].port[p]))
+                return 1;
     return 0;
 }
 

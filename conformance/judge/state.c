@@ -9,7 +9,16 @@ static size port_at(u32 d, u32 p) {
     return FIRST_PORT + PORT_WORDS * (PORTS * d + p);
 }
 
+static size counter_at(u32 d) {
+    return FIRST_COUNTER + d;
+}
+
+static size time_at(u32 d, u32 p) {
+    return FIRST_TIME + PORTS * d + p;
+}
+
 void clear_device(struct device *device) {
+    device->counter = 0;
     for (u32 k = 0; k < IDENTIFIERS; k++) {
         device->set[k] = 0;
         device->timer[k] = 0;
@@ -19,6 +28,8 @@ void clear_device(struct device *device) {
 void clear_waiting(struct port *port) {
     for (u32 k = 0; k < IDENTIFIERS; k++)
         port->waiting[k] = NOTHING;
+    port->time = NO_TIME;
+    port->after_time = 0;
 }
 
 void start(struct network *net) {
@@ -69,13 +80,32 @@ static flag port_read(struct port *port, const u32 *words) {
     return sound;
 }
 
+/* No word between the greatest Time-Code plus 1 and AFTER_TIME is sound, and none above both together. A Time-Code waits where the
+ * port runs; that one was sent last may be so at any port. */
+static flag time_read(struct port *port, u32 word) {
+    u32 waiting = word % AFTER_TIME;
+    port->time = waiting ? waiting - 1 : NO_TIME;
+    port->after_time = word >= AFTER_TIME;
+    return word < 2 * AFTER_TIME && waiting <= TIMES && (!waiting || port->running);
+}
+
 static flag device_read(struct device *device, const u32 *words) {
-    flag sound = registers_read(device, words + device_at(device->number));
+    u32 d = device->number;
+    device->counter = words[counter_at(d)];
+    flag sound = registers_read(device, words + device_at(d)) && device->counter < TIMES;
     for (u32 p = 0; p < PORTS; p++) {
-        const u32 *of_port = words + port_at(device->number, p);
-        sound &= p < device->ports ? port_read(&device->port[p], of_port) : all_zero(of_port, PORT_WORDS);
+        const u32 *of_port = words + port_at(d, p), time = words[time_at(d, p)];
+        if (p < device->ports)
+            sound &= port_read(&device->port[p], of_port) && time_read(&device->port[p], time);
+        else
+            sound &= all_zero(of_port, PORT_WORDS) && time == 0;
     }
     return sound;
+}
+
+static flag absent_zero(u32 d, const u32 *words) {
+    return all_zero(words + device_at(d), DEVICE_WORDS) && all_zero(words + port_at(d, 0), PORT_WORDS * PORTS) &&
+           words[counter_at(d)] == 0 && all_zero(words + time_at(d, 0), PORTS);
 }
 
 static flag ends_agree(const struct device *device) {
@@ -94,7 +124,7 @@ static flag state_read(struct network *net, const u32 *words, size length) {
     for (u32 d = 0; d < net->devices; d++)
         sound &= ends_agree(&net->device[d]);
     for (u32 d = net->devices; d < DEVICES; d++)
-        sound &= all_zero(words + device_at(d), DEVICE_WORDS) && all_zero(words + port_at(d, 0), PORT_WORDS * PORTS);
+        sound &= absent_zero(d, words);
     return sound;
 }
 
@@ -105,23 +135,26 @@ u32 network_read(struct network *net, const u8 *plan, size plan_length, const u3
     return state_read(net, state, state_length) ? 0 : 2;
 }
 
+static void port_write(const struct port *port, u32 *of_port, u32 *time) {
+    for (u32 k = 0; k < IDENTIFIERS; k++)
+        if (port->waiting[k] != NOTHING)
+            of_port[port->waiting[k] == ACKNOWLEDGE ? AT_ACKNOWLEDGES : AT_INTERRUPTS] |= (u32)1 << k;
+    of_port[AT_NEXT] = port->next;
+    of_port[AT_RUNNING] = port->running;
+    *time = (port->time == NO_TIME ? 0 : port->time + 1) + (port->after_time ? AFTER_TIME : 0);
+}
+
 void state_write(const struct network *net, u32 *words) {
     for (u32 i = 0; i < STATE_WORDS; i++)
         words[i] = 0;
     for (u32 d = 0; d < net->devices; d++) {
         const struct device *device = &net->device[d];
+        words[counter_at(d)] = device->counter;
         for (u32 k = 0; k < IDENTIFIERS; k++) {
             words[device_at(d)] |= (u32)device->set[k] << k;
             words[device_at(d) + 1 + k] = device->timer[k];
         }
-        for (u32 p = 0; p < device->ports; p++) {
-            const struct port *port = &device->port[p];
-            u32 *of_port = words + port_at(d, p);
-            for (u32 k = 0; k < IDENTIFIERS; k++)
-                if (port->waiting[k] != NOTHING)
-                    of_port[port->waiting[k] == ACKNOWLEDGE ? AT_ACKNOWLEDGES : AT_INTERRUPTS] |= (u32)1 << k;
-            of_port[AT_NEXT] = port->next;
-            of_port[AT_RUNNING] = port->running;
-        }
+        for (u32 p = 0; p < device->ports; p++)
+            port_write(&device->port[p], words + port_at(d, p), words + time_at(d, p));
     }
 }
