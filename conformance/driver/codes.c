@@ -79,23 +79,44 @@ static void try_writing(u32 kind, u32 value) {
     must_be("the byte of a code, or 0", byte < BYTES ? byte : 0, value_given(0));
 }
 
-/* Whatever is done with a code, it is handed on as it was read. A Time-Code and a reserved byte are named, and nothing else is.
- * What is forwarded or told has turned its bit round, and all else leaves the register as it was. */
-static void try_reaction(u32 role, u32 running, u32 permissions, u32 before, u32 byte) {
-    u32 after = before, action = try_react(role, running, permissions, &after, byte);
+/* A Time-Code becomes the counter, and no other byte changes it. One that a step from the counter leads to is taken, whatever the
+ * port is and may; all others are named, as a reserved byte is, and no interrupt or acknowledge is. */
+static void check_time(u32 role, u32 byte, u32 action, u32 before, u32 after) {
+    flag time = readings[byte].kind == TIME_CODE, next = time && (before + 1 - byte) % 64 == 0;
+    must_be("the counter then", time ? byte : before, after);
+    if (time)
+        must_be("what is done with a Time-Code", !next ? NAMED : role ? FORWARDED : TELLS_HOST, action);
+    else
+        must_be("whether a byte is named", readings[byte].kind == RESERVED, action == NAMED);
+}
+
+/* Whatever is done with a code, it is handed on as it was read. An interrupt or acknowledge that is forwarded or told has turned
+ * its bit round, and all else leaves the register as it was. */
+static void try_reaction(u32 role, u32 running, u32 permissions, u32 before, u32 counter, u32 byte) {
+    u32 after = before, then = counter, action = try_react(role, running, permissions, &after, &then, byte);
     const struct reading *read = &readings[byte];
     must_read(read, &(struct reading){value_given(0), value_given(1), value_given(2)});
-    must_be("whether a byte is named", read->kind == TIME_CODE || read->kind == RESERVED, action == NAMED);
-    flag taken = action == FORWARDED || action == TELLS_HOST;
-    must_be("the register then", taken ? before ^ 1u << read->value : before, after);
+    check_time(role, byte, action, counter, then);
+    flag turned = read->kind != TIME_CODE && (action == FORWARDED || action == TELLS_HOST);
+    must_be("the register then", turned ? before ^ 1u << read->value : before, after);
 }
 
 /* With the bit of the byte's identifier, and without it, among any others, among none and among all. */
 static void try_registers(u32 role, u32 running, u32 permissions, u32 byte) {
     u32 bit = 1u << byte % 32, any = random_word(), above = once_in(2) ? random_word() << 4 : 0;
+    u32 counter = once_in(2) ? pick(64) : random_word();
     const u32 registers[] = {any | bit, any & ~bit, bit, ~bit, 0, 0xFFFFFFFF};
     for (u32 i = 0; i < sizeof registers / sizeof *registers; i++)
-        try_reaction(role, running, permissions | above, registers[i], byte);
+        try_reaction(role, running, permissions | above, registers[i], counter, byte);
+}
+
+/* A step below the byte, beside that, and far from it; the same above 63, and at the greatest numbers. */
+static void try_counters(u32 role, u32 running, u32 permissions, u32 byte) {
+    u32 below = (byte + 63) % 64, any = random_word(), held = random_word();
+    const u32 counters[] = {below, 64 + below, any - any % 64 + below, 0xFFFFFFC0 + below, 256 + below, byte % 64, 64 + byte % 64,
+                            (below + 63) % 64, (byte + 1) % 64, 0, 63, 64, 0x80000000, 0xFFFFFFFF, any};
+    for (u32 i = 0; i < sizeof counters / sizeof *counters; i++)
+        try_reaction(role, running, permissions, held, counters[i], byte);
 }
 
 void try_tables(void) {
@@ -107,6 +128,8 @@ void try_tables(void) {
     for (u32 role = 0; role < TRUTHS; role++)
         for (u32 running = 0; running < TRUTHS; running++)
             for (u32 permissions = 0; permissions < 16; permissions++)
-                for (u32 byte = 0; byte < BYTES; byte++)
+                for (u32 byte = 0; byte < BYTES; byte++) {
                     try_registers(truths[role], truths[running], permissions, byte);
+                    try_counters(truths[role], truths[running], permissions, byte);
+                }
 }

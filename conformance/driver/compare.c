@@ -3,7 +3,7 @@
  * Each area is lent to each of the two in a place of its own, with guard bytes at both sides, and with the same content. */
 #include "driver.h"
 
-enum { GUARD = 64, GUARD_BYTE = 0xA5, LENT = 6 };
+enum { GUARD = 64, GUARD_BYTE = 0xA5, LENT = 6, ASKED = 6 };
 
 /* What a call may do with an area: nothing, write it unless it refuses, or write it in any case. */
 enum use { INPUT, AREA, VALUE };
@@ -19,12 +19,12 @@ struct lent {
 static struct lent lents[LENT];
 static u32 lent_count;
 static enum call this_call;
-static size asked[5];
+static size asked[ASKED];
 static size comparisons[CALLS], hits[CALLS][2][27]; /* those of a link by its flag, of all others the first of the two */
 
 static const char *const names[CALLS] = {
-    "code read", "code write", "react", "plan read", "start", "request", "acknowledge", "link", "reset", "round", "settle",
-    "reach", "report"};
+    "code read", "code write", "react", "plan read", "start", "request", "acknowledge", "link", "reset", "tick", "round",
+    "settle", "reach", "report"};
 
 /* Every number that a call can answer; the run has to hit each, for a link with either flag. */
 enum { END = 255 };
@@ -33,12 +33,16 @@ static const u8 numbers[CALLS][17] = {
     [CODE_READ] = {0, END}, [CODE_WRITE] = {0, 5, END}, [REACT] = {0, END},
     [PLAN_READ] = {0, OF_FILES, END}, [START] = {0, OF_FILES, 3, END},
     [REQUEST] = {0, OF_FILES, 2, 4, 5, 6, 7, 8, 9, END}, [ACKNOWLEDGES] = {0, OF_FILES, 2, 4, 5, 6, 7, 8, 9, END},
-    [LINK] = {0, OF_FILES, 2, 4, 7, 10, END}, [RESET] = {0, OF_FILES, 2, 4, END}, [ROUND] = {0, OF_FILES, 2, 3, END},
+    [LINK] = {0, OF_FILES, 2, 4, 7, 10, END}, [RESET] = {0, OF_FILES, 2, 4, END},
+    [TICK] = {0, OF_FILES, 2, 4, 14, 7, END}, [ROUND] = {0, OF_FILES, 2, 3, END},
     [SETTLE] = {0, OF_FILES, 2, 11, 12, END}, [REACH] = {0, OF_FILES, 2, 4, 5, 6, END}, [REPORT] = {0, 3, END}};
 
 _Noreturn void fail(const char *what, size one, size other) {
     printf("judge: %s: %lu, %lu\n", what, one, other);
-    printf("in %s(%lu, %lu, %lu, %lu, %lu)\n", names[this_call], asked[0], asked[1], asked[2], asked[3], asked[4]);
+    printf("in %s(%lu", names[this_call], asked[0]);
+    for (u32 i = 1; i < ASKED; i++)
+        printf(", %lu", asked[i]);
+    printf(")\n");
     say_where();
     exit(1);
 }
@@ -49,9 +53,10 @@ void must_be(const char *what, size wanted, size given) {
         fail(what, wanted, given);
 }
 
-static void begin(enum call call, size a, size b, size c, size d, size e) {
+/* A call, and the numbers that it is given, for where it fails. */
+#define GIVEN(...) (const size[ASKED]){__VA_ARGS__}
+static void begin(enum call call, const size *given) {
     this_call = call;
-    const size given[] = {a, b, c, d, e};
     memcpy(asked, given, sizeof asked);
     lent_count = 0;
 }
@@ -139,36 +144,40 @@ u32 value_given(u32 which) {
 }
 
 /* What stands where parts of a code go: no part of any, so that a place which neither of the two writes is seen by what the driver
- * knows of codes. It takes no random number, so that case 0 goes on to the network that it had before there were these parts. */
+ * knows of codes. */
 static const u32 no_part = 256;
 
 u32 try_code_read(u8 byte) {
-    begin(CODE_READ, byte, 0, 0, 0, 0);
+    begin(CODE_READ, GIVEN(byte));
     struct lent *top = lend("top", VALUE, 4, &no_part, 1), *value = lend("value", VALUE, 4, 0, 1);
     u32 judge = judge_code_read(byte, by_judge(top), by_judge(value));
     return finish(judge, bench_code_read(byte, by_bench(top), by_bench(value)));
 }
 
 u32 try_code_write(u32 kind, u32 value) {
-    begin(CODE_WRITE, kind, value, 0, 0, 0);
+    begin(CODE_WRITE, GIVEN(kind, value));
     struct lent *byte = lend("byte", VALUE, 4, 0, 1);
     u32 judge = judge_code_write(kind, value, by_judge(byte));
     return finish(judge, bench_code_write(kind, value, by_bench(byte)));
 }
 
-u32 try_react(u32 role, u32 running, u32 permissions, u32 *device_register, u8 byte) {
-    begin(REACT, role, running, permissions, *device_register, byte);
-    struct lent *bits = lend("register", AREA, 4, device_register, 1), *kind = lend("kind", VALUE, 4, &no_part, 1);
-    struct lent *top = lend("top", VALUE, 4, &no_part, 1), *value = lend("value", VALUE, 4, &no_part, 1);
-    u32 judge = judge_react(role, running, permissions, by_judge(bits), byte, by_judge(kind), by_judge(top), by_judge(value));
-    u32 bench = bench_react(role, running, permissions, by_bench(bits), byte, by_bench(kind), by_bench(top), by_bench(value));
+u32 try_react(u32 role, u32 running, u32 permissions, u32 *device_register, u32 *counter, u8 byte) {
+    begin(REACT, GIVEN(role, running, permissions, *device_register, *counter, byte));
+    struct lent *bits = lend("register", AREA, 4, device_register, 1), *count = lend("counter", AREA, 4, counter, 1);
+    struct lent *kind = lend("kind", VALUE, 4, &no_part, 1), *top = lend("top", VALUE, 4, &no_part, 1);
+    struct lent *value = lend("value", VALUE, 4, &no_part, 1);
+    u32 judge = judge_react(role, running, permissions, by_judge(bits), by_judge(count), byte, by_judge(kind), by_judge(top),
+                            by_judge(value));
+    u32 bench = bench_react(role, running, permissions, by_bench(bits), by_bench(count), byte, by_bench(kind), by_bench(top),
+                            by_bench(value));
     finish(judge, bench);
     memcpy(device_register, by_bench(bits), bits->bytes);
+    memcpy(counter, by_bench(count), count->bytes);
     return bench;
 }
 
 u32 try_plan_read(const struct plan *plan) {
-    begin(PLAN_READ, plan->length, 0, 0, 0, 0);
+    begin(PLAN_READ, GIVEN(plan->length));
     struct lent *file = lend("file", INPUT, 1, plan->bytes, plan->length), *block = lend("block", VALUE, 4, 0, 1);
     u32 judge = judge_plan_read(by_judge(file), plan->length, by_judge(block));
     return finish(judge, bench_plan_read(by_bench(file), plan->length, by_bench(block)));
@@ -181,6 +190,7 @@ u32 judge_change(struct change change, const u8 *plan, size plan_length, u32 *st
     case REQUEST: return judge_request(plan, plan_length, state, state_length, device, other);
     case ACKNOWLEDGES: return judge_acknowledge(plan, plan_length, state, state_length, device, other);
     case LINK: return judge_link(plan, plan_length, state, state_length, device, other, change.running);
+    case TICK: return judge_tick(plan, plan_length, state, state_length, device);
     default: return judge_reset(plan, plan_length, state, state_length, device);
     }
 }
@@ -192,12 +202,13 @@ static u32 bench_change(struct change change, const u8 *plan, size plan_length, 
     case REQUEST: return bench_request(plan, plan_length, state, state_length, device, other);
     case ACKNOWLEDGES: return bench_acknowledge(plan, plan_length, state, state_length, device, other);
     case LINK: return bench_link(plan, plan_length, state, state_length, device, other, change.running);
+    case TICK: return bench_tick(plan, plan_length, state, state_length, device);
     default: return bench_reset(plan, plan_length, state, state_length, device);
     }
 }
 
 u32 try_change(struct change change, const struct plan *plan, struct state *state) {
-    begin(change.call, plan->length, state->length, change.device, change.other, change.running);
+    begin(change.call, GIVEN(plan->length, state->length, change.device, change.other, change.running));
     struct lent *file = lend("plan", INPUT, 1, plan->bytes, plan->length);
     struct lent *area = lend("state", AREA, 4, state->words, state->length);
     u32 judge = judge_change(change, by_judge(file), plan->length, by_judge(area), state->length);
@@ -213,7 +224,7 @@ u32 try_start(const struct plan *plan, struct state *state) {
 /* Where the judge has the old state in its records, as the round before left them, it need not read it again. */
 u32 try_round_of(struct network *known, const struct plan *plan, const struct state *old, struct played *played) {
     size next_length = played->next.length, sent_length = played->sent_length, told_length = played->told_length;
-    begin(ROUND, plan->length, old->length, next_length, sent_length, told_length);
+    begin(ROUND, GIVEN(plan->length, old->length, next_length, sent_length, told_length));
     struct lent *file = lend("plan", INPUT, 1, plan->bytes, plan->length);
     struct lent *from = lend("old state", INPUT, 4, old->words, old->length);
     struct lent *next = lend("next state", AREA, 4, 0, next_length), *sent = lend("bytes sent", AREA, 4, 0, sent_length);
@@ -239,7 +250,7 @@ u32 try_round(const struct plan *plan, const struct state *old, struct played *p
 }
 
 u32 try_settle(const struct plan *plan, struct state *state, u32 allowance) {
-    begin(SETTLE, plan->length, state->length, allowance, 0, 0);
+    begin(SETTLE, GIVEN(plan->length, state->length, allowance));
     struct lent *file = lend("plan", INPUT, 1, plan->bytes, plan->length);
     struct lent *area = lend("state", AREA, 4, state->words, state->length);
     struct lent *rounds = lend("rounds", VALUE, 4, 0, 1);
@@ -251,7 +262,7 @@ u32 try_settle(const struct plan *plan, struct state *state, u32 allowance) {
 }
 
 u32 try_reach(const struct plan *plan, const struct state *state, size device, u32 k) {
-    begin(REACH, plan->length, state->length, device, k, 0);
+    begin(REACH, GIVEN(plan->length, state->length, device, k));
     struct lent *file = lend("plan", INPUT, 1, plan->bytes, plan->length);
     struct lent *area = lend("state", INPUT, 4, state->words, state->length);
     struct lent *devices = lend("devices", VALUE, 4, 0, 1), *set = lend("set", VALUE, 4, 0, 1);
@@ -262,7 +273,7 @@ u32 try_reach(const struct plan *plan, const struct state *state, size device, u
 }
 
 u32 try_report(const struct plan *plan, struct printed *printed) {
-    begin(REPORT, plan->length, printed->text_length, 0, 0, 0);
+    begin(REPORT, GIVEN(plan->length, printed->text_length));
     struct lent *file = lend("file", INPUT, 1, plan->bytes, plan->length);
     struct lent *text = lend("text", AREA, 1, 0, printed->text_length), *used = lend("length used", VALUE, 4, 0, 1);
     u32 judge = judge_report(by_judge(file), plan->length, by_judge(text), printed->text_length, by_judge(used));

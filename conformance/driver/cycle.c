@@ -1,5 +1,5 @@
 /* T-01, the return trip, tried: an interrupt spreads, a handler that was told of it acknowledges, and the acknowledge brings
- * the network back to where it was, so that the next cycle can begin. Meanwhile other identifiers are used. */
+ * the network back to where it was, so that the next cycle can begin. Meanwhile other identifiers are used, and a master ticks. */
 #include "driver.h"
 
 enum { MOST_CYCLES = 3, MOST_GAP = 40, NOT_YET = 1 << 30 };
@@ -105,20 +105,20 @@ static void choose(struct cycle *cycle, u32 k) {
     u32 away = cycle->out.distance[handler], late = once_in(4) ? 0 : pick(MOST_GAP + 1);
     cycle->own_clock = once_in(2);
     cycle->wait = cycle->own_clock ? cycle->out.window - away + late % 8 : cycle->out.window + late;
-    cycle->most = (cycle->own_clock ? 32 * away : 0) + cycle->wait + cycle->back.window;
+    cycle->most = (cycle->own_clock ? CROSSING * away : 0) + cycle->wait + cycle->back.window;
 }
 
 /* What hosts are told of k: those that the code reaches that it has come, once, and no sooner or later than it can; the host
- * that it starts from and all others nothing, where an acknowledge gets to them too. A kind of code and the kind of what is told
- * of it have the same number. */
+ * that it starts from and all others nothing, where an acknowledge gets to them too. Of interrupts and acknowledges the kind of code
+ * and the kind of what is told of it have the same number. */
 static void check_told(struct spread *spread, u32 round) {
     for (u32 i = 0; i < course.played.count; i++) {
         u32 word = course.played.told[i], kind = word / 65536, d = word / 256 % 256, away = spread->distance[d];
-        if (word % 256 != spread->k)
+        if (!tells_of(word, spread->k))
             continue;
         if (kind != spread->kind || away == UNREACHED || d == spread->start || spread->told[d])
             broken(spread, "told what it should not be (word, round)", word, round);
-        if (round < away || round > 32 * away)
+        if (round < away || round > CROSSING * away)
             broken(spread, "told too soon or too late (device, round)", d, round);
         spread->told[d] = round;
     }
@@ -132,16 +132,20 @@ static void check_all_told(const struct spread *spread) {
     }
 }
 
-static void check_cleared(const struct spread *spread, u32 round) {
-    for (u32 d = 0; d < DEVICES; d++)
-        if ((spread->distance[d] == UNREACHED || round >= 32 * spread->distance[d]) && holds(&course, d, spread->k))
+static void check_cleared(struct spread *spread, u32 round) {
+    for (u32 d = 0; d < DEVICES; d++) {
+        flag held = holds(&course, d, spread->k);
+        if ((spread->distance[d] == UNREACHED || round >= CROSSING * spread->distance[d]) && held)
             broken(spread, "not cleared (device, round)", d, round);
+        if (!held)
+            has_come(spread, d, round);
+    }
 }
 
 /* After the second window: it was long enough for the farthest device, k is set nowhere and waits nowhere. */
 static void check_over(const struct spread *spread) {
     for (u32 d = 0; d < DEVICES; d++) {
-        if (spread->distance[d] != UNREACHED && 32 * (spread->distance[d] + 1) > spread->window)
+        if (spread->distance[d] != UNREACHED && CROSSING * (spread->distance[d] + 1) > spread->window)
             broken(spread, "too far away for the window (device, rounds)", d, spread->window);
         if (holds(&course, d, spread->k))
             broken(spread, "set at the end (device, rounds)", d, spread->window);
@@ -163,7 +167,7 @@ static void step(struct spread *spread, u32 calls, u32 round) {
 /* From the request to just before the acknowledge; how many rounds that took. */
 static u32 go_out(struct cycle *cycle, u32 calls) {
     struct spread *out = &cycle->out;
-    u32 handler = cycle->back.start, latest = 32 * out->distance[handler];
+    u32 handler = cycle->back.start, latest = CROSSING * out->distance[handler];
     u32 round = 0, until = cycle->own_clock ? NOT_YET : cycle->wait;
     must_be("T-01: the request is taken", 0, host_calls(&course, REQUEST, out->start, out->k));
     check_held(out, &course, 0);
@@ -214,7 +218,7 @@ static void rest(const struct cycle *over, u32 calls) {
 }
 
 /* So that the most can be in the acknowledge's way where it starts, nothing else is used until then: the handler's ports
- * still begin their search behind k. And the handler may request all others. */
+ * still begin their search behind k, and have sent no Time-Code. And the handler may request all others. */
 static void hush(u32 k, u32 handler) {
     for (u32 other = 0; other < IDENTIFIERS; other++) {
         unset(&course, other);
@@ -222,8 +226,10 @@ static void hush(u32 k, u32 handler) {
             give_role(&course.plan, handler, SOURCES, other);
     }
     for (u32 d = 0; d < course.plan.bytes[1]; d++)
-        for (u32 p = 0; p < device_block(&course.plan, d)[3]; p++)
+        for (u32 p = 0; p < device_block(&course.plan, d)[3]; p++) {
             port_words(&course.state, d, p)[AT_NEXT] = (k + 1) % IDENTIFIERS;
+            *time_word(&course.state, d, p) = 0;
+        }
 }
 
 /* Just before it acknowledges, the handler requests all others, which its ports send first. */
@@ -232,24 +238,35 @@ static void rush(u32 k, u32 handler) {
         must_be("T-01: a request of another is taken", 0, host_calls(&course, REQUEST, handler, (k + i) % IDENTIFIERS));
 }
 
+static void count_cycle(const struct cycle *cycle, u32 rounds, struct trips *trips) {
+    if (rounds > trips->longest)
+        trips->longest = rounds;
+    if (cycle->out.slowest > trips->slowest)
+        trips->slowest = cycle->out.slowest;
+    if (cycle->back.slowest > trips->slowest_back)
+        trips->slowest_back = cycle->back.slowest;
+    trips->cycles++;
+    trips->from_both += cycle->from_both;
+    trips->back_by_both += cycle->back_by_both;
+    trips->beyond += cycle->beyond;
+    trips->ticked += course.ticks > 0;
+}
+
 static void play_cycles(struct cycle *cycles, u32 count, flag hushed, struct trips *trips) {
     for (u32 i = 0; i < count; i++) {
-        u32 k = cycles[i].out.k, calls = pick(4);
+        u32 k = cycles[i].out.k, calls = pick(4), ticks = course.ticks;
         flag rushed = hushed && i == 0;
         if (i > 0)
             rest(&cycles[i - 1], calls);
+        course.ticks = rushed ? 0 : ticks;
         u32 rounds = go_out(&cycles[i], rushed ? 0 : calls);
+        course.ticks = ticks;
         if (rushed)
             rush(k, cycles[i].back.start);
         rounds += come_back(&cycles[i], calls);
         if (rounds > cycles[i].most)
             broken(&cycles[i].back, "longer than the loads allow for (rounds, most)", rounds, cycles[i].most);
-        if (rounds > trips->longest)
-            trips->longest = rounds;
-        trips->cycles++;
-        trips->from_both += cycles[i].from_both;
-        trips->back_by_both += cycles[i].back_by_both;
-        trips->beyond += cycles[i].beyond;
+        count_cycle(&cycles[i], rounds, trips);
     }
     trips->networks++;
 }
@@ -272,6 +289,7 @@ void try_cycles(const struct plan *given, struct trips *trips) {
     exceed(&course, most);
     unset(&course, k);
     flag crowded = once_in(2), hushed = !crowded && once_in(2);
+    let_tick(&course, hushed || once_in(2) ? cycles[0].back.start : cycles[0].out.start);
     if (crowded)
         crowd(&course, k);
     if (hushed)

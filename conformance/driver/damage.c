@@ -105,14 +105,22 @@ static void misport(struct plan *plan, u32 device) {
     }
 }
 
+/* A master that there is not, or any device: where that is a router, the file is refused in its block. */
+static void misname(struct plan *plan) {
+    u32 devices = devices_of(plan), any = pick(256), device = pick(devices);
+    const u8 names[] = {devices + 1, 33, 255, any, 1 + device, 1 + device, 1 + device};
+    plan->bytes[MASTER] = names[pick(sizeof names / sizeof *names)];
+}
+
 static void damage_block_0(struct plan *plan) {
     u8 dirt = 1 + pick(255);
-    switch (pick(6)) {
+    switch (pick(7)) {
     case 0: change(plan->bytes + pick(6)); break;
     case 1: plan->bytes[6 + pick(504)] = dirt; break;
     case 2: change_check(plan, 0); return;
     case 3: raise_check(plan); return;
     case 4: put_loads(plan); return;
+    case 5: misname(plan); break;
     default: plan->bytes[1] += 1 - 2 * pick(2);
     }
     if (!once_in(4))

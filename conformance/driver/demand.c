@@ -1,18 +1,30 @@
-/* Demand 3, tried: how an interrupt spreads while other identifiers are used. */
+/* Demand 3, tried: how an interrupt spreads while other identifiers are used and a master ticks. */
 #include "driver.h"
 
 static struct course course;
 
-u32 try_demand_3(const struct plan *given, flag *from_both) {
+static u32 greater(u32 one, u32 other) {
+    return one > other ? one : other;
+}
+
+static void count(const struct spread *spread, struct demands *demands) {
+    demands->networks++;
+    demands->from_both += running_ports(&course, spread->start) == NODE_PORTS;
+    demands->ticked += course.ticks > 0;
+    demands->longest = greater(demands->longest, spread->window);
+    demands->slowest = greater(demands->slowest, spread->slowest);
+}
+
+void try_demand_3(const struct plan *given, struct demands *demands) {
     struct spread spread = {.name = "demand 3", .kind = INTERRUPT};
     begin_course(&course, given);
     if (!choose_source(&course, &spread))
-        return 0;
+        return;
     unset(&course, spread.k);
     if (once_in(2))
         crowd(&course, spread.k);
+    let_tick(&course, spread.start);
     measure(&course, &spread, 0);
-    *from_both = running_ports(&course, spread.start) == NODE_PORTS;
     exceed(&course, spread.window);
     must_be("demand 3: the request is taken", 0, host_calls(&course, REQUEST, spread.start, spread.k));
     check_held(&spread, &course, 0);
@@ -24,5 +36,5 @@ u32 try_demand_3(const struct plan *given, flag *from_both) {
     }
     check_all_sent(&spread, &course);
     check_rest(&spread, &course);
-    return spread.window;
+    count(&spread, demands);
 }

@@ -40,6 +40,9 @@ struct printed {
     u8 text[ROOM];
 };
 
+/* What a word that a host is told is about. */
+enum { OF_INTERRUPT = 1, OF_ACKNOWLEDGE, OF_TIMEOUT, OF_TIME };
+
 /* random.c: numbers that follow from a seed and a case alone. */
 void random_begin(size seed, size which);
 size random_word(void);
@@ -49,7 +52,8 @@ size wild(u32 limit);
 
 /* compare.c: a call to both. Every try_ compares all numbers and areas, counts, and gives what the bench answered. */
 enum call {
-    CODE_READ, CODE_WRITE, REACT, PLAN_READ, START, REQUEST, ACKNOWLEDGES, LINK, RESET, ROUND, SETTLE, REACH, REPORT, CALLS
+    CODE_READ, CODE_WRITE, REACT, PLAN_READ, START, REQUEST, ACKNOWLEDGES, LINK, RESET, TICK, ROUND, SETTLE, REACH, REPORT,
+    CALLS
 };
 
 /* A call that changes a state, and what it takes beside plan and state: other is an identifier or a port, and running is what
@@ -68,7 +72,7 @@ flag all_hit(void);
 void table(void);
 u32 try_code_read(u8 byte);
 u32 try_code_write(u32 kind, u32 value);
-u32 try_react(u32 role, u32 running, u32 permissions, u32 *device_register, u8 byte);
+u32 try_react(u32 role, u32 running, u32 permissions, u32 *device_register, u32 *counter, u8 byte);
 u32 try_plan_read(const struct plan *plan);
 u32 judge_change(struct change change, const u8 *plan, size plan_length, u32 *state, size state_length);
 u32 try_change(struct change change, const struct plan *plan, struct state *state);
@@ -82,12 +86,15 @@ u32 try_report(const struct plan *file, struct printed *printed);
 /* Of each program with a main: says what was being tried, when something fails. */
 void say_where(void);
 
-/* plans.c: accepted files of every shape. A mask is named by where it stands in a block. */
-enum { SOURCES = 4, HANDLERS = 8 };
+/* plans.c: accepted files of every shape. A mask is named by where it stands in a block, and so is the master in block 0. */
+enum { SOURCES = 4, HANDLERS = 8, MASTER = 10 };
+u32 master_of(const struct plan *plan); /* NO_MASTER for none */
+void name_master(struct plan *plan, u32 device);
 flag in_mask(struct plan *plan, u32 device, u32 mask, u32 k);
 u8 *device_block(struct plan *plan, u32 device);
 u8 *port_entry(struct plan *plan, u32 device, u32 port);
 void seal(struct plan *plan, u32 block);
+void seal_devices(struct plan *plan); /* all blocks but block 0 */
 void give_role(struct plan *plan, u32 device, u32 mask, u32 k);
 void blank(struct plan *plan, u32 devices);
 void be_router(struct plan *plan, u32 device, u32 ports);
@@ -101,11 +108,15 @@ void make_plan(struct plan *plan);
 void damage(struct plan *plan);
 
 /* states.c: any sound state, and states with one clause of soundness broken; 0 where the plan has no place for it. */
-enum { CLAUSES = 15 };
+enum { CLAUSES = 23 };
 u32 *device_words(struct state *state, u32 device);
 u32 *port_words(struct state *state, u32 device, u32 port);
+u32 *counter_word(struct state *state, u32 device);
+u32 *time_word(struct state *state, u32 device, u32 port);
 void sound_state(struct plan *plan, struct state *state);
 flag break_state(struct plan *plan, struct state *state, u32 clause);
+void clauses_table(void); /* how often each was broken */
+flag all_broken(void);
 
 /* A network whose rounds are played one after the other, and what the last of them built. The judge keeps it in its records,
  * which are known as long as no call changes the state. */
@@ -113,11 +124,15 @@ struct course {
     struct plan plan;
     struct state state;
     struct played played;
+    u32 ticks; /* the master ticks before a round, once in so many; 0 is never */
+    flag ticks_apart; /* a tick is no call that may be made meanwhile */
     flag known;
     struct network records;
 };
 
-/* A code that goes from one device to all that it reaches, in a window of 32 x (D + 1) rounds. */
+/* A code of k that goes from one device to all that it reaches, in a window of 64 x (D + 1) rounds: a port may send all others
+ * before it, and a Time-Code before each code. */
+enum { CROSSING = 64 };
 struct spread {
     const char *name; /* of what is being tried */
     enum kind kind;
@@ -125,6 +140,8 @@ struct spread {
     u32 distance[DEVICES]; /* in crossings by codes of the kind, or UNREACHED */
     flag sent[SENT_WORDS];
     u32 told[DEVICES]; /* the round in which the host was told of it, 0 before that */
+    flag crossed[DEVICES]; /* it has come to this device, which is one crossing away */
+    u32 slowest; /* the last round in which it came to such a one */
 };
 
 /* spread.c: what is given, and what is to be seen, in such a window. A check that fails ends the run. */
@@ -132,17 +149,22 @@ void begin_course(struct course *course, const struct plan *plan); /* in any sou
 flag choose_source(struct course *course, struct spread *spread); /* one that can send: start and k; 0 where no node is joined */
 void open_links(struct course *course, flag all); /* what runs grants everything at both ends; where all are to, each link runs */
 void unset(struct course *course, u32 k); /* held by nobody and waiting nowhere */
+void no_times(struct course *course); /* no Time-Code waits */
+void let_tick(struct course *course, u32 node); /* in half of the trials, all the while: the plan's master, or this node as master */
 void crowd(struct course *course, u32 k); /* the most in its way: all others wait at every port, and come before it */
 void read_records(struct course *course);
 u32 running_ports(struct course *course, u32 device);
+u32 farthest(const u32 distance[DEVICES]); /* the greatest of those that are reached */
 void measure(struct course *course, struct spread *spread, const u32 *within); /* the window, and the distances as in reach.c */
 void exceed(struct course *course, u32 rounds); /* loads that are longer, by one in half of the trials */
 u32 make_call(struct course *course, struct change change);
 u32 host_calls(struct course *course, enum call call, u32 device, u32 k); /* a request or an acknowledge */
-void play_on(struct course *course, u32 k, u32 calls); /* a round, and calls before it: on others, or refused */
+void play_on(struct course *course, u32 k, u32 calls); /* a round, and calls before it: ticks, on others, or refused */
 flag holds(struct course *course, u32 device, u32 k);
+flag tells_of(u32 word, u32 k); /* is a word that a host was told about this identifier? */
 _Noreturn void broken(const struct spread *spread, const char *what, u32 one, u32 other);
-void check_held(const struct spread *spread, struct course *course, u32 round);
+void has_come(struct spread *spread, u32 device, u32 round); /* to a device that it reaches */
+void check_held(struct spread *spread, struct course *course, u32 round);
 void check_sent(struct spread *spread, const struct course *course, u32 round);
 void check_all_sent(const struct spread *spread, struct course *course); /* by each port of the start that runs and may */
 void check_rest(const struct spread *spread, struct course *course);
@@ -163,7 +185,15 @@ struct trips {
     size alone, unfound; /* networks with no pair, and with none for which all that the one reached is found from the other */
     size pairs, other_pairs; /* that allow T-01, and that do not */
     size from_both, back_by_both, beyond; /* cycles: by source and handler with two ports that run; see cycle.c */
+    size ticked; /* cycles with ticks all the while */
     u32 longest; /* in rounds, of the cycles */
+    u32 slowest, slowest_back; /* the rounds of a first crossing, by interrupts and by acknowledges */
+};
+
+/* How demand 3 was tried. */
+struct demands {
+    size networks, from_both, ticked;
+    u32 longest, slowest; /* the rounds of a window, and of a first crossing */
 };
 
 /* ports.c: nodes with two ports, by where these lead; and calls at one of them, by what the ports decide. */
@@ -172,8 +202,15 @@ void try_ports(const struct plan *plan);
 void ports_table(void);
 flag all_ports_tried(void);
 
-/* known.c, codes.c, trials.c, demand.c, cycle.c and drop.c: what is tried. */
+/* time.c: who may be the master, and how time is distributed. */
+void try_masters(const struct plan *plan);
+void try_time(const struct plan *plan);
+void time_table(void);
+flag all_time_tried(void);
+
+/* known.c, clock.c, codes.c, trials.c, demand.c, cycle.c and drop.c: what is tried. */
 void known_values(void);
+void known_times(void);
 void try_tables(void);
 void try_files(struct plan *plan);
 void try_calls(struct plan *plan);
@@ -182,8 +219,8 @@ void try_settling(struct plan *plan);
 void try_reports(struct plan *plan);
 void right_lengths(struct played *played);
 struct change likely_change(struct plan *plan);
-u32 try_demand_3(const struct plan *plan, flag *from_both); /* the rounds in its window; 0 where nobody can send */
-void try_cycles(const struct plan *plan, struct trips *trips); /* adds what was tried */
+void try_demand_3(const struct plan *plan, struct demands *demands); /* adds what was tried */
+void try_cycles(const struct plan *plan, struct trips *trips); /* the same */
 struct drop try_drop(const struct plan *plan);
 
 #endif

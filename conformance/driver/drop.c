@@ -1,12 +1,9 @@
-/* T-03, tried: a request outlasts its source's links. These stop and start, one of them or both, and so do others; hosts call, and
- * devices are reset, but not the source. Until its host is told of the acknowledge or of the timeout, the source holds k, and its
+/* T-03, tried: a request outlasts its source's links. These stop and start, one of them or both, and so do others; hosts call and
+ * tick, and devices are reset, but not the source. Until its host is told of the acknowledge or of the timeout, the source holds k, and its
  * timer has fallen by one in each round. */
 #include "driver.h"
 
 enum { MOST_LOAD = 30, MOST_CALLS = 2 };
-
-/* What a told word is about. */
-enum { OF_ACKNOWLEDGE = 2, OF_TIMEOUT = 3 };
 
 static struct course course;
 static struct spread request;
@@ -34,6 +31,7 @@ static void prepare(void) {
         open_links(&course, 1);
         for (u32 k = 0; k < IDENTIFIERS; k++)
             unset(&course, k);
+        no_times(&course);
     }
     u32 *words = device_words(&course.state, request.start);
     words[0] &= ~(1u << request.k);
@@ -102,7 +100,7 @@ static void call_on(void) {
 static enum answer heard(void) {
     for (u32 i = 0; i < course.played.count; i++) {
         u32 word = course.played.told[i], kind = word / 65536;
-        if (word % 65536 != request.start * 256 + request.k)
+        if (!tells_of(word, request.k) || word / 256 % 256 != request.start)
             continue;
         if (kind != (rounds == load ? OF_TIMEOUT : OF_ACKNOWLEDGE))
             broken(&request, "told what it should not be (word, round)", word, rounds);

@@ -7,11 +7,6 @@ static struct state state;
 static struct played played;
 static struct printed printed = {.text_length = TEXT_BYTES};
 
-static void seal_devices(void) {
-    for (u32 d = 0; d < plan.bytes[1]; d++)
-        seal(&plan, 1 + d);
-}
-
 /* Node 0, source of 5, to router 1, to node 2, handler of 5. */
 static void three_in_a_row(void) {
     blank(&plan, 3);
@@ -20,7 +15,7 @@ static void three_in_a_row(void) {
     connect_ports(&plan, 1, 1, 2, 0, 15);
     device_block(&plan, 0)[SOURCES] = device_block(&plan, 2)[HANDLERS] = 1 << 5;
     set_loads(&plan, 100, 200);
-    seal_devices();
+    seal_devices(&plan);
 }
 
 static void known_report(void) {
@@ -38,7 +33,7 @@ static void fullest_report(void) {
             connect_ports(&plan, d, 0, d + 1, 0, 15);
         put_number(device_block(&plan, d) + SOURCES, 4, 0xFFFFFFFF);
     }
-    seal_devices();
+    seal_devices(&plan);
     set_loads(&plan, 65535, 65535);
     must_be("the fullest report", 0, try_report(&plan, &printed));
 }
@@ -73,7 +68,7 @@ static void fullest_round(void) {
         connect_ports(&plan, d, 1, (d + 1) % DEVICES, 0, 15);
     }
     set_loads(&plan, 1, 1);
-    seal_devices();
+    seal_devices(&plan);
     must_be("the start", 0, try_start(&plan, &state));
     for (u32 d = 0; d < DEVICES; d++) {
         for (u32 i = 0; i < DEVICE_WORDS; i++)
@@ -133,7 +128,7 @@ static void known_meeting(const struct meeting *meeting) {
     if (meeting->closed)
         port_entry(&plan, 0, 0)[2] = 5;
     set_loads(&plan, 100, 200);
-    seal_devices();
+    seal_devices(&plan);
     must_be("the start", 0, try_start(&plan, &state));
     device_words(&state, 0)[0] = meeting->held << 5;
     device_words(&state, 0)[1 + 5] = meeting->held ? 70 : 0;
@@ -157,7 +152,7 @@ static void not_past_a_node(void) {
     connect_ports(&plan, 0, 1, 2, 0, 15);
     device_block(&plan, 0)[SOURCES] = device_block(&plan, 1)[HANDLERS] = 1 << 5;
     set_loads(&plan, 1000, 1000);
-    seal_devices();
+    seal_devices(&plan);
     must_be("the start", 0, try_start(&plan, &state));
     must_be("reach from both ports", 0, try_reach(&plan, &state, 0, 5));
     must_be("the devices reached", 3, value_given(0));
@@ -206,7 +201,7 @@ static const struct fault {
 /* Every call over a file that is not accepted answers the file's number. */
 static void refused_by_all(u32 number) {
     must_be("a file with a fault", number, try_plan_read(&plan));
-    for (enum call call = START; call <= RESET; call++)
+    for (enum call call = START; call <= TICK; call++)
         must_be("a call over it", number, try_change((struct change){.call = call}, &plan, &state));
     must_be("a link that is to run", number, try_change((struct change){.call = LINK, .running = 1}, &plan, &state));
     must_be("a round over it", number, try_round(&plan, &state, &played));

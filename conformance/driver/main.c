@@ -2,9 +2,9 @@
 #include "driver.h"
 
 static struct plan plan;
-static size seed, this_case, before_case, demands, demands_from_both;
+static size seed, this_case, before_case;
 static size drops[ANSWERS], replugged[ANSWERS], one_of_two, both_of_two;
-static u32 longest;
+static struct demands demands;
 static struct trips trips;
 
 void say_where(void) {
@@ -18,23 +18,21 @@ static void play(size which) {
     random_begin(seed, which);
     if (which == 0) {
         known_values();
+        known_times();
         try_tables();
     }
     make_plan(&plan);
     count_shapes(&plan);
     try_files(&plan);
+    try_masters(&plan);
     try_calls(&plan);
     try_ports(&plan);
     try_run(&plan, which % 16 == 15 ? 500 : 40);
     try_settling(&plan);
     try_reports(&plan);
-    flag from_both = 0;
-    u32 window = try_demand_3(&plan, &from_both);
-    demands += window > 0;
-    demands_from_both += from_both;
-    if (window > longest)
-        longest = window;
+    try_demand_3(&plan, &demands);
     try_cycles(&plan, &trips);
+    try_time(&plan);
     struct drop drop = try_drop(&plan);
     drops[drop.answer]++;
     replugged[drop.answer] += drop.again;
@@ -50,13 +48,15 @@ static flag tried(const char *what, size times) {
 
 /* Whatever the run is to try was tried at least once. */
 static flag all_tried(void) {
-    flag all = tried("demand 3", demands);
-    all &= tried("demand 3 from two ports", demands_from_both);
+    flag all = tried("demand 3", demands.networks);
+    all &= tried("demand 3 from two ports", demands.from_both);
+    all &= tried("demand 3 with a first crossing of 64 rounds", demands.slowest == CROSSING);
     all &= tried("T-01", trips.networks);
     all &= tried("T-01, two cycles in a row", trips.cycles - trips.networks);
     all &= tried("T-01 from a source with two ports that run", trips.from_both);
     all &= tried("T-01 with a handler that has two", trips.back_by_both);
     all &= tried("T-01 with an acknowledge that gets to devices out of the source's reach", trips.beyond);
+    all &= tried("T-01 with a first crossing of 64 rounds by an acknowledge", trips.slowest_back == CROSSING);
     all &= tried("a pair that does not allow T-01", trips.other_pairs);
     all &= tried("T-03, an acknowledge after a cable was out and in again", replugged[ACKNOWLEDGED]);
     all &= tried("T-03, a timeout after that", replugged[TIMED_OUT]);
@@ -74,15 +74,16 @@ static void progress(size played, size cases) {
 /* What was tried beside the calls one by one. */
 static void report(void) {
     printf("demand 3 tried on %lu of the networks, for up to %u rounds; in the others no node is joined to anything\n"
-           "  from a source with two ports that run: %lu\n",
-           demands, longest, demands_from_both);
+           "  from a source with two ports that run: %lu, with ticks all the while: %lu; the slowest first crossing: %u rounds\n",
+           demands.networks, demands.longest, demands.from_both, demands.ticked, demands.slowest);
     printf("T-01 tried on %lu of the networks, in %lu cycles of up to %u rounds; in %lu no node reaches another, and in %lu one\n"
            "  does, but no pair of them allows it\n"
            "  pairs that allow it: %lu, and that do not: %lu\n",
            trips.networks, trips.cycles, trips.longest, trips.alone, trips.unfound, trips.pairs, trips.other_pairs);
     printf("  cycles from a source with two ports that run: %lu, with such a handler: %lu, with an acknowledge that gets to devices\n"
-           "  out of the source's reach: %lu\n",
-           trips.from_both, trips.back_by_both, trips.beyond);
+           "  out of the source's reach: %lu, with ticks all the while: %lu\n"
+           "  the slowest first crossing of an interrupt: %u rounds, of an acknowledge: %u\n",
+           trips.from_both, trips.back_by_both, trips.beyond, trips.ticked, trips.slowest, trips.slowest_back);
     printf("T-03 tried on %lu of the networks; in the others no node is joined to anything\n",
            drops[ACKNOWLEDGED] + drops[TIMED_OUT]);
     printf("  told of the acknowledge %lu times, %lu of them after a cable was out and in again; of the timeout %lu times, %lu of "
@@ -109,9 +110,11 @@ int main(int count, char **words) {
     }
     printf("seed %lu, cases %lu to %lu\n", seed, first, first + cases - 1);
     table();
+    clauses_table();
     ports_table();
     report();
-    if (whole && !(all_hit() && all_tried() && all_ports_tried()))
+    time_table();
+    if (whole && !(all_hit() && all_broken() && all_tried() && all_ports_tried() && all_time_tried()))
         return 1;
     printf("judge: ok\n");
     return 0;

@@ -15,6 +15,15 @@ flag in_mask(struct plan *plan, u32 device, u32 mask, u32 k) {
     return device_block(plan, device)[mask + k / 8] >> k % 8 & 1;
 }
 
+u32 master_of(const struct plan *plan) {
+    return plan->bytes[MASTER] ? plan->bytes[MASTER] - 1u : NO_MASTER;
+}
+
+void name_master(struct plan *plan, u32 device) {
+    plan->bytes[MASTER] = 1 + device;
+    seal(plan, 0);
+}
+
 /* The role that this mask is about, and not the other one: no node has both for one identifier. */
 void give_role(struct plan *plan, u32 device, u32 mask, u32 k) {
     u8 *block = device_block(plan, device), bit = 1 << k % 8;
@@ -31,6 +40,11 @@ void put_number(u8 *at, u32 bytes, u32 number) {
 
 void seal(struct plan *plan, u32 block) {
     put_number(plan->bytes + BLOCK * block + 510, 2, block_check(plan->bytes + BLOCK * block));
+}
+
+void seal_devices(struct plan *plan) {
+    for (u32 d = 0; d < plan->bytes[1]; d++)
+        seal(plan, 1 + d);
 }
 
 void set_loads(struct plan *plan, u32 router, u32 node) {
@@ -311,12 +325,24 @@ static void load(struct plan *plan) {
     set_loads(plan, one < other ? one : other, one < other ? other : one);
 }
 
+/* In half of the networks no device is the master, and where there are only routers none is either. */
+static void choose_master(struct plan *plan, u32 devices) {
+    u32 first = pick(devices);
+    for (u32 i = once_in(2) ? devices : 0; i < devices; i++) {
+        u32 d = (first + i) % devices;
+        if (device_block(plan, d)[2] == 1)
+            continue;
+        name_master(plan, d);
+        return;
+    }
+}
+
 void make_plan(struct plan *plan) {
     u32 devices = once_in(8) ? 32 : once_in(3) ? 1 + pick(32) : 1 + pick(10);
     blank(plan, devices);
     shape(plan, devices);
     dress(plan, devices);
     load(plan);
-    for (u32 d = 0; d < devices; d++)
-        seal(plan, 1 + d);
+    seal_devices(plan);
+    choose_master(plan, devices);
 }

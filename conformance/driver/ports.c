@@ -55,6 +55,8 @@ void count_shapes(struct plan *given) {
 static void set_running(u32 device, u32 port, flag running) {
     u32 *words = port_words(&state, device, port), permissions = port_entry(&plan, device, port)[2];
     words[AT_RUNNING] = running;
+    if (!running)
+        *time_word(&state, device, port) &= AFTER_TIME;
     if (!running || !(permissions & 1))
         words[AT_INTERRUPTS] = 0;
     if (!running || !(permissions & 4))

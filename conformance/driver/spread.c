@@ -1,5 +1,5 @@
-/* What demand 3 and T-01 have in common, a code of k that spreads from one device while other identifiers are used; and, with
- * T-03, how a source is chosen and rounds are played. */
+/* What demand 3 and T-01 have in common, a code of k that spreads from one device while other identifiers are used and a master
+ * ticks; and, with T-03 and T-07, how a source is chosen and rounds are played. */
 #include "driver.h"
 
 enum { EVERYTHING = 15 }; /* all four permissions */
@@ -8,6 +8,8 @@ void begin_course(struct course *course, const struct plan *plan) {
     course->plan = *plan;
     sound_state(&course->plan, &course->state);
     right_lengths(&course->played);
+    course->ticks = 0;
+    course->ticks_apart = 0;
     course->known = 0;
 }
 
@@ -92,6 +94,21 @@ void unset(struct course *course, u32 k) {
     }
 }
 
+void no_times(struct course *course) {
+    for (u32 d = 0; d < DEVICES; d++)
+        for (u32 p = 0; p < PORTS; p++)
+            *time_word(&course->state, d, p) &= AFTER_TIME;
+}
+
+void let_tick(struct course *course, u32 node) {
+    static const u32 often[] = {1, 1, 2, 6};
+    if (once_in(2))
+        return;
+    if (once_in(2) || master_of(&course->plan) == NO_MASTER)
+        name_master(&course->plan, node);
+    course->ticks = often[pick(sizeof often / sizeof *often)];
+}
+
 void crowd(struct course *course, u32 k) {
     struct plan *plan = &course->plan;
     for (u32 d = 0; d < plan->bytes[1]; d++)
@@ -112,19 +129,23 @@ void read_records(struct course *course) {
             network_read(&course->records, plan->bytes, plan->length, state->words, state->length));
 }
 
+u32 farthest(const u32 distance[DEVICES]) {
+    u32 most = 0;
+    for (u32 d = 0; d < DEVICES; d++)
+        if (distance[d] != UNREACHED && distance[d] > most)
+            most = distance[d];
+    return most;
+}
+
 void measure(struct course *course, struct spread *spread, const u32 *within) {
-    u32 farthest = 0;
     read_records(course);
     crossings(&course->records, spread->start, spread->kind, within, spread->distance);
-    for (u32 d = 0; d < DEVICES; d++)
-        if (spread->distance[d] != UNREACHED && spread->distance[d] > farthest)
-            farthest = spread->distance[d];
-    spread->window = 32 * (farthest + 1);
+    spread->window = CROSSING * (farthest(spread->distance) + 1);
 }
 
 void exceed(struct course *course, u32 rounds) {
-    u32 router = rounds + 1 + (once_in(2) ? 0 : pick(30000));
-    set_loads(&course->plan, router, router + (once_in(2) ? 0 : pick(30000)));
+    u32 router = rounds + 1 + (once_in(2) ? 0 : pick(29000));
+    set_loads(&course->plan, router, router + (once_in(2) ? 0 : pick(29000)));
 }
 
 u32 make_call(struct course *course, struct change change) {
@@ -137,15 +158,20 @@ u32 host_calls(struct course *course, enum call call, u32 device, u32 k) {
     return make_call(course, (struct change){.call = call, .device = device, .other = k});
 }
 
-/* A call on another identifier, or one that is refused: no other call is made in the window. */
+/* May the call be taken in the window? */
+static flag may_be_made(const struct course *course, struct change change, u32 k) {
+    if (change.call == TICK)
+        return !course->ticks_apart;
+    return (change.call == REQUEST || change.call == ACKNOWLEDGES) && (u32)change.other != k;
+}
+
+/* A call on another identifier, a tick, or a call that is refused: no other call is made in the window. */
 static void other_call(struct course *course, u32 k) {
     static struct state scratch;
     struct plan *plan = &course->plan;
     struct change change = likely_change(plan);
-    flag of_host = change.call == REQUEST || change.call == ACKNOWLEDGES;
     scratch = course->state;
-    if ((!of_host || (u32)change.other == k) &&
-        judge_change(change, plan->bytes, plan->length, scratch.words, scratch.length) == 0)
+    if (!may_be_made(course, change, k) && judge_change(change, plan->bytes, plan->length, scratch.words, scratch.length) == 0)
         return;
     make_call(course, change);
 }
@@ -153,6 +179,8 @@ static void other_call(struct course *course, u32 k) {
 void play_on(struct course *course, u32 k, u32 calls) {
     for (u32 i = pick(1 + calls); i; i--)
         other_call(course, k);
+    if (course->ticks && once_in(course->ticks))
+        make_call(course, (struct change){.call = TICK, .device = master_of(&course->plan)});
     if (!course->known)
         read_records(course);
     course->known = 1;
@@ -169,13 +197,26 @@ flag holds(struct course *course, u32 device, u32 k) {
     return device_words(&course->state, device)[0] >> k & 1;
 }
 
-void check_held(const struct spread *spread, struct course *course, u32 round) {
+flag tells_of(u32 word, u32 k) {
+    return word / 65536 != OF_TIME && word % 256 == k;
+}
+
+void has_come(struct spread *spread, u32 device, u32 round) {
+    if (spread->distance[device] != 1 || spread->crossed[device])
+        return;
+    spread->crossed[device] = 1;
+    spread->slowest = round;
+}
+
+void check_held(struct spread *spread, struct course *course, u32 round) {
     for (u32 d = 0; d < DEVICES; d++) {
         flag held = holds(course, d, spread->k);
         if (spread->distance[d] == UNREACHED && held)
             broken(spread, "held out of reach (device, round)", d, round);
-        if (spread->distance[d] != UNREACHED && round >= 32 * spread->distance[d] && !held)
+        if (spread->distance[d] != UNREACHED && round >= CROSSING * spread->distance[d] && !held)
             broken(spread, "not held (device, round)", d, round);
+        if (held)
+            has_come(spread, d, round);
     }
 }
 

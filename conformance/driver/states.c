@@ -9,6 +9,14 @@ u32 *port_words(struct state *state, u32 device, u32 port) {
     return state->words + FIRST_PORT + PORT_WORDS * (PORTS * device + port);
 }
 
+u32 *counter_word(struct state *state, u32 device) {
+    return state->words + FIRST_COUNTER + device;
+}
+
+u32 *time_word(struct state *state, u32 device, u32 port) {
+    return state->words + FIRST_TIME + PORTS * device + port;
+}
+
 static u32 some_of(u32 density) {
     u32 all = random_word();
     return density == 0 ? 0 : density == 1 ? all & random_word() & random_word() : density == 2 ? all : 0xFFFFFFFF;
@@ -31,8 +39,24 @@ static void sound_port(struct plan *plan, struct state *state, u32 d, u32 p, u32
     words[AT_ACKNOWLEDGES] = entry[2] & 4 ? some_of(density) & ~interrupts : 0;
 }
 
+/* Times are mostly close to each other, so that many codes are one above a counter. */
+static u32 near_time(u32 time) {
+    return once_in(6) ? pick(TIMES) : (time + pick(4)) % TIMES;
+}
+
+/* A counter, and at the ports of the device as many Time-Codes as the density says. Any port may have sent one last. */
+static void sound_times(struct plan *plan, struct state *state, u32 d, u32 time, u32 density) {
+    *counter_word(state, d) = near_time(time);
+    for (u32 p = 0; p < device_block(plan, d)[3]; p++) {
+        u32 last = once_in(2) ? AFTER_TIME : 0, waits = port_words(state, d, p)[AT_RUNNING] && pick(4) < density;
+        *time_word(state, d, p) = last + (waits ? 1 + near_time(time) : 0);
+    }
+}
+
+/* In half of the states there is nothing of Time-Codes. */
 void sound_state(struct plan *plan, struct state *state) {
     u32 set = pick(4), waiting = pick(4), brief = pick(3), stopped = once_in(3) ? 3 : 30;
+    u32 timed = once_in(2), time = pick(TIMES), times = pick(4);
     state->length = STATE_WORDS;
     memset(state->words, 0, sizeof state->words);
     for (u32 d = 0; d < plan->bytes[1]; d++) {
@@ -43,8 +67,21 @@ void sound_state(struct plan *plan, struct state *state) {
                 words[1 + k] = once_in(40) ? 65535 : 1 + (pick(3) < brief ? pick(4) : pick(65535));
         for (u32 p = 0; p < device_block(plan, d)[3]; p++)
             sound_port(plan, state, d, p, waiting, stopped);
+        if (timed)
+            sound_times(plan, state, d, time, times);
     }
 }
+
+/* The clauses, in the order of the functions below. */
+static const char *const clauses[CLAUSES] = {
+    "a timer of 0 whose bit is 1", "a timer above 65,535", "a timer whose bit is 0", "a bit turned round", "next above 31",
+    "a flag above 1", "ends that do not agree", "a port that runs and is joined to nothing", "an identifier as both kinds",
+    "an interrupt at a port that stands still", "an acknowledge at such a port", "an interrupt that may not be sent",
+    "an acknowledge that may not", "a register or timer of no device", "a word of no port", "a counter above 63",
+    "a Time-Code word of 65 to 127", "a Time-Code word above 192", "a Time-Code at a port that stands still",
+    "a Time-Code at a port joined to nothing", "a counter of no device", "a Time-Code word of no port of a device",
+    "a Time-Code word of no device"};
+static size broken_so[CLAUSES];
 
 static u32 out_of(u32 limit) {
     const u32 values[] = {limit, limit + 1, 65536 + pick(limit), 0x80000000, 0xFFFFFFFF};
@@ -80,9 +117,30 @@ static flag break_port(const u8 *entry, u32 *words, u32 clause) {
     }
 }
 
+/* Clauses about the counter of a device and the Time-Code word of a port, where there are or are not such ones. */
+static flag break_time(struct plan *plan, struct state *state, u32 d, u32 p, u32 clause) {
+    flag device = d < plan->bytes[1], port = device && p < device_block(plan, d)[3];
+    flag joined = port && port_entry(plan, d, p)[0] != 255, runs = port && port_words(state, d, p)[AT_RUNNING];
+    u32 *counter = counter_word(state, d), *time = time_word(state, d, p), waiting = 1 + pick(TIMES), above = pick(63);
+    u32 any = once_in(3) ? AFTER_TIME : waiting + (once_in(2) ? AFTER_TIME : 0);
+    const u32 great[] = {193, 193 + above, 255, 256, 256 + waiting, 0x80000000, 0x80000080 + waiting, 0xFFFFFFFF};
+    switch (clause) {
+    case 15: *counter = out_of(TIMES); return device;
+    case 16: *time = 65 + above; return runs;
+    case 17: *time = great[pick(sizeof great / sizeof *great)]; return runs;
+    case 18: *time = waiting + (once_in(2) ? AFTER_TIME : 0); return joined && !runs;
+    case 19: *time = waiting + (once_in(2) ? AFTER_TIME : 0); return port && !joined;
+    case 20: *counter = waiting; return !device;
+    case 21: *time = any; return device && !port;
+    default: *time = any; return !device;
+    }
+}
+
 static flag break_at(struct plan *plan, struct state *state, u32 clause) {
     u32 d = pick(DEVICES), p = pick(PORTS), value = once_in(2) ? 1 : 1u << pick(32);
     flag device = d < plan->bytes[1], port = device && p < device_block(plan, d)[3];
+    if (clause > 14)
+        return break_time(plan, state, d, p, clause);
     if (clause == 13) {
         device_words(state, d)[pick(DEVICE_WORDS)] = value;
         return !device;
@@ -100,9 +158,27 @@ static flag break_at(struct plan *plan, struct state *state, u32 clause) {
 flag break_state(struct plan *plan, struct state *state, u32 clause) {
     struct state sound = *state;
     for (u32 times = 0; times < 60; times++) {
-        if (break_at(plan, state, clause))
+        if (break_at(plan, state, clause)) {
+            broken_so[clause]++;
             return 1;
+        }
         *state = sound;
     }
     return 0;
+}
+
+void clauses_table(void) {
+    printf("states with one thing wrong                    times\n");
+    for (u32 c = 0; c < CLAUSES; c++)
+        printf("  %-41s %8lu\n", clauses[c], broken_so[c]);
+}
+
+flag all_broken(void) {
+    flag all = 1;
+    for (u32 c = 0; c < CLAUSES; c++)
+        if (!broken_so[c]) {
+            printf("no state was wrong so: %s\n", clauses[c]);
+            all = 0;
+        }
+    return all;
 }

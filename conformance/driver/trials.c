@@ -28,7 +28,7 @@ struct change likely_change(struct plan *plan) {
     static const struct change changes[] = {
         {.call = REQUEST}, {.call = REQUEST}, {.call = REQUEST}, {.call = REQUEST}, {.call = ACKNOWLEDGES},
         {.call = ACKNOWLEDGES}, {.call = ACKNOWLEDGES}, {.call = LINK, .running = 1},
-        {.call = LINK, .running = 0x80000000}, {.call = LINK}, {.call = RESET}};
+        {.call = LINK, .running = 0x80000000}, {.call = LINK}, {.call = RESET}, {.call = TICK}, {.call = TICK}};
     struct change change = changes[pick(sizeof changes / sizeof *changes)];
     change.device = wild(plan->bytes[1]);
     change.other = wild(change.call == LINK ? PORTS : IDENTIFIERS);
@@ -36,6 +36,8 @@ struct change likely_change(struct plan *plan) {
         likely_host(plan, change.call, &change.device, &change.other);
     if (change.call == LINK && change.device < plan->bytes[1] && !once_in(6))
         change.other = pick(device_block(plan, change.device)[3] % (PORTS + 1) + 1);
+    if (change.call == TICK && master_of(plan) != NO_MASTER && !once_in(4))
+        change.device = master_of(plan);
     return change;
 }
 
