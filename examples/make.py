@@ -14,6 +14,7 @@ class Plan:
 
     def __init__(self, router_load, node_load):
         self.loads = (router_load, node_load)
+        self.master = None
         self.devices = []
 
     def add(self, role, ports, source=(), handler=()):
@@ -35,7 +36,8 @@ class Plan:
 
     def file(self):
         router, node = self.loads
-        blocks = [sealed(bytes([1, len(self.devices)]) + two(router) + two(node))]
+        master = 0 if self.master is None else 1 + self.master
+        blocks = [sealed(bytes([1, len(self.devices)]) + two(router) + two(node) + bytes([0, 0, 0, 0, master]))]
         for d, device in enumerate(self.devices):
             fields = bytes([2, d, device["role"], device["ports"]]) + four(device["source"]) + four(device["handler"])
             blocks.append(sealed(fields + b"".join(bytes(e) for e in device["entries"])))
@@ -264,6 +266,20 @@ def parted():
     return straps(joined=False, cut=[(2, 0)])
 
 
+def timed():
+    """Three routers in a ring, a source, a handler and the master of time at one each, and a unit on two of them: Time-Codes and interrupts
+    share the links."""
+    plan = Plan(2000, 2400)
+    source, first = plan.node(source=[5]), plan.router(3)
+    handler, second, third = plan.node(handler=[5, 6]), plan.router(4), plan.router(4)
+    master, unit = plan.node(), plan.node(source=[6], ports=2)
+    for near, far in (((first, 1), (second, 0)), ((second, 1), (third, 0)), ((third, 1), (first, 2)), ((source, 0), (first, 0)),
+                      ((master, 0), (second, 2)), ((handler, 0), (third, 2)), ((unit, 0), (second, 3)), ((unit, 1), (third, 3))):
+        plan.join(near, far)
+    plan.master = master
+    return plan
+
+
 def idle():
     """One node, joined to nothing, and no source: the smallest file there is."""
     plan = Plan(1, 1)
@@ -273,5 +289,5 @@ def idle():
 
 if __name__ == "__main__":
     folder = pathlib.Path(sys.argv[1] if len(sys.argv) > 1 else pathlib.Path(__file__).parent)
-    for make in (three, ring, tree, torus, full, loop, brief, mute, incident, mesh, chain, never, fading, twice, refused, strapped, cut, parted, idle):
+    for make in (three, ring, tree, torus, full, loop, brief, mute, incident, mesh, chain, never, fading, twice, refused, strapped, cut, parted, timed, idle):
         (folder / f"{make.__name__}.plan").write_bytes(make().file())
