@@ -111,6 +111,43 @@ static void try_block(u32 block) {
     say("loose", block, LONGEST_FILE);
 }
 
+/* Byte 10 of block 0 names the master: nobody, a router, a node, or a device that there is not. The plan has routers first. */
+static void name_masters(void) {
+    static const u8 bytes[] = {0, 1, 8, 9, 32, 33, 64, 128, 255};
+    for (u32 i = 0; i < sizeof bytes / sizeof *bytes; i++) {
+        copy = whole;
+        put(0, MASTER, bytes[i]);
+        say("master", bytes[i], LONGEST_FILE);
+    }
+}
+
+/* A router is the master, and there is a fault more: before its block, in it, and behind it. */
+static void name_masters_together(void) {
+    static const struct {
+        const char *done;
+        u32 block, at;
+        u8 byte;
+    } faults[] = {{"zero", 0, LAST_ZERO, 1}, {"zero", 2, LAST_ZERO, 1}, {"kind", 3, 0, 7}, {"number", 3, 1, 99},
+                  {"zero", 3, LAST_ZERO, 1}, {"kind", 4, 0, 7}};
+    for (u32 i = 0; i < sizeof faults / sizeof *faults; i++) {
+        copy = whole;
+        put(0, MASTER, 3);
+        put(faults[i].block, faults[i].at, faults[i].byte);
+        printf("master 3, and ");
+        say(faults[i].done, faults[i].block, LONGEST_FILE);
+    }
+    copy = whole;
+    put(0, MASTER, 3);
+    spoil(3, LAST_ZERO, 1);
+    say("master 3, and spoiled in", 3, LONGEST_FILE);
+    copy = whole;
+    put(0, MASTER, 33);
+    put(0, MASTER - 1, 1);
+    say("master 33, and zero in", 0, LONGEST_FILE);
+    put(0, 1, 31);
+    say("and devices", 31, LONGEST_FILE);
+}
+
 /* Several faults at once: the first in the order of the tests is answered. */
 static void try_together(void) {
     copy = whole;
@@ -153,5 +190,7 @@ int main(int count, char **words) {
     for (u32 block = 0; block <= DEVICES; block++)
         try_block(block);
     try_together();
+    name_masters();
+    name_masters_together();
     return 0;
 }

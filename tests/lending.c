@@ -2,7 +2,7 @@
  *
  *     lending pairs < PLAN     every pair of what a call is lent, sharing all, a word or a byte; no alignment; null; lengths
  *                              that no memory has; for codes and one device, all places of their values together. PLAN is
- *                              examples/three.plan.
+ *                              examples/timed.plan.
  *     lending text < PLAN      what the program settle prints, by the calls of the header
  *
  * What has to happen is worked out here by another method than the header's: each byte lent is counted. */
@@ -24,7 +24,7 @@ static bench_u32 started[BENCH_STATE];
 /* ---- the calls, over what they are lent in the order of their parameters */
 
 enum kind { NONE, PLAN, STATE, OUT, TEXT, VALUE };
-enum { LENT = 6, NODE = 0, ROUTER = 1, HANDLER = 2, IDENTIFIER = 5 };
+enum { LENT = 6, NODE = 0, ROUTER = 1, HANDLER = 2, MASTER = 5, IDENTIFIER = 5 };
 
 typedef void *const *places;
 typedef const bench_size *lengths;
@@ -55,6 +55,10 @@ static bench_u32 run(places at, lengths n) {
 
 static bench_u32 reset(places at, lengths n) {
     return bench_reset(at[0], n[0], at[1], n[1], ROUTER);
+}
+
+static bench_u32 tick(places at, lengths n) {
+    return bench_tick(at[0], n[0], at[1], n[1], MASTER);
 }
 
 static bench_u32 round(places at, lengths n) {
@@ -89,6 +93,7 @@ static const struct call {
     {"link, 0", stop, {PLAN, STATE}, {0, BENCH_STATE}, 0, {20, 2}},
     {"link, 1", run, {PLAN, STATE}, {0, BENCH_STATE}, 10, {20, 2}},
     {"reset", reset, {PLAN, STATE}, {0, BENCH_STATE}, 0, {20, 2}},
+    {"tick", tick, {PLAN, STATE}, {0, BENCH_STATE}, 0, {20, 2}},
     {"round", round, {PLAN, STATE, OUT, OUT, OUT, VALUE}, {0, BENCH_STATE, BENCH_STATE, BENCH_SENT, BENCH_TOLD}, 0,
      {20, 2, 3, 3, 3}},
     {"settle", settle, {PLAN, STATE, VALUE}, {0, BENCH_STATE}, 0, {20, 2}},
@@ -308,7 +313,7 @@ static void try_call(const struct call *of) {
 
 /* ---- codes and one device: nothing is refused by 3, and each value goes anywhere or nowhere */
 
-enum { VALUES = 4, OFFSETS = 8, ANYWHERE = OFFSETS + 1 };
+enum { VALUES = 5, OFFSETS = 8, ANYWHERE = OFFSETS + 1, WAYS = ANYWHERE * ANYWHERE * ANYWHERE * ANYWHERE * ANYWHERE };
 static bench_u32 *place[VALUES];
 
 /* The front of the arena is filled anew. Each of the values has any place in it, aligned or not, shared or not, or none at all. */
@@ -332,26 +337,42 @@ static void must_stand(const bench_u32 *values, unsigned count, bench_u32 return
             fail("a byte of what a call over a code gives (place, byte)", i, arena[i]);
 }
 
-/* A byte is read; a code is written; a byte comes to a router, whose register stands at the first place and is put there again. */
+/* What stands at a place before a call; nowhere it is 0. */
+static bench_u32 standing(unsigned i) {
+    bench_u32 value = 0;
+    if (place[i])
+        memcpy(&value, place[i], 4);
+    return value;
+}
+
+/* A byte comes to a router, whose register stands at the first place and its counter at the second; both are put there again. */
+static void try_reaction(bench_u8 byte, bench_u32 kind, bench_u32 top, bench_u32 value, unsigned way) {
+    choose(way);
+    bench_u32 held = standing(0), counter = standing(1), bit = kind == BENCH_INTERRUPT ? 1u << value : 0;
+    int time = kind == BENCH_TIME, taken = time ? (counter + 1) % 64 == value : bit && !(held & bit);
+    must_stand((bench_u32[]){held | bit, time ? value : counter, kind, top, value}, 5,
+               bench_react(1, 1, 15, place[0], place[1], byte, place[2], place[3], place[4]),
+               taken ? BENCH_FORWARDED : bit ? BENCH_IGNORED : BENCH_NAMED);
+}
+
+/* A byte is read; a code is written; and the byte comes to a router. */
 static void try_code(bench_u8 byte, bench_u32 kind, bench_u32 top, bench_u32 value, unsigned way) {
-    bench_u32 held = 0;
     choose(way);
     must_stand((bench_u32[]){top, value}, 2, bench_code_read(byte, place[0], place[1]), kind);
     choose(way);
     must_stand((bench_u32[]){kind == BENCH_RESERVED ? 0 : byte}, 1, bench_code_write(kind, value, place[0]),
                kind == BENCH_RESERVED ? 5 : 0);
-    choose(way);
-    if (place[0])
-        memcpy(&held, place[0], 4);
-    bench_u32 bit = kind == BENCH_INTERRUPT ? 1u << value : 0;
-    must_stand((bench_u32[]){held | bit, kind, top, value}, 4,
-               bench_react(1, 1, 15, place[0], byte, place[1], place[2], place[3]),
-               !bit ? BENCH_NAMED : held & bit ? BENCH_IGNORED : BENCH_FORWARDED);
+    try_reaction(byte, kind, top, value, way);
 }
 
+/* Of Time-Codes also the one that is next where the counter stands. */
 static void try_codes(void) {
     call = 0;
-    for (unsigned way = 0; way < ANYWHERE * ANYWHERE * ANYWHERE * ANYWHERE; way++) {
+    for (unsigned way = 0; way < WAYS; way++) {
+        choose(way);
+        bench_u32 next = (standing(1) + 1) % 64;
+        try_code(next, BENCH_TIME, 0, next, way);
+        try_code(40, BENCH_TIME, 0, 40, way);
         try_code(128 + 9, BENCH_INTERRUPT, 2, 9, way);
         try_code(64 + 5, BENCH_RESERVED, 1, 5, way);
         try_code(192 + 63, BENCH_RESERVED, 3, 63, way);

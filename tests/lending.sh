@@ -16,7 +16,7 @@ done
 
 build staticlib door
 compile tests/lending.c "$work/lending" target/staticlib/libdoor.a
-run "$work/lending" pairs <examples/three.plan
+run "$work/lending" pairs <examples/timed.plan
 
 # Settled by the header's calls, with a round in one area tried and refused on the way, every plan gives its stored text.
 for plan in examples/*.plan; do

@@ -79,14 +79,38 @@ static void take_plan(void) {
     close(file);
 }
 
-/* A call takes its numbers from the line; only a link has a flag. */
+/* Where the state has anything of Time-Codes: the counters of all devices, and device, port and word of each port whose Time-Code
+ * word is not 0. */
+static void print_times(void) {
+    const u32 *counters = state.words + FIRST_COUNTER, *times = state.words + FIRST_TIME;
+    u32 devices = plan.bytes[1], any = 0;
+    for (u32 i = 0; i < DEVICES + DEVICES * PORTS; i++)
+        any |= counters[i];
+    if (!any)
+        return;
+    printf("counters");
+    for (u32 d = 0; d < devices; d++)
+        printf(" %u", counters[d]);
+    printf("; times");
+    for (u32 q = 0; q < PORTS * devices; q++)
+        if (times[q])
+            printf(" %u/%u:%u", q / PORTS, q % PORTS, times[q]);
+    printf("\n");
+}
+
+/* A call takes its numbers from the line; only a link has a flag, and a tick has its device alone. What is refused changes nothing
+ * that could be printed. */
 static void change(enum call call) {
     struct change change = {.call = call};
     change.device = number();
-    change.other = number();
+    if (call != TICK)
+        change.other = number();
     if (call == LINK)
         change.running = number();
-    printf("%s: %u\n", line, try_change(change, &plan, &state));
+    u32 answer = try_change(change, &plan, &state);
+    printf("%s: %u\n", line, answer);
+    if (!answer)
+        print_times();
 }
 
 /* Over an area that held something else. */
@@ -109,6 +133,10 @@ static void link(void) {
 
 static void reset(void) {
     change(RESET);
+}
+
+static void tick(void) {
+    change(TICK);
 }
 
 /* The last word of a state is that of a port which no plan of the scripts has: the state is not sound where it is not 0. */
@@ -141,12 +169,15 @@ static void play_rounds(void) {
             continue;
         print_round();
         state = played.next;
+        print_times();
     }
 }
 
 static void settle_all(void) {
     u32 allowance = number(), answer = try_settle(&plan, &state, allowance);
     printf("settle %u %u: %u\n", answer, allowance, value_given(0));
+    if (!answer || answer == 12)
+        print_times();
 }
 
 static const char *const kinds[] = {"time", "interrupt", "acknowledge", "reserved"};
@@ -165,12 +196,23 @@ static void read_byte(void) {
     printf("%s: %s %u %u\n", line, kinds[kind], value_given(0), value_given(1));
 }
 
-/* A byte arrives at a port of a device with this role and register: what is done, the register afterwards, and the code that is
- * handed on, as above. */
-static void arrive(void) {
-    u32 role = number(), running = number(), permissions = number(), bits = number();
-    u32 action = try_react(role, running, permissions, &bits, byte());
-    printf("%s: %s %u %s %u %u\n", line, actions[action], bits, kinds[value_given(0)], value_given(1), value_given(2));
+/* A byte arrives at a port of a device with this role and register, and, where it is timed, with this counter, which is 0 else: what
+ * is done, the register afterwards, the counter where it is timed, and the code that is handed on, as above. */
+static void arrive(flag timed) {
+    u32 role = number(), running = number(), permissions = number(), bits = number(), counter = timed ? number() : 0;
+    u32 action = try_react(role, running, permissions, &bits, &counter, byte());
+    printf("%s: %s %u", line, actions[action], bits);
+    if (timed)
+        printf(" %u", counter);
+    printf(" %s %u %u\n", kinds[value_given(0)], value_given(1), value_given(2));
+}
+
+static void arrive_anyhow(void) {
+    arrive(0);
+}
+
+static void arrive_timed(void) {
+    arrive(1);
 }
 
 /* Areas of the wrong length, several at once, beside a state that is sound. */
@@ -198,8 +240,9 @@ static const struct word {
     void (*play)(void);
 } words[] = {
     {"--", print_title}, {"#", pass_over}, {"plan", take_plan}, {"start", start_afresh}, {"request", ask},
-    {"acknowledge", acknowledge}, {"link", link}, {"reset", reset}, {"last", put_last}, {"rounds", play_rounds},
-    {"settle", settle_all}, {"byte", read_byte}, {"arrives", arrive}, {"lengths", try_lengths}, {"report", print_report},
+    {"acknowledge", acknowledge}, {"link", link}, {"reset", reset}, {"tick", tick}, {"last", put_last},
+    {"rounds", play_rounds}, {"settle", settle_all}, {"byte", read_byte}, {"arrives", arrive_anyhow}, {"comes", arrive_timed},
+    {"lengths", try_lengths}, {"report", print_report},
 };
 
 static const struct word *word_of_line(void) {

@@ -27,7 +27,8 @@ fails() {
     [ "$status" = 1 ] && [ "$(tail -n 1 "$work/given")" = "in line 3: $1" ] || { echo "played: $1"; exit 1; }
 }
 for line in 'requests 0 5' 'req 0 5' 'r 0 5' 'request' 'request 0' 'request 0 5 5' 'request 0 x' 'request 0  5' ' rounds 1' \
-    'rounds 1234567890' 'link 0 0' 'link 0 0 0 1' 'byte' 'byte 256' 'arrives 1 1 15 0' 'lengths 1' 'plan' 'plan gone.plan'; do
+    'rounds 1234567890' 'link 0 0' 'link 0 0 0 1' 'tick' 'tick 0 0' 'tick x' 'byte' 'byte 256' 'arrives 1 1 15 0' \
+    'arrives 1 1 15 0 0 133' 'comes 1 1 15 0 133' 'lengths 1' 'plan' 'plan gone.plan'; do
     fails "$line"
 done
 echo "scripts: ok"

@@ -65,6 +65,10 @@ cp $full "$work/file"
 put 32 3 2
 prints "$(stored $full)" <"$work/file"
 
+# So it is with a node as master, as nobody ticks here.
+put 0 10 32
+prints "$(stored $full)" <"$work/file"
+
 for block in 0 1 17 32; do
     cp $full "$work/file"
     spoil $((512 * block + 509)) 1
@@ -80,6 +84,11 @@ done <<'END'
 0 1 33 23 0
 0 3 255 23 0
 0 6 1 24 0
+0 9 1 24 0
+0 10 33 23 0
+0 10 1 23 1
+0 10 8 23 8
+0 11 1 24 0
 0 509 1 24 0
 0 1 31 25 0
 1 0 1 22 1

@@ -24,7 +24,7 @@ static _Alignas(16) bench_u8 stack[STACK];
 /* What the calls are given. */
 static bench_u8 file[BENCH_FILE + 1], text[BENCH_TEXT];
 static bench_size length, device, handler;
-static bench_u32 k, value, set, bits, kind, top, answer;
+static bench_u32 k, value, set, bits, counter, kind, top, answer;
 static bench_u32 before[BENCH_STATE], state[BENCH_STATE], next[BENCH_STATE], sent[BENCH_SENT], told[BENCH_TOLD];
 
 /* ---- the calls */
@@ -38,7 +38,7 @@ static void code_write(void) {
 }
 
 static void react(void) {
-    bench_react(1, 1, 15, &bits, 133, &kind, &top, &value);
+    bench_react(1, 1, 15, &bits, &counter, 133, &kind, &top, &value);
 }
 
 static void plan_read(void) {
@@ -67,6 +67,11 @@ static void run(void) {
 
 static void reset(void) {
     answer = bench_reset(file, length, state, BENCH_STATE, device);
+}
+
+/* The plan names its master in byte 10; without one the call is refused. */
+static void tick(void) {
+    answer = bench_tick(file, length, state, BENCH_STATE, file[10] - 1);
 }
 
 static void round(void) {
@@ -101,6 +106,7 @@ static struct call {
     {"bench_link,0", stop, BENCH_STACK_LINK, 0, 0, 0, 0},
     {"bench_link,1", run, BENCH_STACK_LINK, 0, 0, 0, 0},
     {"bench_reset", reset, BENCH_STACK_RESET, 0, 0, 0, 0},
+    {"bench_tick", tick, BENCH_STACK_TICK, 0, 0, 0, 0},
     {"bench_round", round, BENCH_STACK_ROUND, 0, 0, 0, 0},
     {"bench_settle", settle, BENCH_STACK_SETTLE, 0, 0, 0, 0},
     {"bench_reach", reach, BENCH_STACK_REACH, 0, 0, 0, 0},
@@ -158,10 +164,11 @@ static int in_mask(bench_u32 mask, bench_size d, bench_u32 i) {
     return file[512 * (1 + d) + mask + i / 8] >> i % 8 & 1;
 }
 
-/* The device requests k, or everybody requests what it can; then rounds go by. The handler is one that holds k by then, if
- * there is one. */
+/* The device requests k, or everybody requests what it can, and the master ticks; then rounds go by. The handler is one that holds
+ * k by then, if there is one. */
 static void let_go_by(int everybody, bench_u32 rounds) {
     bench_request(file, length, before, BENCH_STATE, device, k);
+    bench_tick(file, length, before, BENCH_STATE, file[10] - 1);
     for (bench_size d = 0; everybody && d < file[1]; d++)
         for (bench_u32 i = 0; i < 32; i++)
             bench_request(file, length, before, BENCH_STATE, d, i);
