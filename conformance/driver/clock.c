@@ -1,5 +1,5 @@
-/* What is known of Time-Codes, asked of both in fixed networks: where their words stand, what a tick and the rounds after it do, what
- * a port sends first, what two of them do that meet in a device, what stops and resets leave, and what is refused. */
+/* What is known of Time-Codes, asked of both in fixed networks: where their words stand, what a tick and the rounds after it do,
+ * what a port sends first, what two of them do that meet in a device, what stops and resets leave, and what is refused. */
 #include "driver.h"
 
 static struct plan plan;
@@ -92,8 +92,8 @@ static void known_end(u32 to) {
     must_be("nothing waits", 0, try_settle(&plan, &state, 0));
 }
 
-/* A second tick before the first is sent: 1 is never sent, and 2 is one too many for all. 3 is what the router waits for then, and two
- * too many for the nodes. */
+/* A second tick before the first is sent: 1 is never sent, and 2 is one too many for all. 3 is what the router waits for then, and
+ * two too many for the nodes. */
 static void two_ticks(void) {
     star(15);
     must_be("a tick", 0, tick(0));
@@ -138,11 +138,12 @@ static void known_choice(const struct choice *choice) {
     must_be("the acknowledges then", choice->acknowledges & ~gone, waiting[AT_ACKNOWLEDGES]);
 }
 
-/* Time-Code 1 comes to the router, and is queued behind a port that has sent something in the same round: the word of the port, what
+/* Time-Code 1 comes to the router, and is queued at a port that has sent something in the same round: the word of the port, what
  * waits there beside it, what it sends, and the word then. */
 static const struct queued {
     u32 word, interrupts, sent, then;
-} queues[] = {{0, 0, 256, 2}, {128, 0, 256, 130}, {5, 0, 4, 130}, {133, 0, 4, 130}, {5, 8, 4, 130}, {133, 8, 131, 2}, {128, 8, 131, 2}};
+} queues[] = {{0, 0, 256, 2}, {128, 0, 256, 130}, {5, 0, 4, 130}, {133, 0, 4, 130}, {5, 8, 4, 130}, {133, 8, 131, 2},
+              {128, 8, 131, 2}};
 
 static void known_queue(const struct queued *queued) {
     star(15);
@@ -172,9 +173,9 @@ static void known_turns(void) {
 static const struct meeting {
     u32 before, first, second, count, told[2], then;
 } meetings[] = {
-    {5, 6, 6, 1, {6}, 6},  {5, 6, 7, 2, {6, 7}, 7},   {5, 7, 6, 0, {0}, 6}, {5, 5, 6, 1, {6}, 6},
-    {5, 6, 5, 1, {6}, 5},  {63, 0, 1, 2, {0, 1}, 1},  {0, 63, 0, 1, {0}, 0}, {5, 4, 5, 1, {5}, 5},
-    {5, 4, 4, 0, {0}, 4},  {62, 63, 0, 2, {63, 0}, 0}, {63, 63, 63, 0, {0}, 63},
+    {5, 6, 6, 1, {6}, 6}, {5, 6, 7, 2, {6, 7}, 7}, {5, 7, 6, 0, {0}, 6}, {5, 5, 6, 1, {6}, 6},
+    {5, 6, 5, 1, {6}, 5}, {63, 0, 1, 2, {0, 1}, 1}, {0, 63, 0, 1, {0}, 0}, {5, 4, 5, 1, {5}, 5},
+    {5, 4, 4, 0, {0}, 4}, {62, 63, 0, 2, {63, 0}, 0}, {63, 63, 63, 0, {0}, 63},
 };
 
 static void known_meeting(const struct meeting *meeting) {

@@ -109,8 +109,8 @@ static void choose(struct cycle *cycle, u32 k) {
 }
 
 /* What hosts are told of k: those that the code reaches that it has come, once, and no sooner or later than it can; the host
- * that it starts from and all others nothing, where an acknowledge gets to them too. Of interrupts and acknowledges the kind of code
- * and the kind of what is told of it have the same number. */
+ * that it starts from and all others nothing, where an acknowledge gets to them too. The kind of such a code and the kind of what
+ * is told of it have the same number. */
 static void check_told(struct spread *spread, u32 round) {
     for (u32 i = 0; i < course.played.count; i++) {
         u32 word = course.played.told[i], kind = word / 65536, d = word / 256 % 256, away = spread->distance[d];

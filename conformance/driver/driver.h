@@ -150,7 +150,7 @@ flag choose_source(struct course *course, struct spread *spread); /* one that ca
 void open_links(struct course *course, flag all); /* what runs grants everything at both ends; where all are to, each link runs */
 void unset(struct course *course, u32 k); /* held by nobody and waiting nowhere */
 void no_times(struct course *course); /* no Time-Code waits */
-void let_tick(struct course *course, u32 node); /* in half of the trials, all the while: the plan's master, or this node as master */
+void let_tick(struct course *course, u32 node); /* in half of the trials, all the while: the plan's master, or this node */
 void crowd(struct course *course, u32 k); /* the most in its way: all others wait at every port, and come before it */
 void read_records(struct course *course);
 u32 running_ports(struct course *course, u32 device);

@@ -1,6 +1,6 @@
 /* T-03, tried: a request outlasts its source's links. These stop and start, one of them or both, and so do others; hosts call and
- * tick, and devices are reset, but not the source. Until its host is told of the acknowledge or of the timeout, the source holds k, and its
- * timer has fallen by one in each round. */
+ * tick, and devices are reset, but not the source. Until its host is told of the acknowledge or of the timeout, the source holds
+ * k, and its timer has fallen by one in each round. */
 #include "driver.h"
 
 enum { MOST_LOAD = 30, MOST_CALLS = 2 };

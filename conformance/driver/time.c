@@ -1,5 +1,5 @@
-/* T-07, tried: which devices byte 10 of block 0 may name, and how time is distributed. A master ticks, and its code gets to all that
- * it reaches, each crossing in two rounds at most, while all other codes go on as they like. */
+/* T-07, tried: which devices byte 10 of block 0 may name, and how time is distributed. A master ticks, and its code gets to all
+ * that it reaches, each crossing in two rounds at most, while all other codes go on as they like. */
 #include "driver.h"
 
 enum { A_CROSSING = 2, MOST_TICKS = 3 };
@@ -156,8 +156,8 @@ static void check_round(u32 round) {
     check_sending(round);
 }
 
-/* In the end all that were reached have the new value, and none waits. The master sent it by all ports that run, and a router by all
- * but one. What was sent more than once for each device that took it came to one again. */
+/* In the end all that were reached have the new value, and none waits. The master sent it by all ports that run, and a router by
+ * all but one. Where more was sent than was taken, it came to some device again. */
 static void check_end(u32 rounds) {
     u32 copies = 0, takers = 0;
     for (u32 d = 0; d < course.plan.bytes[1]; d++) {
