@@ -10,8 +10,11 @@ void *memset(void *, int, usize);
 enum { INTERRUPT, ACKNOWLEDGE };
 enum { NONE = BENCH_NOTHING, NEXT = BENCH_NEXT, RUNNING = BENCH_RUNNING };
 
+/* Of the word of a port's Time-Code: what waits, plus 1, and whether one was sent last. In block 0 the byte of the master. */
+enum { WAITING = 127, LAST = 128, MASTER = 10 };
+
 struct plan {
-    u32 devices, loads[2];
+    u32 devices, loads[2], master; /* or NONE */
     u8 role[32], ports[32];
     u32 source[32], handler[32];
     u8 permissions[BENCH_SENT];
@@ -75,17 +78,20 @@ static u32 read_plan(const u8 *file, usize length, struct plan *plan, u32 *block
     *block = 0;
     if (length < 512 || length > BENCH_FILE || length % 512)
         return 20;
-    u32 n = file[1], router = two(file + 2), node = two(file + 4);
-    u32 bad = any_block(file, 6, n >= 1 && n <= 32 && router >= 1 && router <= node, file[0] == 1);
+    u32 n = file[1], router = two(file + 2), node = two(file + 4), master = file[MASTER] ? file[MASTER] - 1u : NONE;
+    int good = n >= 1 && n <= 32 && router >= 1 && router <= node && file[MASTER] <= n;
+    u32 bad = any_block(file, MASTER + 1, good, file[0] == 1);
     if (bad)
         return bad;
+    if (four(file + 6))
+        return 24;
     if (length != 512 * (1 + n))
         return 25;
-    *plan = (struct plan){.devices = n, .loads = {node, router}};
+    *plan = (struct plan){.devices = n, .loads = {node, router}, .master = master};
     for (u32 d = 0; d < n; d++) {
         const u8 *b = file + 512 * (1 + d);
         *block = 1 + d;
-        if ((bad = any_block(b, 44, fits(b, n), b[0] == 2 && b[1] == d)))
+        if ((bad = any_block(b, 44, fits(b, n) && !(b[2] && d == master), b[0] == 2 && b[1] == d)))
             return bad;
         load_device(b, d, plan);
     }
@@ -112,10 +118,21 @@ static int timers_sound(const u32 *s, u32 n) {
     return 1;
 }
 
+static int counters_sound(const u32 *counters, u32 n) {
+    u32 great = 0, absent = 0;
+    for (u32 d = 0; d < n; d++)
+        great |= counters[d];
+    for (u32 d = n; d < 32; d++)
+        absent |= counters[d];
+    return great < 64 && !absent;
+}
+
 static int port_sound(const struct plan *plan, const u32 *s, u32 q) {
-    const u32 *w = s + port_at(q);
+    const u32 *w = s + port_at(q), time = s[BENCH_TIMES + q];
     if (q % 8 >= plan->ports[q / 8])
-        return !(w[0] | w[1] | w[NEXT] | w[RUNNING]);
+        return !(w[0] | w[1] | w[NEXT] | w[RUNNING] | time);
+    if (time > LAST + 64 || (time & WAITING) > (w[RUNNING] ? 64 : 0))
+        return 0;
     u32 peer = plan->peers[q], may = plan->permissions[q];
     if (w[NEXT] > 31 || w[RUNNING] > 1 || w[RUNNING] != (peer == NONE ? 0 : s[port_at(peer) + RUNNING]) || (w[0] & w[1]))
         return 0;
@@ -123,7 +140,7 @@ static int port_sound(const struct plan *plan, const u32 *s, u32 q) {
 }
 
 static int sound(const struct plan *plan, const u32 *s) {
-    if (!timers_sound(s, plan->devices))
+    if (!timers_sound(s, plan->devices) || !counters_sound(s + BENCH_COUNTERS, plan->devices))
         return 0;
     for (u32 i = device_at(plan->devices); i < BENCH_PORTS; i++)
         if (s[i])
@@ -150,6 +167,13 @@ static void queue(const struct plan *plan, u32 *s, u32 q, u32 kind, u32 k) {
     }
 }
 
+/* A Time-Code goes over an older one. */
+static void queue_time(u32 *s, u32 q, u32 value) {
+    u32 *w = s + BENCH_TIMES + q;
+    if (s[port_at(q) + RUNNING])
+        *w = (*w & LAST) | (value + 1);
+}
+
 /* The request of a source whose bit is clear. */
 static u32 request(const struct plan *plan, u32 *s, u32 d, u32 k) {
     u32 first = 8 * d, past = first + plan->ports[d], runs = 0, sends = 0;
@@ -168,7 +192,21 @@ static u32 request(const struct plan *plan, u32 *s, u32 d, u32 k) {
     return 0;
 }
 
-static u32 tick(const struct plan *plan, u32 *next, u32 *told) {
+static u32 tick(const struct plan *plan, u32 *s, u32 d) {
+    u32 first = 8 * d, past = first + plan->ports[d], runs = 0, *counter = s + BENCH_COUNTERS + d;
+    if (d != plan->master)
+        return 14;
+    for (u32 q = first; q < past; q++)
+        runs |= s[port_at(q) + RUNNING];
+    if (!runs)
+        return 7;
+    *counter = (*counter + 1) % 64;
+    for (u32 q = first; q < past; q++)
+        queue_time(s, q, *counter);
+    return 0;
+}
+
+static u32 count_down(const struct plan *plan, u32 *next, u32 *told) {
     u32 count = 0;
     for (u32 d = 0; d < plan->devices; d++) {
         u32 *w = next + device_at(d);
@@ -184,15 +222,25 @@ static u32 tick(const struct plan *plan, u32 *next, u32 *told) {
     return count;
 }
 
-static void post(const struct plan *plan, const u32 *old, u32 *next, u32 *sent) {
+/* Of a round and its steps there are two forms each, timed and not: the second is for where no port has anything of Time-Codes. */
+#define IN_TWO_FORMS static inline __attribute__((always_inline))
+
+IN_TWO_FORMS void post(const struct plan *plan, const u32 *old, u32 *next, u32 *sent, int timed) {
     for (u32 q = 0; q < BENCH_SENT; q++)
         sent[q] = NONE;
     for (u32 d = 0; d < plan->devices; d++)
         for (u32 q = 8 * d; q < 8 * d + plan->ports[d]; q++) {
             const u32 *w = old + port_at(q);
-            u32 *v = next + port_at(q), all = w[0] | w[1];
+            u32 *v = next + port_at(q), all = w[0] | w[1], time = timed ? old[BENCH_TIMES + q] : 0;
+            if ((time & WAITING) && !((time & LAST) && all)) {
+                sent[q] = (time & WAITING) - 1;
+                next[BENCH_TIMES + q] = LAST;
+                continue;
+            }
             if (!all)
                 continue;
+            if (timed)
+                next[BENCH_TIMES + q] = time & WAITING;
             u32 above = all >> w[NEXT] << w[NEXT];
             u32 k = __builtin_ctz(above ? above : all);
             sent[q] = (w[0] >> k & 1 ? 128 : 160) + k;
@@ -202,12 +250,28 @@ static void post(const struct plan *plan, const u32 *old, u32 *next, u32 *sent) 
         }
 }
 
-static u32 arrive(const struct plan *plan, const u32 *sent, u32 *next, u32 *told, u32 count) {
+/* A Time-Code comes to port q of device d; whether it is the next one, which is passed on. */
+static int arrive_time(const struct plan *plan, u32 *next, u32 d, u32 q, u32 value) {
+    u32 *counter = next + BENCH_COUNTERS + d;
+    int above = (*counter + 1) % 64 == value;
+    *counter = value;
+    for (u32 other = 8 * d; above && plan->role[d] && other < 8 * d + plan->ports[d]; other++)
+        if (other != q)
+            queue_time(next, other, value);
+    return above;
+}
+
+IN_TWO_FORMS u32 arrive(const struct plan *plan, const u32 *sent, u32 *next, u32 *told, u32 count, int timed) {
     for (u32 d = 0; d < plan->devices; d++)
         for (u32 q = 8 * d; q < 8 * d + plan->ports[d]; q++) {
             u32 peer = plan->peers[q];
             if (peer == NONE || sent[peer] == NONE)
                 continue;
+            if (timed && sent[peer] < 64) {
+                if (arrive_time(plan, next, d, q, sent[peer]) && told && !plan->role[d])
+                    told[count++] = 4 << 16 | d << 8 | sent[peer];
+                continue;
+            }
             u32 kind = sent[peer] >= 160, k = sent[peer] % 32, *w = next + device_at(d);
             if (!next[port_at(q) + RUNNING] || !(plan->permissions[q] >> (2 * kind + 1) & 1) || (w[0] >> k & 1) != kind)
                 continue;
@@ -224,31 +288,50 @@ static u32 arrive(const struct plan *plan, const u32 *sent, u32 *next, u32 *told
 }
 
 /* A round; told is null where nobody reads it. */
-static inline u32 play(const struct plan *plan, const u32 *old, u32 *next, u32 *sent, u32 *told) {
-    memcpy(next, old, BENCH_STATE * sizeof *next);
-    u32 count = tick(plan, next, told);
-    post(plan, old, next, sent);
-    return arrive(plan, sent, next, told, count);
+IN_TWO_FORMS u32 play(const struct plan *plan, const u32 *old, u32 *next, u32 *sent, u32 *told, int timed) {
+    memcpy(next, old, (timed ? BENCH_STATE : BENCH_COUNTERS) * sizeof *next);
+    u32 count = count_down(plan, next, told);
+    post(plan, old, next, sent, timed);
+    return arrive(plan, sent, next, told, count, timed);
 }
 
-static int waits(const struct plan *plan, const u32 *s) {
+IN_TWO_FORMS int waits(const struct plan *plan, const u32 *s, int timed) {
     for (u32 q = 0; q < 8 * plan->devices; q++)
-        if (s[port_at(q)] | s[port_at(q) + 1])
+        if (s[port_at(q)] | s[port_at(q) + 1] | (timed ? s[BENCH_TIMES + q] & WAITING : 0))
             return 1;
     return 0;
 }
 
 /* Rounds until no port waits. The two areas take turns, and *home tells which has the state. */
-static u32 settle(const struct plan *plan, u32 *areas[2], u32 allowance, u32 *rounds, int *home) {
+IN_TWO_FORMS u32 play_all(const struct plan *plan, u32 *areas[2], u32 allowance, u32 *rounds, int *home, int timed) {
     u32 sent[BENCH_SENT];
     *home = 0;
-    for (*rounds = 0; waits(plan, areas[*home]); ++*rounds) {
+    for (*rounds = 0; waits(plan, areas[*home], timed); ++*rounds) {
         if (*rounds == allowance)
             return 12;
-        play(plan, areas[*home], areas[!*home], sent, 0);
+        play(plan, areas[*home], areas[!*home], sent, 0, timed);
         *home = !*home;
     }
     return 0;
+}
+
+static u32 any_time(const struct plan *plan, const u32 *s) {
+    u32 any = 0;
+    for (u32 q = 0; q < 8 * plan->devices; q++)
+        any |= s[BENCH_TIMES + q];
+    return any;
+}
+
+/* Where no port has anything of Time-Codes none gets any; the words of these are left in the first area. */
+static u32 settle_untimed(const struct plan *plan, u32 *areas[2], u32 allowance, u32 *rounds, int *home) {
+    return play_all(plan, areas, allowance, rounds, home, 0);
+}
+
+static u32 settle(const struct plan *plan, u32 *areas[2], u32 allowance, u32 *rounds, int *home) {
+    if (any_time(plan, areas[0]))
+        return play_all(plan, areas, allowance, rounds, home, 1);
+    memcpy(areas[1] + BENCH_COUNTERS, areas[0] + BENCH_COUNTERS, (BENCH_STATE - BENCH_COUNTERS) * sizeof(u32));
+    return settle_untimed(plan, areas, allowance, rounds, home);
 }
 
 /* ---- reach */
@@ -291,7 +374,7 @@ static u8 *put_line(const struct plan *plan, u32 *areas[2], u32 d, u32 k, u8 *at
         *at++ = 'r';
         return put_number(put_number(at, refused, ' '), 0, '\n');
     }
-    if (settle(plan, areas, BENCH_ROUNDS, &rounds, &home)) {
+    if (settle_untimed(plan, areas, BENCH_ROUNDS, &rounds, &home)) {
         *at++ = '-';
         *at++ = ' ';
     } else
@@ -330,6 +413,13 @@ u32 plain_plan_read(const u8 *file, usize length, u32 *block) {
     return read_plan(file, length, &plan, block);
 }
 
+u32 plain_tick(const u8 *file, usize length, u32 *state, usize state_length, usize device) {
+    struct plan plan;
+    u32 number = refusal(file, length, state, &plan);
+    (void)state_length;
+    return number ? number : tick(&plan, state, device);
+}
+
 u32 plain_round(const u8 *file, usize length, const u32 *old, usize old_length, u32 *next, usize next_length, u32 *sent,
                 usize sent_length, u32 *told, usize told_length, u32 *count) {
     struct plan plan;
@@ -339,7 +429,7 @@ u32 plain_round(const u8 *file, usize length, const u32 *old, usize old_length, 
     if (number)
         return number;
     memset(told, 0, told_length * sizeof *told);
-    *count = play(&plan, old, next, sent, told);
+    *count = play(&plan, old, next, sent, told, 1);
     return 0;
 }
 

@@ -15,6 +15,7 @@ static inline u32 port_at(u32 q) {
 }
 
 u32 plain_plan_read(const u8 *file, usize length, u32 *block);
+u32 plain_tick(const u8 *file, usize length, u32 *state, usize state_length, usize device);
 u32 plain_round(const u8 *file, usize length, const u32 *old, usize old_length, u32 *next, usize next_length, u32 *sent,
                 usize sent_length, u32 *told, usize told_length, u32 *count);
 u32 plain_settle(const u8 *file, usize length, u32 *state, usize state_length, u32 allowance, u32 *rounds);

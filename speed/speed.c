@@ -20,12 +20,14 @@ void exit(int);
 /* The calls that are measured, of one bench. */
 struct bench {
     __typeof__(plain_plan_read) *plan_read;
+    __typeof__(plain_tick) *tick;
     __typeof__(plain_round) *round;
     __typeof__(plain_settle) *settle;
     __typeof__(plain_reach) *reach;
     __typeof__(plain_report) *report;
 };
 __typeof__(plain_plan_read) judge_plan_read;
+__typeof__(plain_tick) judge_tick;
 __typeof__(plain_round) judge_round;
 __typeof__(plain_settle) judge_settle;
 __typeof__(plain_reach) judge_reach;
@@ -33,9 +35,9 @@ __typeof__(plain_report) judge_report;
 
 enum { OURS, PLAIN, JUDGE, ALL };
 static const struct bench benches[ALL] = {
-    {bench_plan_read, bench_round, bench_settle, bench_reach, bench_report},
-    {plain_plan_read, plain_round, plain_settle, plain_reach, plain_report},
-    {judge_plan_read, judge_round, judge_settle, judge_reach, judge_report},
+    {bench_plan_read, bench_tick, bench_round, bench_settle, bench_reach, bench_report},
+    {plain_plan_read, plain_tick, plain_round, plain_settle, plain_reach, plain_report},
+    {judge_plan_read, judge_tick, judge_round, judge_settle, judge_reach, judge_report},
 };
 
 /* What a call is given: a plan, and the state before it. */
@@ -56,6 +58,11 @@ typedef void call(const struct bench *, struct given *);
 
 static void plan_read(const struct bench *b, struct given *g) {
     g->number = b->plan_read(file, length, &g->value);
+}
+
+static void tick(const struct bench *b, struct given *g) {
+    memcpy(g->state, before, sizeof before);
+    g->number = b->tick(file, length, g->state, BENCH_STATE, 0);
 }
 
 static void round(const struct bench *b, struct given *g) {
@@ -146,11 +153,12 @@ static void join(u32 d, u32 p, u32 e, u32 q) {
     memcpy(entry(e, q), (u8[]){d, p, 15, 0}, 4);
 }
 
-/* A node, the source of all identifiers, and n - 1 routers, each joined to the four next ones and the four before it. */
+/* A node, the master and the source of all identifiers, and n - 1 routers, each joined to the four next ones and the four before
+   it. */
 static void mesh(u32 n) {
     length = 512 * (1 + n);
     memset(file, 0, length);
-    memcpy(file, (u8[]){1, n, 0x60, 0xea, 0x60, 0xea}, 6);
+    memcpy(file, (u8[]){1, n, 0x60, 0xea, 0x60, 0xea, 0, 0, 0, 0, 1}, 11);
     for (u32 d = 0; d < n; d++) {
         u8 *block = file + 512 * (1 + d);
         memcpy(block, (u8[]){2, d, d > 0, d ? 8 : 1}, 4);
@@ -188,6 +196,14 @@ static void busy(u32 set) {
     }
 }
 
+/* A Time-Code waits at every connected port too, and half of the ports sent one last. Half of them are what the other end waits
+   for. */
+static void with_times(void) {
+    for (u32 q = 0; q < 8u * file[1]; q++)
+        if (before[port_at(q) + BENCH_RUNNING])
+            before[BENCH_TIMES + q] = 2 + (random(q) & 129);
+}
+
 /* How the cost grows with devices, and with the identifiers that every port has waiting. */
 static void growth(u32 n) {
     static const u32 sets[] = {0, 1, 0xff, 0xffffffff};
@@ -196,10 +212,13 @@ static void growth(u32 n) {
     race("read a plan", "", plan_read);
     busy(0);
     race("reach", "", reach);
+    race("tick", "", tick);
     for (u32 i = 0; i < 4; i++) {
         busy(sets[i]);
         race("a round", names[i], round);
     }
+    with_times();
+    race("a round", "32, time", round);
     for (u32 i = 1; i < 4; i += 2) {
         busy(sets[i]);
         race("settle", names[i], settle);
