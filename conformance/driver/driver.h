@@ -218,6 +218,8 @@ void try_run(struct plan *plan, u32 rounds);
 void try_settling(struct plan *plan);
 void try_reports(struct plan *plan);
 void right_lengths(struct played *played);
+void ticks_table(void);
+flag all_ticks_answered(void);
 struct change likely_change(struct plan *plan);
 void try_demand_3(const struct plan *plan, struct demands *demands); /* adds what was tried */
 void try_cycles(const struct plan *plan, struct trips *trips); /* the same */

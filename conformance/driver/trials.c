@@ -41,6 +41,34 @@ struct change likely_change(struct plan *plan) {
     return change;
 }
 
+/* What ticks were answered that were among other calls in networks of any shape, not in those where the answer is known. */
+static const u32 tick_numbers[] = {0, 2, 4, 7, 14};
+enum { TICK_NUMBERS = sizeof tick_numbers / sizeof *tick_numbers };
+static size ticks[TICK_NUMBERS];
+
+static u32 try_likely(struct change change, const struct plan *plan, struct state *state) {
+    u32 number = try_change(change, plan, state);
+    for (u32 i = 0; i < TICK_NUMBERS; i++)
+        ticks[i] += change.call == TICK && number == tick_numbers[i];
+    return number;
+}
+
+void ticks_table(void) {
+    printf("ticks among other calls, by number:");
+    for (u32 i = 0; i < TICK_NUMBERS; i++)
+        printf(" %u: %lu%s", tick_numbers[i], ticks[i], i + 1 < TICK_NUMBERS ? "," : "\n");
+}
+
+flag all_ticks_answered(void) {
+    flag all = 1;
+    for (u32 i = 0; i < TICK_NUMBERS; i++)
+        if (!ticks[i]) {
+            printf("a tick among other calls was never answered by %u\n", tick_numbers[i]);
+            all = 0;
+        }
+    return all;
+}
+
 void right_lengths(struct played *played) {
     played->next.length = STATE_WORDS;
     played->sent_length = SENT_WORDS;
@@ -67,7 +95,7 @@ static u32 any_call(struct plan *likely, const struct plan *plan, struct state *
         if (once_in(2))
             likely_host(likely, REQUEST, &change.device, &change.other);
         return try_reach(plan, state, change.device, change.other);
-    default: return try_change(change, plan, state);
+    default: return try_likely(change, plan, state);
     }
 }
 
@@ -127,7 +155,7 @@ void try_run(struct plan *plan, u32 rounds) {
     right_lengths(&played);
     for (u32 calls = pick(5); rounds; rounds--) {
         for (u32 i = pick(1 + calls); i; i--)
-            try_change(likely_change(plan), plan, &state);
+            try_likely(likely_change(plan), plan, &state);
         must_be("a round", 0, try_round(plan, &state, &played));
         state = played.next;
     }
