@@ -295,6 +295,22 @@ static void known_words(void) {
     try_word(word(31, 7), is_zero);
 }
 
+/* A state as it was before there were Time-Codes is none any more, and so is one that ends somewhere in their words. */
+static void known_lengths(void) {
+    static const size lengths[] = {1056, 2080, 2111, 2112, 2367, 2369};
+    for (u32 i = 0; i < sizeof lengths / sizeof *lengths; i++) {
+        star(15);
+        played.next.length = lengths[i];
+        must_be("a round into this length", 3, try_round(&plan, &state, &played));
+        state.length = lengths[i];
+        must_be("a tick in this length", 2, tick(0));
+        must_be("a round from this length", 2, try_round(&plan, &state, &played));
+        must_be("settling in this length", 2, try_settle(&plan, &state, 0));
+        must_be("reach in this length", 2, try_reach(&plan, &state, 0, 0));
+        must_be("a start in this length", 3, try_start(&plan, &state));
+    }
+}
+
 /* A master and one fault more: a byte of a block, the check put right or not, and what the file is refused by. */
 static const struct fault {
     u32 master, block, at, value;
@@ -353,6 +369,7 @@ void known_times(void) {
     known_stop();
     refused_ticks();
     known_words();
+    known_lengths();
     for (u32 i = 0; i < sizeof faults / sizeof *faults; i++)
         known_fault(&faults[i]);
     known_bytes();
