@@ -115,8 +115,8 @@ u32 *counter_word(struct state *state, u32 device);
 u32 *time_word(struct state *state, u32 device, u32 port);
 void sound_state(struct plan *plan, struct state *state);
 flag break_state(struct plan *plan, struct state *state, u32 clause);
-void clauses_table(void); /* how often each was broken */
-flag all_broken(void);
+void states_table(void); /* what sound ones have of Time-Codes, and how often each clause was broken */
+flag all_states_tried(void);
 
 /* A network whose rounds are played one after the other, and what the last of them built. The judge keeps it in its records,
  * which are known as long as no call changes the state. */

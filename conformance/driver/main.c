@@ -111,11 +111,11 @@ int main(int count, char **words) {
     printf("seed %lu, cases %lu to %lu\n", seed, first, first + cases - 1);
     table();
     ticks_table();
-    clauses_table();
+    states_table();
     ports_table();
     report();
     time_table();
-    if (whole && !(all_hit() && all_ticks_answered() && all_broken() && all_tried() && all_ports_tried() && all_time_tried()))
+    if (whole && !(all_hit() && all_ticks_answered() && all_states_tried() && all_tried() && all_ports_tried() && all_time_tried()))
         return 1;
     printf("judge: ok\n");
     return 0;

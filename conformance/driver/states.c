@@ -53,6 +53,24 @@ static void sound_times(struct plan *plan, struct state *state, u32 d, u32 time,
     }
 }
 
+/* What sound states have of Time-Codes. */
+enum having { ANYTHING, A_COUNTER, ONE_WAITS, LAST_AND_STILL, HAVINGS };
+static const char *const having_names[HAVINGS] = {
+    "sound states", "  with a counter that is not 0", "  with a Time-Code that waits", "  with the 128 at a port that stands still"};
+static size having[HAVINGS];
+
+static void count_times(struct state *state) {
+    flag has[HAVINGS] = {[ANYTHING] = 1};
+    for (u32 i = 0; i < DEVICES * PORTS; i++) {
+        u32 d = i / PORTS, p = i % PORTS, time = *time_word(state, d, p);
+        has[A_COUNTER] |= *counter_word(state, d) != 0;
+        has[ONE_WAITS] |= time % AFTER_TIME != 0;
+        has[LAST_AND_STILL] |= time == AFTER_TIME && !port_words(state, d, p)[AT_RUNNING];
+    }
+    for (u32 h = 0; h < HAVINGS; h++)
+        having[h] += has[h];
+}
+
 /* In half of the states there is nothing of Time-Codes. */
 void sound_state(struct plan *plan, struct state *state) {
     u32 set = pick(4), waiting = pick(4), brief = pick(3), stopped = once_in(3) ? 3 : 30;
@@ -70,6 +88,7 @@ void sound_state(struct plan *plan, struct state *state) {
         if (timed)
             sound_times(plan, state, d, time, times);
     }
+    count_times(state);
 }
 
 /* The clauses, in the order of the functions below. */
@@ -167,14 +186,21 @@ flag break_state(struct plan *plan, struct state *state, u32 clause) {
     return 0;
 }
 
-void clauses_table(void) {
+void states_table(void) {
+    for (u32 h = 0; h < HAVINGS; h++)
+        printf("%-43s %8lu\n", having_names[h], having[h]);
     printf("states with one thing wrong                    times\n");
     for (u32 c = 0; c < CLAUSES; c++)
         printf("  %-41s %8lu\n", clauses[c], broken_so[c]);
 }
 
-flag all_broken(void) {
+flag all_states_tried(void) {
     flag all = 1;
+    for (u32 h = 0; h < HAVINGS; h++)
+        if (!having[h]) {
+            printf("no state was so: %s\n", having_names[h]);
+            all = 0;
+        }
     for (u32 c = 0; c < CLAUSES; c++)
         if (!broken_so[c]) {
             printf("no state was wrong so: %s\n", clauses[c]);
