@@ -1,6 +1,7 @@
 /* The whole cycle, from C: a source requests an interrupt, its handler is told, waits and acknowledges; the source is
- * told of that, waits, and requests again. Neither sees the other's call. Each counts from when it was told, and waits 32
- * rounds for each device that the interrupt reaches, while all other identifiers are in use as well.
+ * told of that, waits, and requests again. Neither sees the other's call. Each counts from when it was told, and waits 64
+ * rounds for each device that the interrupt reaches, while all other identifiers are in use as well, and the master of
+ * time, if there is one, ticks before each round.
  *
  *     bin/example cycle < examples/ring.plan
  */
@@ -12,14 +13,15 @@ int printf(const char *format, ...);
 _Noreturn void exit(int status);
 
 /* Where things stand in a plan file: in block 0, and in the block of a device. */
-enum { BLOCK = 512, DEVICES = 1, ROUTER_LOAD = 2, ROLE = 2, SOURCES = 4, HANDLERS = 8, ROWS = 12, ROW = 4, PERMISSIONS = 2 };
+enum { BLOCK = 512, DEVICES = 1, ROUTER_LOAD = 2, MASTER = 10 };
+enum { ROLE = 2, SOURCES = 4, HANDLERS = 8, ROWS = 12, ROW = 4, PERMISSIONS = 2 };
 enum { NOWHERE = 255, ALL_FOUR = 15 };
 
 /* What a told word is about. */
-enum { INTERRUPT = 1, ACKNOWLEDGE = 2, TIMEOUT = 3 };
+enum { INTERRUPT = 1, ACKNOWLEDGE = 2, TIMEOUT = 3, TIME = 4 };
 
-/* Rounds a crossing, with any traffic: 31 other identifiers may go first at each port. */
-enum { CROSSING = 32 };
+/* Rounds a crossing, with any traffic: 31 other identifiers may go first at each port, and a Time-Code before each code. */
+enum { CROSSING = 64 };
 
 /* An array as the two parameters that an area is. */
 #define AREA(array) (array), sizeof(array) / sizeof *(array)
@@ -38,8 +40,9 @@ static bench_u32 told[BENCH_TOLD];
  * then the source. */
 static bench_u32 source, handler, identifier, reach, reached, wait;
 
-/* Of this cycle: its rounds; how often each host was told of the identifier, by kind; and all hosts, of any other. */
-static bench_u32 turn, times[32][4], traffic;
+/* Of this cycle: its rounds; how often each host was told of the identifier, by kind; and all hosts, of any other and of
+ * Time-Codes. */
+static bench_u32 turn, times[32][4], traffic, clocked;
 
 /* Ends the program where a call was refused. */
 static void must(const char *call, bench_u32 number) {
@@ -118,7 +121,7 @@ static void find(void) {
     exit(1);
 }
 
-/* No timer may end on the way. The handler is told by round 32 x (n - 1), as the farthest of n devices is n - 1
+/* No timer may end on the way. The handler is told by round 64 x (n - 1), as the farthest of n devices is n - 1
  * crossings away at most; it waits, and the acknowledge is everywhere within another wait. Routers load no more than
  * nodes do. */
 static void must_last(void) {
@@ -141,21 +144,35 @@ static void use_others(void) {
         }
 }
 
+/* The host of the master ticks. Where no port of its runs it is refused, which changes nothing. */
+static void tick(void) {
+    if (file[MASTER])
+        bench_tick(file, length, AREA(states[now]), file[MASTER] - 1);
+}
+
+/* Counts a word that a host is told. A Time-Code's is about no identifier: its low byte is a value. */
+static void count_told(bench_u32 word) {
+    if (word >> 16 == TIME)
+        clocked++;
+    else if ((word & 255) == identifier)
+        times[word >> 8 & 31][word >> 16]++;
+    else
+        traffic++;
+}
+
 /* Plays a round, and counts what hosts are told. */
 static void play(void) {
     bench_u32 count;
     use_others();
+    tick();
     must("round", bench_round(file, length, AREA(states[now]), AREA(states[!now]), AREA(sent), AREA(told), &count));
     for (bench_u32 i = 0; i < count; i++)
-        if ((told[i] & 255) == identifier)
-            times[told[i] >> 8 & 31][told[i] >> 16 & 3]++;
-        else
-            traffic++;
+        count_told(told[i]);
     now = !now;
     turn++;
 }
 
-/* Plays until a host is told. That takes 32 rounds a crossing at most, and so fewer than the wait has. */
+/* Plays until a host is told. That takes 64 rounds a crossing at most, and so fewer than the wait has. */
 static void play_until_told(bench_u32 device, bench_u32 kind) {
     for (bench_u32 i = 0; i < wait && !times[device][kind]; i++)
         play();
@@ -198,7 +215,7 @@ static void print_times(void) {
 
 /* From one request to when the next may follow. */
 static void cycle(void) {
-    turn = traffic = 0;
+    turn = traffic = clocked = 0;
     for (bench_u32 d = 0; d < 32; d++)
         for (bench_u32 kind = INTERRUPT; kind <= TIMEOUT; kind++)
             times[d][kind] = 0;
@@ -217,6 +234,8 @@ static void cycle(void) {
     print_times();
     must_rest();
     printf("at rest after round %u; of other identifiers hosts were told %u times\n", turn, traffic);
+    if (file[MASTER])
+        printf("of Time-Codes they were told %u times\n", clocked);
 }
 
 int main(void) {
@@ -236,7 +255,7 @@ int main(void) {
     find();
     must_be_found();
 
-    /* 32 x (D + 1) rounds are enough, D crossings to the farthest device, and D is below the number reached. */
+    /* 64 x (D + 1) rounds are enough, D crossings to the farthest device, and D is below the number reached. */
     wait = CROSSING * reached;
     must_last();
 

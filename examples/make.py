@@ -73,7 +73,7 @@ def three():
 
 def ring():
     """Four routers in a ring, a node at each: a code can come round again."""
-    plan = Plan(1000, 1200)
+    plan = Plan(2000, 2400)
     routers = [plan.router(3) for _ in range(4)]
     for i, r in enumerate(routers):
         n = plan.node(source=[i], handler=[(i + 2) % 4])
@@ -160,7 +160,7 @@ def mute():
 
 def incident():
     """A triangle of routers. Five sources keep the way round by the third router busy, so a copy of interrupt 7 comes late."""
-    plan = Plan(1000, 1200)
+    plan = Plan(2000, 2400)
     routers = [plan.router(3), plan.router(3), plan.router(7)]
     for r, node in ((0, plan.node(source=[7])), (1, plan.node(handler=[7]))):
         plan.join((routers[r], 2), (node, 0))
@@ -238,7 +238,7 @@ def twice():
 def straps(joined, cut=()):
     """Two routers, and four units with their first port at one and their second at the other, but for the links that are cut, each named by
     unit and port. The routers may be joined to each other."""
-    plan = Plan(1000, 1200)
+    plan = Plan(2000, 2400)
     routers = [plan.router(5), plan.router(5)]
     units = [plan.node(source=[i], handler=[(i + 2) % 4], ports=2) for i in range(4)]
     for i, unit in enumerate(units):

@@ -1,6 +1,7 @@
 #!/bin/sh
-# The whole cycle from C, twice in each of four networks. What the example has to print is stored, and is what it prints
-# with the judge in the place of the bench. Where a plan does not meet its conditions it says so in one line.
+# The whole cycle from C, twice in each of five networks, one with a master of time. What the example has to print is stored,
+# and is what it prints with the judge in the place of the bench. Where a plan does not meet its conditions it says so in one
+# line.
 set -eu
 cd "$(dirname "$0")/.."
 here=$(pwd -P)
@@ -9,7 +10,7 @@ work=$(mktemp -d)
 trap 'rm -rf "$work"' EXIT
 
 by_judge examples/cycle.c "$work/judged"
-for plan in ring incident strapped cut; do
+for plan in ring incident strapped cut timed; do
     bin/example cycle <"examples/$plan.plan" >>"$work/given"
     run "$work/judged" <"examples/$plan.plan" >>"$work/by-judge"
 done
@@ -26,7 +27,7 @@ refuses() {
         exit 1
     }
 }
-refuses "timers are too short: a load is 100, and has to be above 256" <examples/three.plan
+refuses "timers are too short: a load is 100, and has to be above 512" <examples/three.plan
 refuses "port 0 of device 0 does not have all four permissions" <examples/mute.plan
 refuses "no acknowledge of device 4 gets to device 0, which interrupt 0 of device 2 reaches" <examples/parted.plan
 refuses "no source has a handler that its interrupt reaches" <examples/idle.plan

@@ -30,7 +30,7 @@ use Rattle.bench.proofs.RoundSound.{round-sound}
 use Rattle.laws.specs.Telling.{toldIn, toldBy}
 use Rattle.flood.specs.Flood.{Net, Sight, Relays, Crossed, here, cross, Within, Start, Step, Run, Flooded}
 use Rattle.flood.proofs.Spreads.{flooded}
-use Rattle.assurance.specs.Distribution.{Others, none, then, tick, Passing, carrying, timeCrossing, timeWindow, Crosses, Given, value, Follows, Distributes}
+use Rattle.assurance.specs.Distribution.{Others, none, then, tick, Passing, carrying, timeCrossing, timeWindow, Crosses, InStep, Beat, Arrives, Beats, still, beat, EachArrives, Distributes, DistributesAll}
 use Rattle.assurance.proofs.Taking.{called-took}
 use Rattle.assurance.proofs.Choices.{runs-there, runs-joined}
 use Rattle.assurance.proofs.Posted.{posts-early, posts-time-gone, posts-time-on, posts-counter}
@@ -70,21 +70,18 @@ others-beside plan held {s} x (then {t = t} kind d k number before g call) =
 
 -- ---- from the tick on
 
-module _ (plan : Plan) (master D : ℕ) (s : State) (at : ℕ → State) (given : Given plan master D s at) where
-  abbrev held : Held plan
-  held = given .held
-
+module _ (plan : Plan) (held : Held plan) (master D : ℕ) (s : State) (last : ℕ) (at : ℕ → State) (given : InStep plan master D s) (beaten : Beat plan master D s last at) where
   abbrev x : Sound plan s
   x = given .sound
 
   there : master < devices plan
-  there = holds (tickAsks plan master s) refl (given .taken) refl .1 .1 .0
+  there = holds (tickAsks plan master s) refl (beaten .taken) refl .1 .1 .0
 
   room : master < 32
   room = omega (arith, there, few plan held)
 
   is-node : router plan master ≡ false
-  is-node = ne-eqb (role plan master) 1 (omega (arith, held-master-node plan held master (holds (tickAsks plan master s) refl (given .taken) refl .1 .1 .1 .0) .1))
+  is-node = ne-eqb (role plan master) 1 (omega (arith, held-master-node plan held master (holds (tickAsks plan master s) refl (beaten .taken) refl .1 .1 .1 .0) .1))
 
   abbrev c : ℕ
   c = counter s master
@@ -186,17 +183,14 @@ module _ (plan : Plan) (master D : ℕ) (s : State) (at : ℕ → State) (given 
           ];
         }
 
-  abbrev last : ℕ
-  last = timeWindow D
-
   begins : Beside plan first (at 0)
-  begins = others-beside plan held first-sound (given .passing .begins)
+  begins = others-beside plan held first-sound (beaten .passing .begins)
 
   fine : (t : ℕ) → t ≤ last → Fine (at t)
   fine zero h = fine-beside fine-first begins
   fine (suc t) h =
       let f = fine t (omega arith) in
-      fine-beside (fine-round f) (others-beside plan held (round-sound plan held (at t) (f .sound)) (given .passing .goes-on t h))
+      fine-beside (fine-round f) (others-beside plan held (round-sound plan held (at t) (f .sound)) (beaten .passing .goes-on t h))
 
   -- ---- as the flood sees it
 
@@ -242,7 +236,7 @@ module _ (plan : Plan) (master D : ℕ) (s : State) (at : ℕ → State) (given 
     GoesOut = Goes plan held master there s x c c-small a f
 
     after : Beside plan (round plan a .next) b
-    after = others-beside plan held (round-sound plan held a (f .sound)) (given .passing .goes-on t h)
+    after = others-beside plan held (round-sound plan held a (f .sound)) (beaten .passing .goes-on t h)
 
     counted : (e : ℕ) → counter b e ≡ counter (round plan a .next) e
     counted e = after .behind (counterAt e) (omega arith)
@@ -335,7 +329,7 @@ module _ (plan : Plan) (master D : ℕ) (s : State) (at : ℕ → State) (given 
   comes n e t w from to = spread .reached w t from to .1
 
   at-last : (n e : ℕ) → Crosses plan master D s n e → counter (at last) e ≡ v
-  at-last n e w = let near = given .within n e w in comes (near .0) e last (near .2) (omega (arith, near .1)) (le-refl _)
+  at-last n e w = let near = given .within n e w in comes (near .0) e last (near .2) (omega (arith, near .1, beaten .enough)) (le-refl _)
 
   first-value : counter (at 0) master ≡ v
   first-value = begins .behind (counterAt master) (omega arith) ∙ first-count .0
@@ -343,9 +337,30 @@ module _ (plan : Plan) (master D : ℕ) (s : State) (at : ℕ → State) (given 
   first-other : (n e : ℕ) → Crosses plan master D s n e → e ≢ master → counter (at 0) e ≡ c
   first-other n e w ne = begins .behind (counterAt e) (omega arith) ∙ first-count .1 e (small (n, w)) ne ∙ given .equal n e w
 
-  follows : Follows plan master D s at
+  -- links run as they did, so that the same devices are as far away
+  same : (q : ℕ) → q < 256 → running (at last) q ≡ running s q
+  same = fine last (le-refl _) .runs
+
+  there-still : (a b : State) → ((q : ℕ) → q < 256 → running b q ≡ running a q) → (n e : ℕ) → Crosses plan master D a n e → Crosses plan master D b n e
+  there-still a b on zero e here = here
+  there-still a b on (suc n) e (cross q way relays leads) = cross q (there-still a b on n (q / 8) way) relays (leads .0, on q (leads .0) ∙ leads .1, leads .2)
+
+  in-step : InStep plan master D (at last)
   unfolding sight
-  follows =
+  in-step =
+      record {
+        sound = fine last (le-refl _) .sound;
+        idle = λ q h. elim (fine last (le-refl _) .only q h) [ inl z ↦ z | inr o ↦ absurd (spread .done last (beaten .enough) (le-refl _) (h, o .0)) ];
+        equal = λ n e w. at-last n e (before n e w) ∙ sym (at-last 0 master here);
+        within = λ n e w. let near = given .within n e (before n e w) in (near .0, near .1, there-still s (at last) same (near .0) e (near .2));
+      }
+    where
+      before : (n e : ℕ) → Crosses plan master D (at last) n e → Crosses plan master D s n e
+      before = there-still (at last) s (λ q h. sym (same q h))
+
+  arrives : Arrives plan master D s last at
+  unfolding sight
+  arrives =
       record {
         comes = comes;
         once = λ q t u lt to g k. spread .once t u lt to g k;
@@ -359,10 +374,21 @@ module _ (plan : Plan) (master D : ℕ) (s : State) (at : ℕ → State) (given 
             let end : has plan held master there s x c c-small (counter (at last) master) ≡ 1 = rw (at-last 0 master here, eq-eqb v v refl) in
             let one : has plan held master there s x c c-small (counter (at 0) master) ≡ 1 = rw (first-value, eq-eqb v v refl) in
             omega arith;
-        gone = λ q h. elim (fine last (le-refl _) .only q h) [ inl z ↦ z | inr o ↦ absurd (spread .done last (le-refl _) (le-refl _) (h, o .0)) ];
-        equal = λ n e w. at-last n e w ∙ sym (at-last 0 master here);
+        again = in-step;
       }
 
 pub distributes : Distributes
 unfolding Distributes
-distributes plan master D s at given = follows plan master D s at given
+distributes plan held master D s rounds at = arrives plan held master D s rounds at
+
+-- each tick finds all in step, as the one before it left them
+pub distributes-all : DistributesAll
+unfolding DistributesAll EachArrives
+distributes-all plan held master D s u given beats = each u beats .0
+  where
+    each : (u : State) (beats : Beats plan master D s u) → EachArrives plan master D s u beats × InStep plan master D u
+    each u still = (tt, given)
+    each u (beat {t} rounds at before last) =
+        let past = each t before in
+        let now = arrives plan held master D t rounds at (past .1) last in
+        ((past .0, now), now .again)

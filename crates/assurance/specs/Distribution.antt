@@ -50,41 +50,57 @@ timeCrossing = 2
 abbrev pub timeWindow : ℕ → ℕ
 timeWindow D = timeCrossing * (D + 1)
 
-module _ (plan : Plan) (master D : ℕ) (s : State) where
+module _ (plan : Plan) (master D : ℕ) where
   -- device e is n crossings away from the master
-  abbrev pub Crosses : ℕ → ℕ → Type 0
-  Crosses = Crossed (carrying plan s master)
+  abbrev pub Crosses : State → ℕ → ℕ → Type 0
+  Crosses s = Crossed (carrying plan s master)
 
-  pub record Given (at : ℕ → State) : Type 0 where
-    -- the plan is that of an accepted file, the same in every call, and the state any sound one
-    pub held : Held plan
+  -- the value of a tick
+  abbrev pub value : State → ℕ
+  value s = nextTime (counter s master)
+
+  -- a state in which all are in step
+  pub record InStep (s : State) : Type 0 where
     pub sound : Sound plan s
     -- no Time-Code waits, and all devices that one gets to have the master's counter
     pub idle : (q : ℕ) → q < 256 → timeWaits s q ≡ 0
-    pub equal : (n e : ℕ) → Crosses n e → counter s e ≡ counter s master
-    -- the master's tick is taken
-    pub taken : Ordered (tickAsks plan master s) 0
+    pub equal : (n e : ℕ) → Crosses s n e → counter s e ≡ counter s master
     -- none of these devices needs more than D crossings
-    pub within : (n e : ℕ) → Crosses n e → (m : ℕ) × (m ≤ D) × Crosses m e
-    -- for `timeWindow D` rounds nobody ticks, no link changes, and no device is reset; all else goes on as it may
-    pub passing : Passing plan (timeWindow D) (advanced master s) at
+    pub within : (n e : ℕ) → Crosses s n e → (m : ℕ) × (m ≤ D) × Crosses s m e
 
-  -- the value of that tick
-  abbrev pub value : ℕ
-  value = nextTime (counter s master)
+  -- the master's tick is taken, and for so many rounds nobody ticks, no link changes, and no device is reset; all else goes on as it may
+  pub record Beat (s : State) (rounds : ℕ) (at : ℕ → State) : Type 0 where
+    pub taken : Ordered (tickAsks plan master s) 0
+    pub enough : timeWindow D ≤ rounds
+    pub passing : Passing plan rounds (advanced master s) at
 
-  pub record Follows (at : ℕ → State) : Type 0 where
-    -- a device n crossings away has the value after `timeCrossing` x n rounds, and from then on to the end of the window
-    pub comes : (n e t : ℕ) → Crosses n e → timeCrossing * n ≤ t → t ≤ timeWindow D → counter (at t) e ≡ value
+  pub record Arrives (s : State) (rounds : ℕ) (at : ℕ → State) : Type 0 where
+    -- a device n crossings away has the value after `timeCrossing` x n rounds, and from then on
+    pub comes : (n e t : ℕ) → Crosses s n e → timeCrossing * n ≤ t → t ≤ rounds → counter (at t) e ≡ value s
     -- no port sends it twice
-    pub once : (q t u : ℕ) → t < u → u < timeWindow D → timeGoes (at t) q ≡ true → timeGoes (at u) q ≡ true → ⊥
+    pub once : (q t u : ℕ) → t < u → u < rounds → timeGoes (at t) q ≡ true → timeGoes (at u) q ≡ true → ⊥
     -- the host of each node that it gets to is told of it once, but that of the master never
-    pub told : (n e : ℕ) → Crosses n e → router plan e ≡ false → e ≢ master → toldBy plan ofTime e value at (timeWindow D) ≡ 1
-    pub master-untold : toldBy plan ofTime master value at (timeWindow D) ≡ 0
-    -- at the end no Time-Code waits, so that the next tick finds what this one found
-    pub gone : (q : ℕ) → q < 256 → timeWaits (at (timeWindow D)) q ≡ 0
-    pub equal : (n e : ℕ) → Crosses n e → counter (at (timeWindow D)) e ≡ counter (at (timeWindow D)) master
+    pub told : (n e : ℕ) → Crosses s n e → router plan e ≡ false → e ≢ master → toldBy plan ofTime e (value s) at rounds ≡ 1
+    pub master-untold : toldBy plan ofTime master (value s) at rounds ≡ 0
+    -- and all are in step again
+    pub again : InStep (at rounds)
 
--- time is distributed
+  -- ticks in any number, each with enough rounds behind it
+  pub data Beats (s : State) : State → Type 0 where
+    still : Beats s s
+    beat : {t : State} (rounds : ℕ) (at : ℕ → State) → Beats s t → Beat t rounds at → Beats s (at rounds)
+
+  -- each of them arrives
+  unfoldable pub EachArrives : (s u : State) → Beats s u → Type 0
+  EachArrives s u still = Unit
+  EachArrives s u (beat {t} rounds at before last) = EachArrives s t before × Arrives t rounds at
+
+-- time is distributed: for the plan of an accepted file, the same in every call, a tick arrives at all that are in step; and so does each
+-- of any number of ticks
 unfoldable pub Distributes : Type 0
-Distributes = (plan : Plan) (master D : ℕ) (s : State) (at : ℕ → State) → Given plan master D s at → Follows plan master D s at
+Distributes = (plan : Plan) → Held plan → (master D : ℕ) (s : State) (rounds : ℕ) (at : ℕ → State)
+    → InStep plan master D s → Beat plan master D s rounds at → Arrives plan master D s rounds at
+
+unfoldable pub DistributesAll : Type 0
+DistributesAll = (plan : Plan) → Held plan → (master D : ℕ) (s u : State) → InStep plan master D s
+    → (beats : Beats plan master D s u) → EachArrives plan master D s u beats
