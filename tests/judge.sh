@@ -36,7 +36,7 @@ refused --cases 00
 refused --long --case 1
 refused --seed 1 --wrong
 
-# Under the emulator all networks take some 18 minutes, so that the gate tries a tenth of them there. JUDGE_TENTH=1 does
+# Under the emulator all networks take some 21 minutes, so that the gate tries a tenth of them there. JUDGE_TENTH=1 does
 # the same on any machine.
 cases=2400
 if [ -n "$emulator" ] || [ "${JUDGE_TENTH-}" = 1 ]; then
@@ -53,7 +53,7 @@ cat "$work/out"
 [ "$status" = 0 ]
 
 # It said what is to come, and how far it was, and both apart from its output.
-grep -q "^conformance/run: networks to try: $cases; this takes about [0-9]* s\$" "$work/err"
+grep -Eq "^conformance/run: networks to try: $cases; this takes about [0-9]+ (s|min)\$" "$work/err"
 for tenth in 1 2 3 4 5 6 7 8 9 10; do echo "$((cases * tenth / 10)) of $cases networks"; done >"$work/wanted"
 grep ' of ' "$work/err" | cmp - "$work/wanted"
 [ "$(head -n 1 "$work/out")" = "seed 20120831, cases 0 to $((cases - 1))" ]

@@ -56,7 +56,7 @@ static void sound_times(struct plan *plan, struct state *state, u32 d, u32 time,
 /* What sound states have of Time-Codes. */
 enum having { ANYTHING, A_COUNTER, ONE_WAITS, LAST_AND_STILL, HAVINGS };
 static const char *const having_names[HAVINGS] = {
-    "sound states", "  with a counter that is not 0", "  with a Time-Code that waits", "  with the 128 at a port that stands still"};
+    "sound states", "with a counter that is not 0", "with a Time-Code that waits", "with the 128 at a port that stands still"};
 static size having[HAVINGS];
 
 static void count_times(struct state *state) {
@@ -188,7 +188,7 @@ flag break_state(struct plan *plan, struct state *state, u32 clause) {
 
 void states_table(void) {
     for (u32 h = 0; h < HAVINGS; h++)
-        printf("%-43s %8lu\n", having_names[h], having[h]);
+        printf("%s%-*s %8lu\n", h ? "  " : "", h ? 41 : 43, having_names[h], having[h]);
     printf("states with one thing wrong                    times\n");
     for (u32 c = 0; c < CLAUSES; c++)
         printf("  %-41s %8lu\n", clauses[c], broken_so[c]);
