@@ -89,10 +89,10 @@ bench_u32 bench_for_header_acknowledge(const bench_u8 *plan, bench_size plan_len
                                        bench_size state_length, bench_size device, bench_u32 k);
 bench_u32 bench_for_header_link(const bench_u8 *plan, bench_size plan_length, bench_u32 *state, bench_size state_length,
                                 bench_size device, bench_size port, bench_u32 running);
-bench_u32 bench_for_header_reset(const bench_u8 *plan, bench_size plan_length, bench_u32 *state, bench_size state_length,
-                                 bench_size device);
 bench_u32 bench_for_header_tick(const bench_u8 *plan, bench_size plan_length, bench_u32 *state, bench_size state_length,
                                 bench_size device);
+bench_u32 bench_for_header_reset(const bench_u8 *plan, bench_size plan_length, bench_u32 *state, bench_size state_length,
+                                 bench_size device);
 bench_u32 bench_for_header_round(const bench_u8 *plan, bench_size plan_length, const bench_u32 *old, bench_size old_length,
                                  bench_u32 *next, bench_size next_length, bench_u32 *sent, bench_size sent_length,
                                  bench_u32 *told, bench_size told_length, bench_u32 *count);
@@ -263,14 +263,6 @@ static inline bench_u32 bench_link(const bench_u8 *plan, bench_size plan_length,
     return bench_for_header_link(plan, plan_length, state, state_length, device, port, running);
 }
 
-/* A device is reset. 20 to 26; 2; 4. */
-static inline bench_u32 bench_reset(const bench_u8 *plan, bench_size plan_length, bench_u32 *state, bench_size state_length,
-                                    bench_size device) {
-    if (!bench_two_apart(plan, plan_length, state, state_length))
-        return 3;
-    return bench_for_header_reset(plan, plan_length, state, state_length, device);
-}
-
 /* The host of the master ticks: its counter goes up by one, from 63 to 0, and the Time-Code is queued at all its ports that run.
  * 20 to 26; 2; 4; 14; 7. */
 static inline bench_u32 bench_tick(const bench_u8 *plan, bench_size plan_length, bench_u32 *state, bench_size state_length,
@@ -278,6 +270,14 @@ static inline bench_u32 bench_tick(const bench_u8 *plan, bench_size plan_length,
     if (!bench_two_apart(plan, plan_length, state, state_length))
         return 3;
     return bench_for_header_tick(plan, plan_length, state, state_length, device);
+}
+
+/* A device is reset. 20 to 26; 2; 4. */
+static inline bench_u32 bench_reset(const bench_u8 *plan, bench_size plan_length, bench_u32 *state, bench_size state_length,
+                                    bench_size device) {
+    if (!bench_two_apart(plan, plan_length, state, state_length))
+        return 3;
+    return bench_for_header_reset(plan, plan_length, state, state_length, device);
 }
 
 /* ---- rounds, settling, reach, and the text */

@@ -39,7 +39,7 @@ same() {
     theirs=$(grep -o "BENCH_$3 = [0-9]*" "$work/header")
     [ "BENCH_$3 = $ours" = "$theirs" ] || { echo "$1 has $ours for $2, and the header $theirs"; exit 1; }
 }
-for name in DEVICE PORTS PORT NEXT RUNNING; do same state $name $name; done
+for name in DEVICE PORTS PORT NEXT RUNNING COUNTERS TIMES; do same state $name $name; done
 for name in SENT TOLD NOTHING ROUNDS; do same bench $name $name; done
 same state WORDS STATE
 same report LONGEST TEXT

@@ -1,5 +1,5 @@
 -- The third step of a round, as a code sees it: where it arrives, and what each arrival keeps.
-use mathlib.Core.Path.{_≡_, refl, sym, ap, _∙_}
+use mathlib.Core.Path.{_≡_, sym, ap, _∙_}
 use mathlib.Core.Bool.{true}
 use mathlib.Core.Logic.{_⊎_, inl, inr, _≢_}
 use Prim.Native.Nat.{ℕ, suc, _-_, _*_, _/_, _<_}

@@ -1,7 +1,7 @@
 -- What a port sends of one code, and what waiting for it tells of the port; in a sound state.
 use mathlib.Core.Path.{_≡_, refl, ap, _∙_}
 use mathlib.Core.Bool.{Bool, true, false, not-eq-not}
-use mathlib.Core.Logic.{_⊎_, inl, inr, _≢_, dite}
+use mathlib.Core.Logic.{_≢_, dite}
 use Prim.Native.Nat.{ℕ, zero, suc, _+_, _-_, _*_, _/_, _%_, _<_, max}
 use native.Mathlib.Decide.{ℕ-discrete, decLt}
 use native.Mathlib.Omega.{arith}

@@ -13,28 +13,30 @@ use Rattle.plan.specs.Fields.{nobody}
 use Rattle.plan.specs.Reading.{Held}
 use Rattle.plan.specs.declared.Plan.{Plan}
 use Rattle.plan.proofs.BothWays.{held-master-node}
-use Rattle.state.specs.State.{State, words, word, put, portsEnd, portAt, runningAt, running, counterAt, counter, timeAt, timeWaits, lately}
+use Rattle.state.specs.State.{State, word, put, portsEnd, portAt, runningAt, running, counterAt, counter, timeAt, timeWaits, lately}
 use Rattle.state.specs.Network.{devices, role, router, peer}
 use Rattle.state.specs.Sound.{Sound}
+use Rattle.state.specs.Start.{started}
 use Rattle.state.specs.Mark.{mark}
 use Rattle.state.proofs.Words.{length-put, word-same, word-other}
 use Rattle.state.proofs.Plans.{few, far-end}
+use Rattle.state.proofs.Started.{start-behind, started-sound}
 use Rattle.state.proofs.Marks.{mark-other}
 use Rattle.state.proofs.Waits.{queue-all-left}
-use Rattle.state.proofs.Times.{queue-times-left, queue-times-cases, queue-times-waits}
+use Rattle.state.proofs.Times.{queue-times-left, queue-times-cases}
 use Rattle.calls.specs.Calls.{callAsks, tickAsks, called, advanced}
 use Rattle.calls.proofs.Called.{call-sound, tick-sound, tick-left, tick-waits}
 use Rattle.bench.specs.Round.{ofTime, timeGoes, sentBytes, reached, afterSending, round}
 use Rattle.bench.proofs.Stepped.{goes-late}
 use Rattle.bench.proofs.RoundSound.{round-sound}
 use Rattle.laws.specs.Telling.{toldIn, toldBy}
-use Rattle.flood.specs.Flood.{Net, Sight, Relays, Crossed, here, cross, Within, Start, Step, Run, Flooded}
+use Rattle.flood.specs.Flood.{Net, Sight, here, cross, Start, Step, Flooded}
 use Rattle.flood.proofs.Spreads.{flooded}
-use Rattle.assurance.specs.Distribution.{Others, none, then, tick, Passing, carrying, timeCrossing, timeWindow, Crosses, InStep, Beat, Arrives, Beats, still, beat, EachArrives, Distributes, DistributesAll}
+use Rattle.assurance.specs.Distribution.{Others, none, then, tick, carrying, timeCrossing, Crosses, InStep, Beat, Arrives, Beats, still, beat, EachArrives, Distributes, DistributesAll}
 use Rattle.assurance.proofs.Taking.{called-took}
 use Rattle.assurance.proofs.Choices.{runs-there, runs-joined}
-use Rattle.assurance.proofs.Posted.{posts-early, posts-time-gone, posts-time-on, posts-counter}
-use Rattle.assurance.proofs.Timely.{Gets, Sends-on, gets-device, Timely, has, Goes, goes-inside, goes-only, p-waits, Came, came-leads, Going, going-keeps, going-count, going, gets-in}
+use Rattle.assurance.proofs.Posted.{posts-early, posts-time-on, posts-counter}
+use Rattle.assurance.proofs.Timely.{Gets, gets-device, Timely, has, Goes, goes-inside, goes-only, p-waits, came-leads, Going, going-keeps, going-count, going, gets-in}
 
 -- ---- what hosts do meanwhile leaves every word behind the ports
 
@@ -67,6 +69,18 @@ others-beside plan held {s} x (then {t = t} kind d k number before g call) =
             behind = λ i m. called-behind plan t kind d k g l room i m ∙ b .behind i m;
           })
     ]
+
+-- ---- at the start all are in step
+
+pub start-in-step : (plan : Plan) → Held plan → (master D : ℕ)
+    → ((n e : ℕ) → Crosses plan master D (started plan) n e → (m : ℕ) × (m ≤ D) × Crosses plan master D (started plan) m e) → InStep plan master D (started plan)
+start-in-step plan held master D within =
+    record {
+      sound = started-sound plan held;
+      idle = λ q h. ap (λ n. n % 128) (start-behind plan (timeAt q) (omega arith));
+      equal = λ n e w. start-behind plan (counterAt e) (omega arith) ∙ sym (start-behind plan (counterAt master) (omega arith));
+      within = within;
+    }
 
 -- ---- from the tick on
 

@@ -1,12 +1,11 @@
 -- The slowest that a code can be. At a node's port all identifiers wait, the last of them 31, and a Time-Code waits before each round: then 31 waits on
 -- for 63 rounds, and nothing happens that concerns it.
 use mathlib.Core.Path.{_≡_, refl, sym, ap, _∙_}
-use mathlib.Core.Bool.{Bool, true, false, cond, false≢true}
-use mathlib.Core.Logic.{_≢_, dite}
+use mathlib.Core.Bool.{Bool, true, false, false≢true}
+use mathlib.Core.Logic.{_≢_}
 use Prim.Native.Nat.{ℕ, zero, suc, _+_, _-_, _*_, _/_, _%_, _≤_, _<_}
 use native.Mathlib.Decide.{ℕ-discrete}
 use native.Mathlib.Omega.{arith}
-use lib.ListN.{length}
 use Rattle.lists.specs.Loop.{upTo}
 use Rattle.lists.proofs.Loops.{keeps}
 use Rattle.bits.specs.Set.{bit}
@@ -16,7 +15,7 @@ use Rattle.bits.specs.declared.Found.the-variants.{At, Nowhere}
 use Rattle.bits.proofs.Sets.{bit-two}
 use Rattle.plan.specs.Reading.{Held}
 use Rattle.plan.specs.declared.Plan.{Plan}
-use Rattle.state.specs.State.{State, words, word, registerAt, timerAt, portAt, register, timer, waiting, nextAt, next, runningAt, running, timeWaits, lately}
+use Rattle.state.specs.State.{State, portsEnd, word, registerAt, timerAt, portAt, register, timer, waiting, nextAt, next, runningAt, running, timeWaits, lately}
 use Rattle.state.specs.Network.{devices, router}
 use Rattle.state.specs.Sound.{Sound}
 use Rattle.state.specs.Mark.{mark}
@@ -177,7 +176,7 @@ module _ (plan : Plan) (held : Held plan) (kind : ℕ) (g : kind < 2) (d p : ℕ
         let apart = unsent-aside plan held 31 (omega arith) (x .sound) unsent .like in
         let turn = round-turns plan held (x .sound) q small-q in
         let node-waits = round-waits plan held (x .sound) q small-q (let e : q / 8 ≡ d = omega arith in rw e node) kind g in
-        let left : (i : ℕ) → i < 2080 → word (advanced d after-round) i ≡ word after-round i = tick-left d room after-round in
+        let left : (i : ℕ) → i < portsEnd → word (advanced d after-round) i ≡ word after-round i = tick-left d room after-round in
         let kept : (e : ℕ) → e < devices plan → bit (register posts e) 31 ≡ bit (register s e) 31 =
         λ e b. posts-marks plan held (x .sound) 31 (omega arith) e b (λ o. omega (arith, x .long e b o)) in
         let marked : (e : ℕ) → e < devices plan → bit (register (advanced d after-round) e) 31 ≡ bit (register s e) 31 =
@@ -213,7 +212,7 @@ module _ (plan : Plan) (held : Held plan) (kind : ℕ) (g : kind < 2) (d p : ℕ
       → ((e : ℕ) → e < devices plan → bit (register u e) 31 ≡ 1 → 65 ≤ timer u e 31) → Slow u 0 (advanced d u)
   begins u y runs start late waits alone long =
       let n = few plan held in
-      let left : (i : ℕ) → i < 2080 → word (advanced d u) i ≡ word u i = tick-left d room u in
+      let left : (i : ℕ) → i < portsEnd → word (advanced d u) i ≡ word u i = tick-left d room u in
       record {
         sound = tick-sound plan held u y d there;
         runs = left (portAt q runningAt) (omega (arith, room)) ∙ runs;

@@ -1,18 +1,16 @@
 -- A round as one Time-Code sees it, where no other Time-Code is about: who has its value, where it waits, and what hosts are told of it.
-use mathlib.Core.Path.{_≡_, refl, sym, ap, subst, _∙_}
+use mathlib.Core.Path.{_≡_, refl, sym, ap, _∙_}
 use mathlib.Core.Bool.{Bool, true, false, cond, not, _&&_, false≢true}
-use mathlib.Core.List.{List, [], _∷_, _++_}
+use mathlib.Core.List.{[], _∷_, _++_}
 use mathlib.Core.Logic.{_⊎_, inl, inr, _≢_, dite}
-use Prim.Native.Nat.{ℕ, zero, suc, _+_, _-_, _*_, _/_, _%_, _≤_, _<_}
+use Prim.Native.Nat.{ℕ, suc, _+_, _-_, _*_, _/_, _%_, _≤_, _<_}
 use native.Mathlib.Decide.{ℕ-discrete, decLt}
 use native.Mathlib.Omega.{arith}
-use lib.Dec.{eqb}
 use lib.ListN.{length, getD, List·getD-eq-default}
 use borrow.Author.Tests.{eq-eqb, ne-eqb, le-ltb}
 use Rattle.lists.proofs.Loops.{keeps, hit, untouched}
 use Rattle.lists.proofs.Tables.{length-table, getD-table}
 use Rattle.device.specs.Reaction.{nextTime}
-use Rattle.plan.specs.Fields.{nobody}
 use Rattle.plan.specs.Reading.{Held}
 use Rattle.plan.specs.declared.Plan.{Plan}
 use Rattle.state.specs.State.{State, words, word, put, portsEnd, portAt, runningAt, running, counterAt, counter, timeAt, time, timeWaits, lately}
@@ -25,21 +23,19 @@ use Rattle.state.proofs.Plans.{FarEnd, few, owned, absent-loose, far-end}
 use Rattle.state.proofs.Marks.{mark-other}
 use Rattle.state.proofs.Waits.{not-absent, queue-all-left}
 use Rattle.state.proofs.Times.{queue-times-left, queue-times-lately, queue-times-cases, queue-times-waits}
-use Rattle.bench.specs.Round.{World, ofInterrupt, ofTimeout, ofTime, toldWord, nothing, sentWords, timeGoes, sends, ticked, sentBytes, arrives, reached, afterTimers, afterSending, round}
+use Rattle.bench.specs.Round.{World, ofInterrupt, ofTimeout, ofTime, toldWord, nothing, sentWords, timeGoes, ticked, sentBytes, arrives, reached, afterTimers, afterSending}
 use Rattle.bench.proofs.Ticks.{tick-cases}
-use Rattle.bench.proofs.Stepped.{goes-waits, goes-late, goes-not, post-time, sends-time}
+use Rattle.bench.proofs.Stepped.{goes-waits, post-time, sends-time}
 use Rattle.bench.proofs.RoundSound.{taking, takes, counts, isNew, arrives-any, arrives-sound}
-use Rattle.laws.specs.Telling.{times, toldIn}
+use Rattle.laws.specs.Telling.{times}
 use Rattle.laws.proofs.Apart.{sent-at}
 use Rattle.laws.proofs.Timers.{turn}
 use Rattle.laws.proofs.Telling.{once, times-more, times-other}
-use Rattle.flood.specs.Flood.{Net, Relays, Crossed, here, cross}
+use Rattle.flood.specs.Flood.{Net, Relays, here, cross}
 use Rattle.assurance.specs.Distribution.{carrying, Crosses}
-use Rattle.assurance.proofs.Turns.{SameTurn, turn-same, turn-then}
 use Rattle.assurance.proofs.Taking.{took}
 use Rattle.assurance.proofs.Choices.{runs-there, runs-joined}
-use Rattle.assurance.proofs.Posted.{posts-sound, posts-runs, posts-early, posts-time-gone, posts-time-on, posts-counter}
-use Rattle.assurance.proofs.Entering.{arrives-turns}
+use Rattle.assurance.proofs.Posted.{posts-sound, posts-runs, posts-time-gone, posts-time-on, posts-counter}
 
 -- s₀ : the state before the tick, whose running flags count. c : the counter there, v : the value of the tick
 module _ (plan : Plan) (held : Held plan) (master : ℕ) (there : master < devices plan) (s₀ : State) (x₀ : Sound plan s₀) (c : ℕ) (c-small : c < 64) where

@@ -1,5 +1,5 @@
 -- RULES, "The whole cycle": T-01, clause by clause. A source requests k, a handler acknowledges it when demand 3's window is over, and k is as it
--- was before. `Calls` and `Course` have requests and acknowledges only: in them no link changes and no device is reset.
+-- was before. `Calls` and `Course` have requests, acknowledges and ticks only: in them no link changes and no device is reset.
 use mathlib.Core.Path.{_≡_}
 use mathlib.Core.Bool.{false}
 use mathlib.Core.Logic.{_≢_}

@@ -8,7 +8,7 @@ use Rattle.device.specs.Reaction.{nextTime}
 use Rattle.plan.specs.Reading.{Held}
 use Rattle.plan.specs.declared.Plan.{Plan}
 use Rattle.state.specs.State.{State, running, counter, timeWaits}
-use Rattle.state.specs.Network.{devices, router, peer}
+use Rattle.state.specs.Network.{router, peer}
 use Rattle.state.specs.Sound.{Sound}
 use Rattle.calls.specs.Calls.{tickAsks, advanced, Takes, Ticks}
 use Rattle.bench.specs.Round.{ofTime, round, timeGoes}

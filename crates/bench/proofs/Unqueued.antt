@@ -1,8 +1,7 @@
 -- The code that is sent waits no more: a sound state stays sound, and no word changes but those of ports.
 use mathlib.Core.Path.{_≡_, refl, sym, ap, _∙_}
 use mathlib.Core.Bool.{Bool, true, false, false≢true}
-use Prim.Native.Nat.{ℕ, _+_, _*_, _%_, _≤_, _<_}
-use native.Mathlib.Decide.{ℕ-discrete}
+use Prim.Native.Nat.{ℕ, _*_, _≤_, _<_}
 use native.Mathlib.Omega.{arith}
 use lib.Bits.{bitOr, or-zero-l}
 use Rattle.lists.proofs.Loops.{keeps, untouched}
@@ -13,7 +12,7 @@ use Rattle.bits.specs.declared.Found.the-variants.{At, Nowhere}
 use Rattle.bits.proofs.Sets.{bit-zero, leave-lt}
 use Rattle.plan.specs.Reading.{Held}
 use Rattle.plan.specs.declared.Plan.{Plan}
-use Rattle.state.specs.State.{State, word, portsAt, portsEnd, portAt, waiting, nextAt, next, timeAt, time, timeWaits}
+use Rattle.state.specs.State.{State, word, portsAt, portsEnd, portAt, waiting, nextAt, next, timeAt, timeWaits}
 use Rattle.state.specs.Network.{devices, exists}
 use Rattle.state.specs.Sound.{Kept, Sound}
 use Rattle.state.proofs.Words.{word-other}

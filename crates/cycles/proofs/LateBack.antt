@@ -26,7 +26,6 @@ use Rattle.state.specs.Sound.{Sound}
 use Rattle.calls.specs.Calls.{called}
 use Rattle.calls.proofs.Called.{call-sound}
 use Rattle.bench.specs.Round.{tick, firstWaits, goes, timeGoes, stamped, chosen, sentWord, sends, unqueued, timed, forwarded, tells, acted, arrived, ticked, sentBytes, posted, arrives, reached, round}
-use Rattle.bench.specs.Settling.{rounds}
 use Rattle.laws.proofs.Apart.{alike-same, call-apart}
 use Rattle.reach.proofs.Distances.{walk-device}
 use Rattle.assurance.specs.Demand3.{none, Course, crossing, window}

@@ -11,9 +11,9 @@ use borrow.Author.Tests.{eq-eqb, ne-eqb, eqb-true, eqb-false, lt-ltb, ltb-true}
 use Rattle.lists.proofs.Loops.{keeps, untouched, hit}
 use Rattle.plan.specs.Reading.{Held}
 use Rattle.plan.specs.declared.Plan.{Plan}
-use Rattle.state.specs.State.{State, words, word, put, portsEnd, runningAt, portAt, running, counterAt, timeAt, time, timeWaits, lately}
+use Rattle.state.specs.State.{State, words, word, put, runningAt, portAt, running, counterAt, timeAt, time, timeWaits, lately}
 use Rattle.state.specs.Network.{devices, exists}
-use Rattle.state.specs.Sound.{Clocked, Sound}
+use Rattle.state.specs.Sound.{Sound}
 use Rattle.state.specs.Queue.{queueTime, queueTimeBut, queueTimeAll, queueTimeIn}
 use Rattle.state.proofs.Words.{length-put, word-same, word-other}
 use Rattle.state.proofs.Plans.{few}

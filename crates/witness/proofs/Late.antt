@@ -1,7 +1,6 @@
 -- The rounds of a crossing are enough, and no fewer are: where all other identifiers wait before it, and a Time-Code before each of them, a code is sent
 -- in the last of them. So are the rounds of the window: until the last of them a code may wait.
-use mathlib.Core.Path.{_≡_, refl, ap, _∙_}
-use mathlib.Core.Bool.{false}
+use mathlib.Core.Path.{_≡_, ap, _∙_}
 use Prim.Native.Nat.{ℕ, _-_, _<_}
 use native.Mathlib.Omega.{arith}
 use Rattle.bits.specs.Set.{bit}

@@ -1,6 +1,6 @@
 -- `calls::unclock` meets its contract. The invariant: the counter and the ports before port p are done, and all else is as it was. Assumes nothing.
 use mathlib.Core.Path.{_≡_}
-use Prim.Native.Nat.{_-_, _≤_, _<_}
+use Prim.Native.Nat.{_-_, _≤_}
 use native.Mathlib.Omega.{arith}
 use lib.ListN.{length, length-set}
 use borrow.Author.Needs.{needs}

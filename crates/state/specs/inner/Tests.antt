@@ -10,7 +10,7 @@ use Rattle.bits.specs.Set.{bit}
 use Rattle.device.specs.Permissions.{maySend}
 use Rattle.plan.specs.Fields.{nobody}
 use Rattle.plan.specs.declared.Plan.{Plan}
-use Rattle.state.specs.State.{State, words, word, deviceWords, portsAt, portWords, portAt, register, timer, waiting, next, running, counterAt, counter, timeAt, time}
+use Rattle.state.specs.State.{State, words, word, deviceWords, portsAt, portWords, portAt, register, timer, waiting, next, running, counter, time}
 use Rattle.state.specs.Network.{peerIn}
 
 unfoldable pub timerSound : ℕ → ℕ → Bool

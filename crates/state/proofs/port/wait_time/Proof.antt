@@ -1,7 +1,6 @@
 -- `state::wait_time` meets its contract: one word is stored where the port runs. Assumes nothing.
 use mathlib.Core.Path.{_≡_}
 use Prim.Native.Nat.{ℕ, _+_, _*_}
-use native.Mathlib.Omega.{arith}
 use borrow.Author.Needs.{needs}
 use borrow.Author.Tests.{eq-eqb, ne-eqb}
 use Rattle.state.specs.State.{State, word, put, running, timeAt, lately}

@@ -1,9 +1,6 @@
 -- `state::counter_sound` meets its contract. Assumes nothing.
-use mathlib.Core.Path.{sym, ap, _∙_}
-use native.Mathlib.Omega.{arith}
 use borrow.Author.Needs.{needs}
 use borrow.Author.Tests.{lt-ltb, le-ltb}
-use lib.Dec.{eqb, ltb}
 use Rattle.state.specs.inner.Tests.{counterSound}
 use Rattle.state.proofs.sound.counter_sound.Statement.{statement}
 use Rattle.state.proofs.sound.counter_sound.Tie as tie
