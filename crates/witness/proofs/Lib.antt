@@ -4,3 +4,4 @@ pub mod Conditions
 pub mod Late
 pub mod Copied
 pub mod Forked
+pub mod OnTime

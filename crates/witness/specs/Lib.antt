@@ -2,3 +2,4 @@ pub mod Line
 pub mod Rate
 pub mod Copying
 pub mod Fork
+pub mod TimeRate

@@ -7,7 +7,8 @@ use Rattle.plan.specs.Fields.{nobody}
 use Rattle.plan.specs.declared.Plan.{Plan}
 use Rattle.state.specs.State.{State}
 use Rattle.state.specs.Start.{started}
-use Rattle.calls.specs.Calls.{called}
+use Rattle.calls.specs.Calls.{called, advanced}
+use Rattle.bench.specs.Settling.{rounds}
 use Rattle.assurance.specs.Ticking.{ticking}
 
 -- node 0, source of every identifier and master, at router 1, and at that node 2, handler of every identifier
@@ -57,3 +58,11 @@ busy plan = upTo (called plan 0 0) 30 (started plan)
 -- it requests 31, then 30; then rounds are played, and it ticks before each
 unfoldable pub course : Plan → ℕ → State
 course plan = ticking plan 0 (called plan 0 0 30 (called plan 0 0 31 (busy plan)))
+
+-- in the second plan the host of node 0 ticks, a round is played, and it requests 0: that waits at a port whose last code sent was a Time-Code
+unfoldable pub asked : State
+asked = called deaf 0 0 0 (rounds deaf 1 (advanced 0 (started deaf)))
+
+-- it ticks again, and rounds are played
+unfoldable pub again : ℕ → State
+again t = rounds deaf t (advanced 0 asked)
