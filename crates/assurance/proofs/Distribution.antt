@@ -73,7 +73,7 @@ others-beside plan held {s} x (then {t = t} kind d k number before g call) =
 -- ---- at the start all are in step
 
 pub start-in-step : (plan : Plan) → Held plan → (master D : ℕ)
-    → ((n e : ℕ) → Crosses plan master D (started plan) n e → (m : ℕ) × (m ≤ D) × Crosses plan master D (started plan) m e) → InStep plan master D (started plan)
+    → ((n e : ℕ) → Crosses plan master (started plan) n e → (m : ℕ) × (m ≤ D) × Crosses plan master (started plan) m e) → InStep plan master D (started plan)
 start-in-step plan held master D within =
     record {
       sound = started-sound plan held;
@@ -338,24 +338,24 @@ module _ (plan : Plan) (held : Held plan) (master D : ℕ) (s : State) (last : �
   told-by e get node zero h = omega arith
   told-by e get node (suc t) h = omega (arith, told-by e get node t (omega arith), told-in t h e get node)
 
-  comes : (n e t : ℕ) → Crosses plan master D s n e → timeCrossing * n ≤ t → t ≤ last → counter (at t) e ≡ v
+  comes : (n e t : ℕ) → Crosses plan master s n e → timeCrossing * n ≤ t → t ≤ last → counter (at t) e ≡ v
   unfolding sight
   comes n e t w from to = spread .reached w t from to .1
 
-  at-last : (n e : ℕ) → Crosses plan master D s n e → counter (at last) e ≡ v
+  at-last : (n e : ℕ) → Crosses plan master s n e → counter (at last) e ≡ v
   at-last n e w = let near = given .within n e w in comes (near .0) e last (near .2) (omega (arith, near .1, beaten .enough)) (le-refl _)
 
   first-value : counter (at 0) master ≡ v
   first-value = begins .behind (counterAt master) (omega arith) ∙ first-count .0
 
-  first-other : (n e : ℕ) → Crosses plan master D s n e → e ≢ master → counter (at 0) e ≡ c
+  first-other : (n e : ℕ) → Crosses plan master s n e → e ≢ master → counter (at 0) e ≡ c
   first-other n e w ne = begins .behind (counterAt e) (omega arith) ∙ first-count .1 e (small (n, w)) ne ∙ given .equal n e w
 
   -- links run as they did, so that the same devices are as far away
   same : (q : ℕ) → q < 256 → running (at last) q ≡ running s q
   same = fine last (le-refl _) .runs
 
-  there-still : (a b : State) → ((q : ℕ) → q < 256 → running b q ≡ running a q) → (n e : ℕ) → Crosses plan master D a n e → Crosses plan master D b n e
+  there-still : (a b : State) → ((q : ℕ) → q < 256 → running b q ≡ running a q) → (n e : ℕ) → Crosses plan master a n e → Crosses plan master b n e
   there-still a b on zero e here = here
   there-still a b on (suc n) e (cross q way relays leads) = cross q (there-still a b on n (q / 8) way) relays (leads .0, on q (leads .0) ∙ leads .1, leads .2)
 
@@ -369,7 +369,7 @@ module _ (plan : Plan) (held : Held plan) (master D : ℕ) (s : State) (last : �
         within = λ n e w. let near = given .within n e (before n e w) in (near .0, near .1, there-still s (at last) same (near .0) e (near .2));
       }
     where
-      before : (n e : ℕ) → Crosses plan master D (at last) n e → Crosses plan master D s n e
+      before : (n e : ℕ) → Crosses plan master (at last) n e → Crosses plan master s n e
       before = there-still (at last) s (λ q h. sym (same q h))
 
   arrives : Arrives plan master D s last at

@@ -47,13 +47,13 @@ module _ (plan : Plan) (held : Held plan) (master : ℕ) (there : master < devic
 
   -- a Time-Code gets to device e
   abbrev pub Gets : ℕ → Type 0
-  Gets e = (n : ℕ) × Crosses plan master 0 s₀ n e
+  Gets e = (n : ℕ) × Crosses plan master s₀ n e
 
   -- device e gets it, and sends it on
   abbrev pub Sends-on : ℕ → Type 0
   Sends-on e = Gets e × Relays N e
 
-  pub gets-device : {n e : ℕ} → Crosses plan master 0 s₀ n e → e < devices plan
+  pub gets-device : {n e : ℕ} → Crosses plan master s₀ n e → e < devices plan
   gets-device here = there
   gets-device (cross q w on leads) =
       let joined = runs-joined plan held x₀ q (leads .0) (leads .1) in

@@ -50,23 +50,23 @@ timeCrossing = 2
 abbrev pub timeWindow : ℕ → ℕ
 timeWindow D = timeCrossing * (D + 1)
 
+-- device e is n crossings away from the master
+abbrev pub Crosses : Plan → ℕ → State → ℕ → ℕ → Type 0
+Crosses plan master s = Crossed (carrying plan s master)
+
+-- the value of a tick
+abbrev pub value : ℕ → State → ℕ
+value master s = nextTime (counter s master)
+
 module _ (plan : Plan) (master D : ℕ) where
-  -- device e is n crossings away from the master
-  abbrev pub Crosses : State → ℕ → ℕ → Type 0
-  Crosses s = Crossed (carrying plan s master)
-
-  -- the value of a tick
-  abbrev pub value : State → ℕ
-  value s = nextTime (counter s master)
-
   -- a state in which all are in step
   pub record InStep (s : State) : Type 0 where
     pub sound : Sound plan s
     -- no Time-Code waits, and all devices that one gets to have the master's counter
     pub idle : (q : ℕ) → q < 256 → timeWaits s q ≡ 0
-    pub equal : (n e : ℕ) → Crosses s n e → counter s e ≡ counter s master
+    pub equal : (n e : ℕ) → Crosses plan master s n e → counter s e ≡ counter s master
     -- none of these devices needs more than D crossings
-    pub within : (n e : ℕ) → Crosses s n e → (m : ℕ) × (m ≤ D) × Crosses s m e
+    pub within : (n e : ℕ) → Crosses plan master s n e → (m : ℕ) × (m ≤ D) × Crosses plan master s m e
 
   -- the master's tick is taken, and for so many rounds nobody ticks, no link changes, and no device is reset; all else goes on as it may
   pub record Beat (s : State) (rounds : ℕ) (at : ℕ → State) : Type 0 where
@@ -76,12 +76,12 @@ module _ (plan : Plan) (master D : ℕ) where
 
   pub record Arrives (s : State) (rounds : ℕ) (at : ℕ → State) : Type 0 where
     -- a device n crossings away has the value after `timeCrossing` x n rounds, and from then on
-    pub comes : (n e t : ℕ) → Crosses s n e → timeCrossing * n ≤ t → t ≤ rounds → counter (at t) e ≡ value s
+    pub comes : (n e t : ℕ) → Crosses plan master s n e → timeCrossing * n ≤ t → t ≤ rounds → counter (at t) e ≡ value master s
     -- no port sends it twice
     pub once : (q t u : ℕ) → t < u → u < rounds → timeGoes (at t) q ≡ true → timeGoes (at u) q ≡ true → ⊥
     -- the host of each node that it gets to is told of it once, but that of the master never
-    pub told : (n e : ℕ) → Crosses s n e → router plan e ≡ false → e ≢ master → toldBy plan ofTime e (value s) at rounds ≡ 1
-    pub master-untold : toldBy plan ofTime master (value s) at rounds ≡ 0
+    pub told : (n e : ℕ) → Crosses plan master s n e → router plan e ≡ false → e ≢ master → toldBy plan ofTime e (value master s) at rounds ≡ 1
+    pub master-untold : toldBy plan ofTime master (value master s) at rounds ≡ 0
     -- and all are in step again
     pub again : InStep (at rounds)
 

@@ -29,7 +29,7 @@ use Rattle.calls.proofs.Called.{tick-sound, call-sound}
 use Rattle.bench.specs.Round.{tick, firstWaits, goes, timeGoes, stamped, chosen, sentWord, sends, unqueued, timed, forwarded, acted, arrived, ticked, sentBytes, posted, arrives, reached, round}
 use Rattle.bench.proofs.RoundSound.{rounds-sound}
 use Rattle.flood.specs.Flood.{here, cross}
-use Rattle.assurance.specs.Distribution.{none, timeCrossing, Crosses, Given, Distributes}
+use Rattle.assurance.specs.Distribution.{none, timeCrossing, timeWindow, Crosses, InStep, Beat, Distributes}
 use Rattle.assurance.proofs.Timely.{gets-device}
 use Rattle.assurance.proofs.Distribution.{distributes}
 use Rattle.witness.specs.Line.{deaf, asked, again}
@@ -39,7 +39,7 @@ use Rattle.witness.proofs.Accepted.{deaf-held}
 -- the rounds of a crossing are enough
 pub soon : Soon timeCrossing
 unfolding Soon Distributes
-soon plan master D s at x = distributes plan master D s at x .comes
+soon plan held master D s rounds at x y = distributes plan held master D s rounds at x y .comes
 
 -- ---- the example
 
@@ -89,32 +89,37 @@ none-waits q h = by-test (exists deaf q) refl
     by-test false e = rw (asked-sound .clock .no-word q h e)
 
 -- the router is one crossing away from node 0
-to-router : Crosses deaf 0 1 asked 1 1
+to-router : Crosses deaf 0 asked 1 1
 unfolding deaf
 to-router = cross 0 here (inl refl) (omega arith, ready .runs, refl)
 
 -- a device that a Time-Code gets to is one of the two
-small : {n e : ℕ} → Crosses deaf 0 1 asked n e → e < 2
+small : {n e : ℕ} → Crosses deaf 0 asked n e → e < 2
 unfolding deaf
 small w = gets-device deaf deaf-held 0 there asked asked-sound 0 (omega arith) w
 
 -- each of them is at most one crossing away
-near : (e : ℕ) → e < 2 → (m : ℕ) × (m ≤ 1) × Crosses deaf 0 1 asked m e
+near : (e : ℕ) → e < 2 → (m : ℕ) × (m ≤ 1) × Crosses deaf 0 asked m e
 near zero h = (0, omega arith, here)
 near (suc zero) h = (1, omega arith, to-router)
 near (suc (suc e)) h = absurd (omega arith)
 
--- all that is asked
-pub conditions-met : Given deaf 0 1 asked again
-unfolding deaf again upTo
-conditions-met =
+-- all are in step, and the second tick is taken
+pub in-step : InStep deaf 0 1 asked
+in-step =
     record {
-      held = deaf-held;
       sound = asked-sound;
       idle = none-waits;
       equal = λ n e w. ready .count e (small w) ∙ sym (ready .count 0 (omega arith));
-      taken = passed (tickAsks deaf 0 asked) [] 0 (deaf-held, (asked-sound, (there, (refl, ((0, omega arith, ready .runs), tt))))) refl;
       within = λ n e w. near e (small w);
+    }
+
+pub ticks-again : Beat deaf 0 1 asked (timeWindow 1) again
+unfolding deaf again upTo
+ticks-again =
+    record {
+      taken = passed (tickAsks deaf 0 asked) [] 0 (deaf-held, (asked-sound, (there, (refl, ((0, omega arith, ready .runs), tt))))) refl;
+      enough = omega arith;
       passing = record { begins = none; goes-on = λ t h. none };
     }
 
@@ -124,4 +129,4 @@ conditions-met =
 pub two-needed : (W : ℕ) → W < timeCrossing → Soon W → ⊥
 unfolding Soon
 two-needed W h all =
-    omega (arith, ready .late, ready .count 0 (omega arith), all deaf 0 1 asked again conditions-met 1 1 (timeCrossing - 1) to-router (omega arith) (omega arith))
+    omega (arith, ready .late, ready .count 0 (omega arith), all deaf deaf-held 0 1 asked (timeWindow 1) again in-step ticks-again 1 1 (timeCrossing - 1) to-router (omega arith) (omega arith))
