@@ -27,7 +27,7 @@ unfolding goes
 goes-waits zero late other e = absurd (false≢true e)
 goes-waits (suc v) late other e = omega arith
 
--- of what the call found, by search and not by a path: a choice from another area is refused at this fact, and not for its shape
+-- nothing is found, and no Time-Code goes
 module _ (old : State) (q : ℕ) (r : Found) (e : r ≡ firstWaits old q) (g : timeGoes old q ≡ false) where
   none-sent : r ≡ Nowhere → nothing ≡ sends old q
   none-sent h = sym (post-nothing old q g (first-chosen old q g ∙ sym e ∙ h))
@@ -47,16 +47,17 @@ byte-sent old q {k} e f =
       | no n ↦ omega (arith, f, n, two) ∙ sym (post-acknowledge old q e n)
     ]
 
--- no Time-Code goes
-stays : (c : tie.Else1) → timeGoes (c .before .before .before .before .before .before .args .old .now) (c .before .before .before .before .before .before .args .q) ≡ false
-unfolding word
-stays c = is-goes _ _ (c .before .before .before .choice .ensures) (c .before .time-goes .ensures) ∙ c .if1 .left
-
+-- it stands first: a choice from another area is refused here, at a fact, and not for its shape
 returns : tie.Need-returns
 unfolding word put
 returns c =
     let g = is-goes _ _ (c .before .before .before .choice .ensures) (c .before .time-goes .ensures) ∙ c .if1 .taken in
     (sym (post-time _ _ g), sym (post-stamps _ _ _ g))
+
+-- no Time-Code goes
+stays : (c : tie.Else1) → timeGoes (c .before .before .before .before .before .before .args .old .now) (c .before .before .before .before .before .before .args .q) ≡ false
+unfolding word
+stays c = is-goes _ _ (c .before .before .before .choice .ensures) (c .before .time-goes .ensures) ∙ c .if1 .left
 
 sub-result : tie.Need-sub-result
 sub-result c = omega (arith, goes-waits _ _ _ (sym (c .before .time-goes .ensures) ∙ c .if1 .taken))
