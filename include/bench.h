@@ -10,7 +10,7 @@
  *      that cannot be lent (see below)         10 the link is already so
  *    4 no such device or port                  11 an allowance above BENCH_ROUNDS
  *    5 an identifier or a value too great,     12 still waiting after the allowance
- *      or a code that nobody writes            14 a tick at a device that is not the master
+ *      or a code that nobody writes            14 a tick by another than the master
  *    6 no source or no handler of it           20 to 26 a plan file that is not accepted
  *    7 no port runs, or the port leads nowhere
  *

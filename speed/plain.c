@@ -222,16 +222,13 @@ static u32 count_down(const struct plan *plan, u32 *next, u32 *told) {
     return count;
 }
 
-/* Of a round and its steps there are two forms each, timed and not: the second is for where no port has anything of Time-Codes. */
-#define IN_TWO_FORMS static inline __attribute__((always_inline))
-
-IN_TWO_FORMS void post(const struct plan *plan, const u32 *old, u32 *next, u32 *sent, int timed) {
+static void post(const struct plan *plan, const u32 *old, u32 *next, u32 *sent) {
     for (u32 q = 0; q < BENCH_SENT; q++)
         sent[q] = NONE;
     for (u32 d = 0; d < plan->devices; d++)
         for (u32 q = 8 * d; q < 8 * d + plan->ports[d]; q++) {
             const u32 *w = old + port_at(q);
-            u32 *v = next + port_at(q), all = w[0] | w[1], time = timed ? old[BENCH_TIMES + q] : 0;
+            u32 *v = next + port_at(q), all = w[0] | w[1], time = old[BENCH_TIMES + q];
             if ((time & WAITING) && !((time & LAST) && all)) {
                 sent[q] = (time & WAITING) - 1;
                 next[BENCH_TIMES + q] = LAST;
@@ -239,8 +236,7 @@ IN_TWO_FORMS void post(const struct plan *plan, const u32 *old, u32 *next, u32 *
             }
             if (!all)
                 continue;
-            if (timed)
-                next[BENCH_TIMES + q] = time & WAITING;
+            next[BENCH_TIMES + q] = time & WAITING;
             u32 above = all >> w[NEXT] << w[NEXT];
             u32 k = __builtin_ctz(above ? above : all);
             sent[q] = (w[0] >> k & 1 ? 128 : 160) + k;
@@ -261,13 +257,13 @@ static int arrive_time(const struct plan *plan, u32 *next, u32 d, u32 q, u32 val
     return above;
 }
 
-IN_TWO_FORMS u32 arrive(const struct plan *plan, const u32 *sent, u32 *next, u32 *told, u32 count, int timed) {
+static u32 arrive(const struct plan *plan, const u32 *sent, u32 *next, u32 *told, u32 count) {
     for (u32 d = 0; d < plan->devices; d++)
         for (u32 q = 8 * d; q < 8 * d + plan->ports[d]; q++) {
             u32 peer = plan->peers[q];
             if (peer == NONE || sent[peer] == NONE)
                 continue;
-            if (timed && sent[peer] < 64) {
+            if (sent[peer] < 64) {
                 if (arrive_time(plan, next, d, q, sent[peer]) && told && !plan->role[d])
                     told[count++] = 4 << 16 | d << 8 | sent[peer];
                 continue;
@@ -288,50 +284,31 @@ IN_TWO_FORMS u32 arrive(const struct plan *plan, const u32 *sent, u32 *next, u32
 }
 
 /* A round; told is null where nobody reads it. */
-IN_TWO_FORMS u32 play(const struct plan *plan, const u32 *old, u32 *next, u32 *sent, u32 *told, int timed) {
-    memcpy(next, old, (timed ? BENCH_STATE : BENCH_COUNTERS) * sizeof *next);
+static inline u32 play(const struct plan *plan, const u32 *old, u32 *next, u32 *sent, u32 *told) {
+    memcpy(next, old, BENCH_STATE * sizeof *next);
     u32 count = count_down(plan, next, told);
-    post(plan, old, next, sent, timed);
-    return arrive(plan, sent, next, told, count, timed);
+    post(plan, old, next, sent);
+    return arrive(plan, sent, next, told, count);
 }
 
-IN_TWO_FORMS int waits(const struct plan *plan, const u32 *s, int timed) {
+static int waits(const struct plan *plan, const u32 *s) {
     for (u32 q = 0; q < 8 * plan->devices; q++)
-        if (s[port_at(q)] | s[port_at(q) + 1] | (timed ? s[BENCH_TIMES + q] & WAITING : 0))
+        if (s[port_at(q)] | s[port_at(q) + 1] | (s[BENCH_TIMES + q] & WAITING))
             return 1;
     return 0;
 }
 
 /* Rounds until no port waits. The two areas take turns, and *home tells which has the state. */
-IN_TWO_FORMS u32 play_all(const struct plan *plan, u32 *areas[2], u32 allowance, u32 *rounds, int *home, int timed) {
+static u32 settle(const struct plan *plan, u32 *areas[2], u32 allowance, u32 *rounds, int *home) {
     u32 sent[BENCH_SENT];
     *home = 0;
-    for (*rounds = 0; waits(plan, areas[*home], timed); ++*rounds) {
+    for (*rounds = 0; waits(plan, areas[*home]); ++*rounds) {
         if (*rounds == allowance)
             return 12;
-        play(plan, areas[*home], areas[!*home], sent, 0, timed);
+        play(plan, areas[*home], areas[!*home], sent, 0);
         *home = !*home;
     }
     return 0;
-}
-
-static u32 any_time(const struct plan *plan, const u32 *s) {
-    u32 any = 0;
-    for (u32 q = 0; q < 8 * plan->devices; q++)
-        any |= s[BENCH_TIMES + q];
-    return any;
-}
-
-/* Where no port has anything of Time-Codes none gets any; the words of these are left in the first area. */
-static u32 settle_untimed(const struct plan *plan, u32 *areas[2], u32 allowance, u32 *rounds, int *home) {
-    return play_all(plan, areas, allowance, rounds, home, 0);
-}
-
-static u32 settle(const struct plan *plan, u32 *areas[2], u32 allowance, u32 *rounds, int *home) {
-    if (any_time(plan, areas[0]))
-        return play_all(plan, areas, allowance, rounds, home, 1);
-    memcpy(areas[1] + BENCH_COUNTERS, areas[0] + BENCH_COUNTERS, (BENCH_STATE - BENCH_COUNTERS) * sizeof(u32));
-    return settle_untimed(plan, areas, allowance, rounds, home);
 }
 
 /* ---- reach */
@@ -374,7 +351,7 @@ static u8 *put_line(const struct plan *plan, u32 *areas[2], u32 d, u32 k, u8 *at
         *at++ = 'r';
         return put_number(put_number(at, refused, ' '), 0, '\n');
     }
-    if (settle_untimed(plan, areas, BENCH_ROUNDS, &rounds, &home)) {
+    if (settle(plan, areas, BENCH_ROUNDS, &rounds, &home)) {
         *at++ = '-';
         *at++ = ' ';
     } else
@@ -429,7 +406,7 @@ u32 plain_round(const u8 *file, usize length, const u32 *old, usize old_length, 
     if (number)
         return number;
     memset(told, 0, told_length * sizeof *told);
-    *count = play(&plan, old, next, sent, told, 1);
+    *count = play(&plan, old, next, sent, told);
     return 0;
 }
 
