@@ -144,7 +144,7 @@ static void use_others(void) {
         }
 }
 
-/* The host of the master ticks. Where no port of its runs it is refused, which changes nothing. */
+/* The host of the master ticks. Where none of its ports runs it is refused, which changes nothing. */
 static void tick(void) {
     if (file[MASTER])
         bench_tick(file, length, AREA(states[now]), file[MASTER] - 1);

@@ -193,9 +193,9 @@ static inline bench_u32 bench_code_write(bench_u32 kind, bench_u32 value, bench_
 
 /* One device gets a byte at a port: role 0 for a node, else a router; running 0 for no. Its register is updated where it
  * stands, at bits, and so is its counter, of which a number above 63 counts as its remainder by 64; null is one of 0 that nobody
- * wants back. A Time-Code becomes the counter, and is forwarded or told where it is one above it, modulo 64, and else named.
- * Returns what the device does; kind, top and value are those of the byte, as bench_code_read gives them, whatever is done with
- * it. */
+ * wants back. A Time-Code becomes the counter; where it is one above what that was, modulo 64, it is forwarded or told, and else
+ * named. Returns what the device does; kind, top and value are those of the byte, as bench_code_read gives them, whatever is done
+ * with it. */
 static inline bench_u32 bench_react(bench_u32 role, bench_u32 running, bench_u32 permissions, bench_u32 *bits,
                                     bench_u32 *counter, bench_u8 byte, bench_u32 *kind, bench_u32 *top, bench_u32 *value) {
     bench_u32 held = 0, count = 0, of, high, given, action;
@@ -255,7 +255,8 @@ static inline bench_u32 bench_acknowledge(const bench_u8 *plan, bench_size plan_
 }
 
 /* The link at a port: running is what it is to be, 0 stops it and any other number starts it. 20 to 26; 2; 4; 7; 10 where it is
- * so already. A stop loses what waits at both ends, Time-Codes too; registers, timers, counters and where searches begin stay. */
+ * so already. A stop loses what waits at both ends, and makes their two Time-Code words 0; registers, timers, counters and
+ * where searches begin stay. */
 static inline bench_u32 bench_link(const bench_u8 *plan, bench_size plan_length, bench_u32 *state, bench_size state_length,
                                    bench_size device, bench_size port, bench_u32 running) {
     if (!bench_two_apart(plan, plan_length, state, state_length))

@@ -196,8 +196,8 @@ static void busy(u32 set) {
     }
 }
 
-/* A Time-Code waits at every connected port too, and half of the ports sent one last. Half of them are what the other end waits
-   for. */
+/* A Time-Code waits at every connected port too, and half of the ports sent one last. Half of these Time-Codes are one more than
+   the counter at the other end. */
 static void with_times(void) {
     for (u32 q = 0; q < 8u * file[1]; q++)
         if (before[port_at(q) + BENCH_RUNNING])

@@ -121,7 +121,8 @@ static void name_masters(void) {
     }
 }
 
-/* A router is the master, and there is a fault more: before its block, in it, and behind it. */
+/* A router is the master, or a device that there is not, and there is a fault more: before the block that is answered, in it, and
+ * behind it. */
 static void name_masters_together(void) {
     static const struct {
         const char *done;

@@ -251,7 +251,7 @@ static void refused_ticks(void) {
     must_be("a tick at no device where there is none", 4, tick(4));
 }
 
-/* Every number up to 300 in a word, and some great ones; where it is sound the call gets as far as 6. */
+/* Every number below 300 in a word, and some great ones; where it is sound the call gets as far as 6. */
 static void try_word(u32 *at, flag sound(u32)) {
     static const u32 great[] = {65535, 65536, 65537, 0x80000000, 0x80000001, 0xFFFFFF80, 0xFFFFFFFF};
     u32 was = *at;

@@ -1,5 +1,5 @@
 /* Rounds and settling. A round works in the records where they stand: every code is sent before the first arrives, so
- * what is sent comes from the old waiting sets only. */
+ * what is sent comes only from what waited before the round, and from what was sent last. */
 #include "judge.h"
 
 enum { TOLD_TIMEOUT = 3 };

@@ -13,7 +13,8 @@ times word [] = 0
 times word (w ∷ l) = cond (eqb w word) 1 0 + times word l
 
 module _ (plan : Plan) (kind d k : ℕ) where
-  -- how often the host of device d is told of k in the round from s: of an interrupt (kind 1), of an acknowledge (2), of a timeout (3)
+  -- how often the host of device d is told of k in the round from s: of an interrupt (kind 1), of an acknowledge (2), of a timeout (3); or of the
+  -- Time-Code with the value k (4)
   unfoldable pub toldIn : State → ℕ
   toldIn s = times (toldWord kind d k) (round plan s .told)
 
