@@ -22,7 +22,7 @@ use Rattle.laws.specs.Alike.{Alike, SendsIt}
 use Rattle.laws.proofs.Apart.{Both, about, arrives-aside, alike-same}
 use Rattle.assurance.proofs.Choices.{sends-small, sends-inside, sent-waits}
 use Rattle.assurance.proofs.Fits.{alike-back, Fit, fit-alike, fit-took}
-use Rattle.assurance.proofs.Taking.{Took, took}
+use Rattle.assurance.proofs.Taking.{Took, took, took-late}
 use Rattle.assurance.proofs.Entering.{arrives-meets, arrives-turns}
 use Rattle.assurance.proofs.Turns.{SameTurn, turn-same, turn-then}
 
@@ -173,7 +173,7 @@ module _ (plan : Plan) (kind k : ℕ) (s₀ : State) (takers : ℕ → Type 0) (
           let n = few plan held in
           record {
             fit = fit-took plan kind k s₀ takers held g u loads (omega arith) got y (x .fit);
-            turns = λ q b. turn-then (x .turns q b) (record { start = got .turns q; late = got .lates q });
+            turns = λ q b. turn-then (x .turns q b) (record { start = got .turns q; late = took-late got q });
             keeping = λ d h b. entered-keeps d (omega arith) (x .keeping d h b);
             waits-on = λ q h b. got .more q h (x .waits-on q h b);
             begins = entered-begins;

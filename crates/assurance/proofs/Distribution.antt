@@ -9,23 +9,17 @@ use native.Mathlib.Omega.{arith}
 use borrow.Author.Tests.{eq-eqb, ne-eqb}
 use Rattle.answers.proofs.Outcomes.{holds}
 use Rattle.device.specs.Reaction.{nextTime}
-use Rattle.plan.specs.Fields.{nobody}
 use Rattle.plan.specs.Reading.{Held}
 use Rattle.plan.specs.declared.Plan.{Plan}
 use Rattle.plan.proofs.BothWays.{held-master-node}
-use Rattle.state.specs.State.{State, word, put, portsEnd, portAt, runningAt, running, counterAt, counter, timeAt, timeWaits, lately}
+use Rattle.state.specs.State.{State, word, portsEnd, portAt, runningAt, running, counterAt, counter, timeAt, timeWaits, lately}
 use Rattle.state.specs.Network.{devices, role, router, peer}
 use Rattle.state.specs.Sound.{Sound}
 use Rattle.state.specs.Start.{started}
-use Rattle.state.specs.Mark.{mark}
-use Rattle.state.proofs.Words.{length-put, word-same, word-other}
 use Rattle.state.proofs.Plans.{few, far-end}
 use Rattle.state.proofs.Started.{start-behind, started-sound}
-use Rattle.state.proofs.Marks.{mark-other}
-use Rattle.state.proofs.Waits.{queue-all-left}
-use Rattle.state.proofs.Times.{queue-times-left, queue-times-cases}
-use Rattle.calls.specs.Calls.{callAsks, tickAsks, called, advanced}
-use Rattle.calls.proofs.Called.{call-sound, tick-sound, tick-left, tick-waits}
+use Rattle.calls.specs.Calls.{callAsks, tickAsks, advanced}
+use Rattle.calls.proofs.Called.{call-sound, tick-sound, tick-left, tick-counts, tick-counts-else, tick-only, tick-waits}
 use Rattle.bench.specs.Round.{ofTime, timeGoes, sentBytes, reached, afterSending, round}
 use Rattle.bench.proofs.Stepped.{goes-late}
 use Rattle.bench.proofs.RoundSound.{round-sound}
@@ -45,11 +39,6 @@ record Beside (plan : Plan) (s t : State) : Type 0 where
   runs : (q : ℕ) → q < 256 → running t q ≡ running s q
   behind : (i : ℕ) → portsEnd ≤ i → word t i ≡ word s i
 
-called-behind : (plan : Plan) (t : State) (kind d k : ℕ) → kind < 2 → k < 32 → d < 32 → (i : ℕ) → portsEnd ≤ i → word (called plan kind d k t) i ≡ word t i
-unfolding called
-called-behind plan t kind d k g l h i m =
-    queue-all-left kind k i g (omega arith) (plan .core .permissions) d nobody h (mark plan kind d k t) ∙ mark-other plan kind d k i t (omega arith) (omega arith)
-
 others-beside : (plan : Plan) → Held plan → {s t : State} → Sound plan s → Others plan s t → Beside plan s t
 others-beside plan held x none = record { sound = x; runs = λ q h. refl; behind = λ i h. refl }
 others-beside plan held {s} x (tick d number before call refused) =
@@ -63,10 +52,11 @@ others-beside plan held {s} x (then {t = t} kind d k number before g call) =
           let h = asked .1 .1 .0 in
           let l = asked .1 .1 .1 .0 in
           let room : d < 32 = omega (arith, h, few plan held) in
+          let took = called-took plan kind k g l d room t (b .sound .size) in
           subst (Beside plan s) (sym (call .made z)) (record {
             sound = call-sound plan held t (b .sound) kind d k g h l;
-            runs = λ q m. called-took plan kind k g l d room t (b .sound .size) .runs q ∙ b .runs q m;
-            behind = λ i m. called-behind plan t kind d k g l room i m ∙ b .behind i m;
+            runs = λ q m. took .runs q ∙ b .runs q m;
+            behind = λ i m. took .behind i m ∙ b .behind i m;
           })
     ]
 
@@ -141,24 +131,15 @@ module _ (plan : Plan) (held : Held plan) (master D : ℕ) (s : State) (last : �
   first-sound : Sound plan first
   first-sound = tick-sound plan held s x master there
 
-  first-count : (counter first master ≡ v) × ((e : ℕ) → e < 32 → e ≢ master → counter first e ≡ counter s e)
-  unfolding advanced
-  first-count =
-      let left : (e : ℕ) → e < 32 → counter first e ≡ counter (put s (counterAt master) v) e =
-      λ e h. queue-times-left (counterAt e) (λ q b. omega arith) v master nobody room (put s (counterAt master) v) in (
-        left master room ∙ word-same s (counterAt master) v (omega (arith, x .size, room)),
-        λ e h ne. left e h ∙ word-other s (counterAt master) v (counterAt e) (omega arith),
-      )
+  first-here : counter first master ≡ v
+  first-here = tick-counts master room s (x .size)
+
+  first-else : (e : ℕ) → e < 32 → e ≢ master → counter first e ≡ counter s e
+  first-else e h ne = tick-counts-else master e room h ne s
 
   -- it waits at ports of the master, and nowhere else
   first-waits : (q : ℕ) → q < 256 → (timeWaits first q ≡ 0) ⊎ ((timeWaits first q ≡ v + 1) × (q / 8 ≡ master))
-  unfolding advanced
-  first-waits q h =
-      let same = ap (λ n. n % 128) (word-other s (counterAt master) v (timeAt q) (omega (arith, room))) in
-      elim (queue-times-cases v master nobody q (omega arith) h (put s (counterAt master) v) (length-put s (counterAt master) v ∙ x .size)) [
-        | inl o ↦ inl (o ∙ same ∙ given .idle q h)
-        | inr o ↦ inr (o .0, o .1)
-      ]
+  first-waits q h = elim (tick-only master room s (x .size) q h) [ inl o ↦ inl (o ∙ given .idle q h) | inr o ↦ inr o ]
 
   reaches-itself : Reached master
   reaches-itself = (0, here)
@@ -169,8 +150,8 @@ module _ (plan : Plan) (held : Held plan) (master D : ℕ) (s : State) (last : �
         sound = first-sound;
         runs = λ q h. tick-left master room s (portAt q runningAt) (omega arith);
         count = λ e get. elim (ℕ-discrete e master) [
-          | yes o ↦ inr (rw o (first-count .0))
-          | no ne ↦ inl (first-count .1 e (small get) ne ∙ given .equal (get .0) e (get .1))
+          | yes o ↦ inr (rw o (first-here))
+          | no ne ↦ inl (first-else e (small get) ne ∙ given .equal (get .0) e (get .1))
         ];
         only = λ q h. elim (first-waits q h) [ inl z ↦ inl z | inr o ↦ inr (o .0, (rw (o .1) reaches-itself, inl (o .1))) ];
       }
@@ -222,10 +203,10 @@ module _ (plan : Plan) (held : Held plan) (master D : ℕ) (s : State) (last : �
       let time : (q : ℕ) → timeWaits (at 0) q ≡ timeWaits first q = λ q. ap (λ n. n % 128) (begins .behind (timeAt q) (omega arith)) in
       let count : (e : ℕ) → counter (at 0) e ≡ counter first e = λ e. begins .behind (counterAt e) (omega arith) in
       record {
-        source-holds = (reaches-itself, count master ∙ first-count .0);
+        source-holds = (reaches-itself, count master ∙ first-here);
         alone = λ {d} y. elim (ℕ-discrete d master) [
           | yes o ↦ o
-          | no ne ↦ absurd (omega (arith, y .1, count d, first-count .1 d (small (y .0)) ne, given .equal (y .0 .0) d (y .0 .1)))
+          | no ne ↦ absurd (omega (arith, y .1, count d, first-else d (small (y .0)) ne, given .equal (y .0 .0) d (y .0 .1)))
         ];
         waits-there = λ {q} y. elim (first-waits q (y .0)) [ inl z ↦ absurd (omega (arith, y .1, time q, z)) | inr o ↦ o .1 ];
         waits-all = λ {q} {e} own leads.
@@ -346,10 +327,10 @@ module _ (plan : Plan) (held : Held plan) (master D : ℕ) (s : State) (last : �
   at-last n e w = let near = given .within n e w in comes (near .0) e last (near .2) (omega (arith, near .1, beaten .enough)) (le-refl _)
 
   first-value : counter (at 0) master ≡ v
-  first-value = begins .behind (counterAt master) (omega arith) ∙ first-count .0
+  first-value = begins .behind (counterAt master) (omega arith) ∙ first-here
 
   first-other : (n e : ℕ) → Crosses plan master s n e → e ≢ master → counter (at 0) e ≡ c
-  first-other n e w ne = begins .behind (counterAt e) (omega arith) ∙ first-count .1 e (small (n, w)) ne ∙ given .equal n e w
+  first-other n e w ne = begins .behind (counterAt e) (omega arith) ∙ first-else e (small (n, w)) ne ∙ given .equal n e w
 
   -- links run as they did, so that the same devices are as far away
   same : (q : ℕ) → q < 256 → running (at last) q ≡ running s q

@@ -1,4 +1,4 @@
--- A code arrives at a port: its device takes it in, or nothing changes.
+-- What arrives at a port: a code that its device takes in or not; and whatever it is, a Time-Code too, every port keeps its turn.
 use mathlib.Core.Path.{_≡_, ap, _∙_}
 use mathlib.Core.Bool.{Bool, true, false, cond, _&&_}
 use mathlib.Core.List.{List}
@@ -14,7 +14,7 @@ use Rattle.state.proofs.Words.{length-put, word-other}
 use Rattle.state.proofs.Times.{queue-times-left, queue-times-lately}
 use Rattle.bench.specs.Round.{World, nothing, arrives}
 use Rattle.bench.proofs.RoundSound.{Opens, taking, counts, isNew, arrives-any}
-use Rattle.assurance.proofs.Taking.{took}
+use Rattle.assurance.proofs.Taking.{took, took-late}
 use Rattle.assurance.proofs.Turns.{SameTurn, turn-same, turn-then}
 
 -- a code of identifier k arrives
@@ -28,9 +28,9 @@ module _ (plan : Plan) (q : ℕ) (small : q / 8 < 32) (w : World) (k : ℕ) (P :
       let b : j ≡ k = omega arith in
       rw (a, b) (taken (rw (a, b) at y)))
 
--- whatever arrives, every port has the turn that it would have had
-module _ (plan : Plan) (sent : List ℕ) (q : ℕ) (h : q < 256) (w : World) (size : length (w .state) ≡ words) (p : ℕ) (small : p < 256) where
-  counts-turns : (new hands : Bool) (v : ℕ) → v < 64 → SameTurn (w .state) (counts new hands v q w .state) p
+-- a Time-Code that is counted leaves every port its turn
+module _ (q : ℕ) (h : q < 256) (w : World) (size : length (w .state) ≡ words) (p : ℕ) (small : p < 256) where
+  pub counts-turns : (new hands : Bool) (v : ℕ) → v < 64 → SameTurn (w .state) (counts new hands v q w .state) p
   counts-turns new hands v l = by-test (new && hands)
     where
       t : State
@@ -52,8 +52,10 @@ module _ (plan : Plan) (sent : List ℕ) (q : ℕ) (h : q < 256) (w : World) (si
             late = queue-times-lately p small v (q / 8) q l t (length-put (w .state) (counterAt (q / 8)) v ∙ size);
           })
 
+-- and so does whatever arrives
+module _ (plan : Plan) (sent : List ℕ) (q : ℕ) (h : q < 256) (w : World) (size : length (w .state) ≡ words) (p : ℕ) (small : p < 256) where
   pub arrives-turns : SameTurn (w .state) (arrives plan sent q w .state) p
   arrives-turns =
       arrives-any plan sent q (omega arith) w (λ v. SameTurn (w .state) (v .state) p) (λ none big. turn-same (w .state) p)
-      (λ v l e. counts-turns (isNew v q w) (router plan (q / 8)) v l)
-      (λ kind k g l b o. let x = took plan kind k g l (q / 8) q (omega arith) (w .state) size (router plan (q / 8)) in record { start = x .turns p; late = x .lates p })
+      (λ v l e. counts-turns q h w size p small (isNew v q w) (router plan (q / 8)) v l)
+      (λ kind k g l b o. let x = took plan kind k g l (q / 8) q (omega arith) (w .state) size (router plan (q / 8)) in record { start = x .turns p; late = took-late x p })

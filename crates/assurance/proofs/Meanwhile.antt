@@ -17,7 +17,7 @@ use Rattle.laws.specs.Alike.{Alike}
 use Rattle.laws.proofs.Apart.{alike-same, call-apart, tick-apart}
 use Rattle.assurance.specs.Demand3.{Calls, none, then, tick, Course}
 use Rattle.assurance.specs.Between.{After}
-use Rattle.assurance.proofs.Taking.{called-took}
+use Rattle.assurance.proofs.Taking.{called-took, took-late}
 use Rattle.assurance.proofs.Fits.{alike-back}
 use Rattle.assurance.proofs.Turns.{SameTurn, turn-same, turn-then}
 
@@ -50,7 +50,7 @@ module _ (plan : Plan) (held : Held plan) (k : ℕ) (l : k < 32) where
               sound = call-sound plan held t (b .sound) kind d j g h m;
               like = alike-then (b .like) (call-apart plan held t (b .sound) k l kind d j g h m (other z));
               turns = λ q small.
-                  let took = called-took plan kind j g m d (omega (arith, h, few plan held)) t (b .sound .size) in turn-then (b .turns q small) (record { start = took .turns q; late = took .lates q });
+                  let took = called-took plan kind j g m d (omega (arith, h, few plan held)) t (b .sound .size) in turn-then (b .turns q small) (record { start = took .turns q; late = took-late took q });
             })
         | no n ↦ subst (Beside plan k s) (sym (call .kept n)) b
       ]

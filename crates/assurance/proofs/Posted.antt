@@ -24,7 +24,7 @@ use Rattle.state.proofs.Keeping.{both-kinds}
 use Rattle.bench.specs.Round.{World, timeGoes, chosen, unqueued, stamped, posts as Round·posts, ticked, posted, afterTimers, afterSending}
 use Rattle.bench.proofs.Ticks.{tick-other, ticked-sound}
 use Rattle.bench.proofs.Stepped.{chosen-first, time-chosen}
-use Rattle.bench.proofs.Unqueued.{posted-sound, posted-left}
+use Rattle.bench.proofs.Unqueued.{posted-sound, posted-left, stamped-other, stamped-size}
 use Rattle.laws.specs.Alike.{SendsIt}
 use Rattle.laws.proofs.Timers.{turn, timed-bit, ticked-timer}
 use Rattle.laws.proofs.Apart.{sends-chosen}
@@ -95,24 +95,6 @@ unfoldable stamp : Bool → Found → ℕ → ℕ
 stamp goes other v = cond goes 128 (elim other [ At k ↦ v % 128 | Nowhere ↦ v ])
 
 module _ (goes : Bool) (c : Found) (q : ℕ) (t : State) where
-  stamped-other : (i : ℕ) → i ≢ timeAt q → word (stamped goes c q t) i ≡ word t i
-  unfolding stamped
-  stamped-other i ne = by-test goes c
-    where
-      by-test : (g : Bool) (c : Found) → word (stamped g c q t) i ≡ word t i
-      by-test true c = word-other t (timeAt q) 128 i ne
-      by-test false Nowhere = refl
-      by-test false (At k) = word-other t (timeAt q) _ i ne
-
-  stamped-size : length (stamped goes c q t) ≡ length t
-  unfolding stamped
-  stamped-size = by-test goes c
-    where
-      by-test : (g : Bool) (c : Found) → length (stamped g c q t) ≡ length t
-      by-test true c = length-put t (timeAt q) 128
-      by-test false Nowhere = refl
-      by-test false (At k) = length-put t (timeAt q) _
-
   stamped-time : q < 256 → length t ≡ words → time (stamped goes c q t) q ≡ stamp goes c (time t q)
   unfolding stamped stamp
   stamped-time h size = by-test goes c
@@ -208,14 +190,16 @@ module _ (plan : Plan) (held : Held plan) {s : State} (x : Sound plan s) where
   pub posts-counter : (d : ℕ) → d < 32 → counter posts d ≡ counter s d
   posts-counter d h = posted-left plan held s (counterAt d) falls (omega arith) (omega arith) ∙ falls-left (counterAt d) (omega arith)
 
-  -- after a Time-Code it was one, and its search starts where it did; after another code it was none
+  -- where its search starts
+  posts-start : (q : ℕ) → q < 8 * devices plan → next posts q ≡ following (next s q) (chosen s q)
+  posts-start q h =
+      let n = few plan held in
+      posts-port q nextAt (λ v. following v (chosen s q)) h (omega arith) (λ t e. unqueued-next s q t (omega arith) e)
+
+  -- a port that sent a Time-Code has the mark, and searches where it did; one that sent another code has it no more
   pub posts-late : (q : ℕ) → q < 8 * devices plan → timeGoes s q ≡ true → (next posts q ≡ next s q) × (lately posts q ≡ 1)
   unfolding stamp following
-  posts-late q h g =
-      let n = few plan held in (
-        posts-port q nextAt (λ v. following v (chosen s q)) h (omega arith) (λ t e. unqueued-next s q t (omega arith) e) ∙ rw (time-chosen s q g, following),
-        rw (posts-time q h, g),
-      )
+  posts-late q h g = (posts-start q h ∙ rw (time-chosen s q g, following), rw (posts-time q h, g))
 
   pub posts-early : (q j : ℕ) → q < 8 * devices plan → chosen s q ≡ At j → lately posts q ≡ 0
   unfolding stamp
@@ -228,9 +212,7 @@ module _ (plan : Plan) (held : Held plan) {s : State} (x : Sound plan s) where
 
   pub posts-next : (q j : ℕ) → q < 8 * devices plan → chosen s q ≡ At j → next posts q ≡ (j + 1) % 32
   unfolding following
-  posts-next q j h c =
-      let n = few plan held in
-      posts-port q nextAt (λ v. following v (chosen s q)) h (omega arith) (λ t e. unqueued-next s q t (omega arith) e) ∙ ap (following (next s q)) c
+  posts-next q j h c = posts-start q h ∙ ap (following (next s q)) c
 
   module _ (k : ℕ) (l : k < 32) where
     pub posts-timer : (d : ℕ) → d < devices plan → timer posts d k ≡ timer s d k - 1

@@ -47,8 +47,8 @@ module _ (plan : Plan) (kind k : ℕ) where
   -- device d took the code in, and if it hands it on, queued it at its ports but one
   pub record Took (d but : ℕ) (hands : Bool) (s t : State) : Type 0 where
     pub turns : (p : ℕ) → next t p ≡ next s p
-    pub lates : (p : ℕ) → lately t p ≡ lately s p
     pub runs : (p : ℕ) → running t p ≡ running s p
+    pub behind : (i : ℕ) → portsEnd ≤ i → word t i ≡ word s i
     pub other : (p : ℕ) → p < 256 → bit (waiting s (1 - kind) p) k ≡ 0 → bit (waiting t (1 - kind) p) k ≡ 0
     pub more : (p : ℕ) → p < 256 → bit (waiting s kind p) k ≡ 1 → bit (waiting t kind p) k ≡ 1
     pub held : bit (register t d) k ≡ 1 - kind
@@ -56,6 +56,10 @@ module _ (plan : Plan) (kind k : ℕ) where
     pub others : (e : ℕ) → e < 32 → e ≢ d → (register t e ≡ register s e) × (timer t e k ≡ timer s e k)
     pub fresh : (p : ℕ) → p < 256 → bit (waiting t kind p) k ≡ 1 → bit (waiting s kind p) k ≡ 1 ⊎ ((hands ≡ true) × New d s p)
     pub all : (p : ℕ) → p < 256 → p ≢ but → hands ≡ true → New d s p → bit (waiting t kind p) k ≡ 1
+
+-- whether the last code sent was a Time-Code stays
+pub took-late : {plan : Plan} {kind k d but : ℕ} {hands : Bool} {s t : State} → Took plan kind k d but hands s t → (p : ℕ) → lately t p ≡ lately s p
+took-late x p = ap (λ v. v / 128 % 2) (x .behind (timeAt p) (omega arith))
 
 -- ---- the code is queued
 
@@ -196,8 +200,8 @@ module _ (plan : Plan) (kind k : ℕ) (g : kind < 2) (l : k < 32) where
         let bits : (p i : ℕ) → bit (waiting marks i p) k ≡ bit (waiting s i p) k = λ p i. ap (λ v. bit v k) (marks-port p i) in
         record {
           turns = λ p. x .turns p ∙ marks-port p nextAt;
-          lates = λ p. ap (λ v. v / 128 % 2) (left (timeAt p) (omega arith) ∙ mark-other plan kind d k (timeAt p) s (omega arith) (omega arith));
           runs = λ p. x .runs p ∙ marks-port p runningAt;
+          behind = λ i b. left i (λ a c. omega arith) ∙ mark-other plan kind d k i s (omega arith) (omega arith);
           other = λ p b e. x .other p b (bits p (1 - kind) ∙ e);
           more = λ p b e. x .more p b (bits p kind ∙ e);
           held = ap (λ v. bit v k) (left (registerAt d) (omega arith)) ∙ marks-held;

@@ -8,7 +8,7 @@ use native.Mathlib.Decide.{ℕ-discrete, decLt}
 use native.Mathlib.Omega.{arith}
 use lib.ListN.{length, getD, List·getD-eq-default}
 use borrow.Author.Tests.{eq-eqb, ne-eqb, le-ltb}
-use Rattle.lists.proofs.Loops.{keeps, hit, untouched}
+use Rattle.lists.proofs.Loops.{keeps, hit}
 use Rattle.lists.proofs.Tables.{length-table, getD-table}
 use Rattle.device.specs.Reaction.{nextTime}
 use Rattle.plan.specs.Reading.{Held}
@@ -17,24 +17,21 @@ use Rattle.state.specs.State.{State, words, word, put, portsEnd, portAt, runnin
 use Rattle.state.specs.Network.{devices, exists, router, peer}
 use Rattle.state.specs.Sound.{Sound}
 use Rattle.state.specs.Queue.{queueTimeAll}
-use Rattle.state.specs.Mark.{mark}
 use Rattle.state.proofs.Words.{length-put, word-same, word-other, word-past, put-word}
 use Rattle.state.proofs.Plans.{FarEnd, few, owned, absent-loose, far-end}
-use Rattle.state.proofs.Marks.{mark-other}
-use Rattle.state.proofs.Waits.{not-absent, queue-all-left}
-use Rattle.state.proofs.Times.{queue-times-left, queue-times-lately, queue-times-cases, queue-times-waits}
-use Rattle.bench.specs.Round.{World, ofInterrupt, ofTimeout, ofTime, toldWord, nothing, sentWords, timeGoes, ticked, sentBytes, arrives, reached, afterTimers, afterSending}
-use Rattle.bench.proofs.Ticks.{tick-cases}
+use Rattle.state.proofs.Waits.{not-absent}
+use Rattle.state.proofs.Times.{queue-times-left, queue-times-cases, queue-times-waits}
+use Rattle.bench.specs.Round.{World, ofInterrupt, ofTime, toldWord, nothing, sentWords, timeGoes, sentBytes, arrives, reached, afterTimers, afterSending}
 use Rattle.bench.proofs.Stepped.{goes-waits, post-time, sends-time}
 use Rattle.bench.proofs.RoundSound.{taking, takes, counts, isNew, arrives-any, arrives-sound}
 use Rattle.laws.specs.Telling.{times}
 use Rattle.laws.proofs.Apart.{sent-at}
-use Rattle.laws.proofs.Timers.{turn}
-use Rattle.laws.proofs.Telling.{once, times-more, times-other}
+use Rattle.laws.proofs.Telling.{once, times-more, times-other, ticks-told}
 use Rattle.flood.specs.Flood.{Net, Relays, here, cross}
 use Rattle.assurance.specs.Distribution.{carrying, Crosses}
 use Rattle.assurance.proofs.Taking.{took}
 use Rattle.assurance.proofs.Choices.{runs-there, runs-joined}
+use Rattle.assurance.proofs.Entering.{counts-turns}
 use Rattle.assurance.proofs.Posted.{posts-sound, posts-runs, posts-time-gone, posts-time-on, posts-counter}
 
 -- s₀ : the state before the tick, whose running flags count. c : the counter there, v : the value of the tick
@@ -225,20 +222,13 @@ module _ (plan : Plan) (held : Held plan) (master : ℕ) (there : master < devic
       small = omega (arith, few plan held)
 
       -- a code of an identifier
-      taken-behind : (kind k : ℕ) → kind < 2 → k < 32 → (hands : Bool) (n : ℕ) → portsEnd ≤ n → word (taking plan kind k d j hands (w .state)) n ≡ word (w .state) n
-      taken-behind kind k g l hands n h = by-role hands
-        where
-          marks : word (mark plan kind d k (w .state)) n ≡ word (w .state) n
-          marks = mark-other plan kind d k n (w .state) (omega (arith, room)) (omega (arith, room))
-
-          by-role : (b : Bool) → word (taking plan kind k d j b (w .state)) n ≡ word (w .state) n
-          by-role false = marks
-          by-role true = queue-all-left kind k n g (omega arith) (plan .core .permissions) d j room (mark plan kind d k (w .state)) ∙ marks
+      taken-behind : (kind k : ℕ) → kind < 2 → k < 32 → (n : ℕ) → portsEnd ≤ n → word (taking plan kind k d j (router plan d) (w .state)) n ≡ word (w .state) n
+      taken-behind kind k g l = took plan kind k g l d j room (w .state) (y .sound .size) (router plan d) .behind
 
       taken : (kind k : ℕ) → kind < 2 → k < 32 → Sound plan (takes plan kind k j (router plan d) w .state) → Going (takes plan kind k j (router plan d) w)
       taken kind k g l sound =
           going-same y sound (λ q h. took plan kind k g l d j room (w .state) (y .sound .size) (router plan d) .runs q)
-          (taken-behind kind k g l (router plan d)) (λ e. times-other (toldWord ofTime e v) (toldWord (ofInterrupt + kind) d k) (omega (arith, room)) (router plan d) (w .told))
+          (taken-behind kind k g l) (λ e. times-other (toldWord ofTime e v) (toldWord (ofInterrupt + kind) d k) (omega (arith, room)) (router plan d) (w .told))
 
       -- the Time-Code: the counter takes its value
       abbrev t : State
@@ -322,14 +312,7 @@ module _ (plan : Plan) (held : Held plan) (master : ℕ) (there : master < devic
               by-test false = times-more (toldWord ofTime e v) (w .told) (toldWord ofTime d v) ∙ omega (arith, alike)
 
           u-late : (q : ℕ) → q < 256 → lately (u .state) q ≡ lately (w .state) q
-          u-late q h = by-test hands
-            where
-              same : lately t q ≡ lately (w .state) q
-              same = ap (λ n. n / 128 % 2) (t-other (timeAt q) (omega (arith, room)))
-
-              by-test : (b : Bool) → lately (cond b (queueTimeAll v d j t) t) q ≡ lately (w .state) q
-              by-test false = same
-              by-test true = queue-times-lately q h v d j (omega arith) t t-size ∙ same
+          u-late q h = counts-turns j small w (y .sound .size) q h true hands v (omega arith) .late
 
           u-here : counter (u .state) d ≡ v
           u-here = u-count d room ∙ t-here
@@ -425,7 +408,7 @@ module _ (plan : Plan) (held : Held plan) (master : ℕ) (there : master < devic
           let g = byte-goes (peer plan j) (omega arith) in
           let same : value ≡ v = sym o ∙ sent-value (peer plan j) g in
           rw same (by-test (isNew v j w && router plan d)))
-          (λ kind k g l o m. taken-behind kind k g l (router plan d) (counterAt e) (omega arith) ∙ is)
+          (λ kind k g l o m. taken-behind kind k g l (counterAt e) (omega arith) ∙ is)
         where
           has-it : counter t e ≡ v
           has-it = elim (ℕ-discrete e d) [ yes own ↦ rw own t-here | no ne ↦ t-count e ne ∙ is ]
@@ -444,13 +427,7 @@ module _ (plan : Plan) (held : Held plan) (master : ℕ) (there : master < devic
 
     -- before the arrivals no host was told of a Time-Code
     first-told : (e : ℕ) → e < 32 → times (toldWord ofTime e v) (afterTimers plan s .told) ≡ 0
-    unfolding ticked times
-    first-told e h =
-        let n = few plan held in
-        untouched (turn plan) (λ u. times (toldWord ofTime e v) (u .told)) (32 * devices plan)
-        (λ i u b. tick-cases (router plan (i / 32)) (i / 32) (i % 32) u (λ z. times (toldWord ofTime e v) (z .told) ≡ times (toldWord ofTime e v) (u .told)) (λ o. refl)
-        (λ o. times-other (toldWord ofTime e v) (toldWord ofTimeout (i / 32) (i % 32)) (omega arith) (router plan (i / 32)) (u .told)) (λ t o. refl))
-        (record { state = s; told = [] })
+    first-told e h = ticks-told plan held s (toldWord ofTime e v) (λ d j a b. omega arith)
 
     going-first : Going (afterSending plan s)
     going-first =

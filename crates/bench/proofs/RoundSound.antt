@@ -175,19 +175,20 @@ pub record Beside (w v : World) : Type 0 where
 pub beside-same : (w : World) → Beside w w
 beside-same w = record { size = refl; front = λ i h. refl; told = inl refl }
 
+-- what is so of both is so of the one in use
+pub of-either : {A : Type 0} (P : A → Type 0) (b : Bool) {x y : A} → P x → P y → P (cond b x y)
+of-either P true p q = p
+of-either P false p q = q
+
 counts-beside : (new hands : Bool) (v q : ℕ) (w : World) → q / 8 < 32 → Beside w (counts new hands v q w)
 counts-beside new hands v q w small =
     let t = put (w .state) (counterAt (q / 8)) v in
     let put-left : (i : ℕ) → i < portsEnd → word t i ≡ word (w .state) i = λ i h. word-other (w .state) (counterAt (q / 8)) v i (omega arith) in
     record {
-      size = of-test (λ u. length u ≡ length (w .state)) (new && hands) (length-times v (q / 8) q t ∙ length-put (w .state) (counterAt (q / 8)) v) (length-put (w .state) (counterAt (q / 8)) v);
-      front = λ i h. of-test (λ u. word u i ≡ word (w .state) i) (new && hands) (queue-times-left i (λ p l. omega arith) v (q / 8) q small t ∙ put-left i h) (put-left i h);
-      told = of-test (λ u. (u ≡ w .told) ⊎ ((d n : ℕ) × (u ≡ w .told ++ (toldWord ofTime d n ∷ [])))) (new && not hands) (inr (q / 8, v, refl)) (inl refl);
+      size = of-either (λ u. length u ≡ length (w .state)) (new && hands) (length-times v (q / 8) q t ∙ length-put (w .state) (counterAt (q / 8)) v) (length-put (w .state) (counterAt (q / 8)) v);
+      front = λ i h. of-either (λ u. word u i ≡ word (w .state) i) (new && hands) (queue-times-left i (λ p l. omega arith) v (q / 8) q small t ∙ put-left i h) (put-left i h);
+      told = of-either (λ u. (u ≡ w .told) ⊎ ((d n : ℕ) × (u ≡ w .told ++ (toldWord ofTime d n ∷ [])))) (new && not hands) (inr (q / 8, v, refl)) (inl refl);
     }
-  where
-    of-test : {A : Type 0} (Q : A → Type 0) (b : Bool) {x y : A} → Q x → Q y → Q (cond b x y)
-    of-test Q true p o = p
-    of-test Q false p o = o
 
 -- a code comes that the port is open to, and is taken in; or none comes, and nothing changes but what a Time-Code changes
 module _ (plan : Plan) (sent : List ℕ) (q : ℕ) (small : q / 8 < 32) (w : World) (P : World → Type 0)
@@ -216,14 +217,10 @@ module _ (plan : Plan) (held : Held plan) where
       arrives-any plan sent q (omega arith) w (λ v. Sound plan (v .state)) (λ none big. x)
       (λ v l e.
       let y = counter-step plan held x (q / 8) v h l in
-      by-test (isNew v q w && router plan (q / 8)) (queue-time-sound plan held v (q / 8) q l (omega arith) _ y) y)
+      of-either (Sound plan) (isNew v q w && router plan (q / 8)) (queue-time-sound plan held v (q / 8) q l (omega arith) _ y) y)
       (λ kind k g l e o.
       let y = mark-step plan held x (q / 8) h kind k g l in
-      by-test (router plan (q / 8)) (queue-all-sound plan held kind k (q / 8) q g l h _ y) y)
-    where
-      by-test : (b : Bool) {s t : State} → Sound plan s → Sound plan t → Sound plan (cond b s t)
-      by-test true y z = y
-      by-test false y z = z
+      of-either (Sound plan) (router plan (q / 8)) (queue-all-sound plan held kind k (q / 8) q g l h _ y) y)
 
   reached-sound : (sent : List ℕ) (w : World) → Sound plan (w .state) → Sound plan (reached plan sent w .state)
   unfolding reached

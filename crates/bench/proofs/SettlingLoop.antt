@@ -59,11 +59,6 @@ pub flip : (b : Bool) (x y : State) → cond (not b) x y ≡ cond b y x
 flip true x y = refl
 flip false x y = refl
 
--- what is so of both is so of the one in use
-pub of-either : (P : State → Type 0) (b : Bool) (x y : State) → P x → P y → P (cond b x y)
-of-either P true x y p q = p
-of-either P false x y p q = q
-
 -- an area that is copied into one of its length
 pub copied-same : (from to : List ℕ) → length to ≡ length from → copied from to ≡ from
 unfolding copied

@@ -59,6 +59,12 @@ module _ (isRouter : Bool) (d k : ℕ) (s : State) (told : List ℕ) where
 pub not-nowhere : {k : ℕ} → Nowhere ≡ At k → ⊥
 not-nowhere e = let z : _≡_ {A = ℕ} 0 1 = cc in omega arith
 
+-- a Time-Code that goes waits
+pub some-waits : (waits late : ℕ) (other : Found) → goes waits late other ≡ true → 1 ≤ waits
+unfolding goes
+some-waits zero late other e = absurd (false≢true e)
+some-waits (suc v) late other e = omega arith
+
 module _ (old : State) (q : ℕ) where
   -- what the code finds
   pub first-is : {r : Found} → Finds (bitOr (waiting old 0 q) (waiting old 1 q)) (next old q) r → r ≡ firstWaits old q
@@ -104,12 +110,8 @@ module _ (old : State) (q : ℕ) where
 
   -- what goes waits
   pub goes-waits : timeGoes old q ≡ true → 1 ≤ timeWaits old q
-  unfolding timeGoes goes
-  goes-waits = by-waits (timeWaits old q)
-    where
-      by-waits : (n : ℕ) → goes n (lately old q) (firstWaits old q) ≡ true → 1 ≤ n
-      by-waits zero o = absurd (false≢true o)
-      by-waits (suc v) o = omega arith
+  unfolding timeGoes
+  goes-waits = some-waits (timeWaits old q) (lately old q) (firstWaits old q)
 
   -- what waits and does not go has another code before it, and the last one sent was a Time-Code
   pub goes-late : 1 ≤ timeWaits old q → timeGoes old q ≡ false → (k : ℕ) × (chosen old q ≡ At k) × (lately old q ≢ 0)

@@ -58,7 +58,7 @@ module _ (load : ℕ → ℕ) (permissions : List ℕ) (q : ℕ) (side : Side) (
   unfolding acted reactsTo counted
   reacts-silent (Time v) = by-value (eqb v (nextTime counter))
     where
-      by-value : (new : Bool) → acted load permissions q (cond new (passedOn side register counter (Time v)) (Named (Time v))) w .told ≡ w .told
+      by-value : (new : Bool) → acted load permissions q (cond new (passedOn (side .router) (Time v)) (Named (Time v))) w .told ≡ w .told
       by-value true = rw hands
       by-value false = refl
   reacts-silent (Reserved top low) = refl

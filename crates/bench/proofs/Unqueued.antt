@@ -1,9 +1,11 @@
 -- The code that is sent waits no more: a sound state stays sound, and no word changes but those of ports.
 use mathlib.Core.Path.{_≡_, refl, sym, ap, _∙_}
 use mathlib.Core.Bool.{Bool, true, false, false≢true}
+use mathlib.Core.Logic.{_≢_}
 use Prim.Native.Nat.{ℕ, _*_, _≤_, _<_}
 use native.Mathlib.Omega.{arith}
 use lib.Bits.{bitOr, or-zero-l}
+use lib.ListN.{length}
 use Rattle.lists.proofs.Loops.{keeps, untouched}
 use Rattle.bits.specs.Set.{leave}
 use Rattle.bits.specs.First.{Finds, following}
@@ -15,7 +17,7 @@ use Rattle.plan.specs.declared.Plan.{Plan}
 use Rattle.state.specs.State.{State, word, portsAt, portsEnd, portAt, waiting, nextAt, next, timeAt, timeWaits}
 use Rattle.state.specs.Network.{devices, exists}
 use Rattle.state.specs.Sound.{Kept, Sound}
-use Rattle.state.proofs.Words.{word-other}
+use Rattle.state.proofs.Words.{length-put, word-other}
 use Rattle.state.proofs.Plans.{few}
 use Rattle.state.proofs.Keeping.{sets-step, next-step}
 use Rattle.state.proofs.Waits.{leave-zero, not-absent, left-apart}
@@ -84,15 +86,22 @@ unqueued-left old q i s l out = by-choice (chosen old q) refl
         ∙ word-other _ (portAt q 1) _ i (λ z. out (omega arith) (omega arith))
         ∙ word-other s (portAt q 0) _ i (λ z. out (omega arith) (omega arith)))
 
-pub stamped-left : (goes : Bool) (c : Found) (q i : ℕ) (s : State) → i < timeAt 0 → word (stamped goes c q s) i ≡ word s i
+-- the port's word of Time-Codes is one word
+pub stamped-other : (time : Bool) (c : Found) (q : ℕ) (s : State) (i : ℕ) → i ≢ timeAt q → word (stamped time c q s) i ≡ word s i
 unfolding stamped
-stamped-left true c q i s h = word-other s (timeAt q) _ i (omega arith)
-stamped-left false Nowhere q i s h = refl
-stamped-left false (At k) q i s h = word-other s (timeAt q) _ i (omega arith)
+stamped-other true c q s i ne = word-other s (timeAt q) _ i ne
+stamped-other false Nowhere q s i ne = refl
+stamped-other false (At k) q s i ne = word-other s (timeAt q) _ i ne
+
+pub stamped-size : (time : Bool) (c : Found) (q : ℕ) (s : State) → length (stamped time c q s) ≡ length s
+unfolding stamped
+stamped-size true c q s = length-put s (timeAt q) _
+stamped-size false Nowhere q s = refl
+stamped-size false (At k) q s = length-put s (timeAt q) _
 
 pub posted-left : (plan : Plan) → Held plan → (old : State) (i : ℕ) (s : State) → (portsAt ≤ i → i < portsEnd → ⊥) → i < timeAt 0 → word (posted plan old s) i ≡ word s i
 unfolding posted
 posted-left plan held old i s out h =
     let n = few plan held in
     untouched (posts old) (λ t. word t i) (8 * devices plan)
-    (λ q t l. stamped-left (timeGoes old q) (chosen old q) q i (unqueued old q t) h ∙ unqueued-left old q i t (omega arith) out) s
+    (λ q t l. stamped-other (timeGoes old q) (chosen old q) q (unqueued old q t) i (omega arith) ∙ unqueued-left old q i t (omega arith) out) s

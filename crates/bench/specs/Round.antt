@@ -60,7 +60,7 @@ tick isRouter d k w =
           (record { state = put (w .state) (timerAt d k) t; told = w .told })
     ]
 
--- ---- 2. each port with anything waiting sends; what, is chosen from what waited in the old state
+-- ---- 2. each port with anything waiting sends; what, is chosen from what waited, and what was sent last, in the old state
 
 -- the first waiting identifier at or after next
 unfoldable pub firstWaits : State → ℕ → Found
@@ -92,7 +92,7 @@ sentWord interrupts Nowhere = nothing
 unfoldable pub sends : State → ℕ → ℕ
 sends old q = cond (timeGoes old q) ((timeWaits old q - 1) % 64) (sentWord (waiting old 0 q) (chosen old q))
 
--- it leaves its set, and next moves behind it; no identifier waits as both kinds, so to leave both sets is to leave its own
+-- the identifier that is sent leaves its set, and next moves behind it; no identifier waits as both kinds, so to leave both sets is to leave its own
 unfoldable pub unqueued : State → ℕ → State → State
 unqueued old q s =
     elim (chosen old q) [
@@ -102,8 +102,8 @@ unqueued old q s =
 
 -- the port's word of Time-Codes: one went, and waits no more; another code went; or nothing did
 unfoldable pub stamped : Bool → Found → ℕ → State → State
-stamped goes other q s =
-    cond goes (put s (timeAt q) 128)
+stamped time other q s =
+    cond time (put s (timeAt q) 128)
     (elim other [
       | At k ↦ put s (timeAt q) (timeWaits s q)
       | Nowhere ↦ s

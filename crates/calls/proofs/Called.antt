@@ -1,8 +1,8 @@
--- Every call that is taken keeps a sound state sound.
+-- Every call that is taken keeps a sound state sound; and what a tick changes.
 use mathlib.Core.Path.{_≡_, refl, sym, ap, _∙_}
 use mathlib.Core.Bool.{Bool, true, false}
-use mathlib.Core.Logic.{dite}
-use Prim.Native.Nat.{ℕ, _+_, _*_, _%_, _≤_, _<_}
+use mathlib.Core.Logic.{_⊎_, inl, inr, _≢_, dite}
+use Prim.Native.Nat.{ℕ, _+_, _*_, _/_, _%_, _≤_, _<_}
 use native.Mathlib.Decide.{decLt}
 use native.Mathlib.Omega.{arith}
 use lib.Bits.{and-zero-l}
@@ -17,12 +17,12 @@ use Rattle.state.specs.State.{State, words, word, put, portsEnd, portAt, runnin
 use Rattle.state.specs.Network.{devices, portsOf, exists, peer}
 use Rattle.state.specs.Sound.{Sound}
 use Rattle.state.specs.Mark.{mark}
-use Rattle.state.proofs.Words.{length-put, word-other}
+use Rattle.state.proofs.Words.{length-put, word-same, word-other}
 use Rattle.state.proofs.Plans.{FarEnd, few, port-there, far-end}
 use Rattle.state.proofs.Keeping.{device-step, empty-step, sets-step, flags-step, clock-step}
 use Rattle.state.proofs.Marks.{mark-step}
 use Rattle.state.proofs.Waits.{queue-all-sound}
-use Rattle.state.proofs.Times.{time-step, counter-step, queue-time-sound, length-times, queue-times-left, queue-times-lately, queue-times-waits}
+use Rattle.state.proofs.Times.{time-step, counter-step, queue-time-sound, length-times, queue-times-left, queue-times-lately, queue-times-cases, queue-times-waits}
 use Rattle.calls.specs.Calls.{called, cleared, emptied, untimed, drained, advanced, switched, reset}
 use Rattle.calls.proofs.Stopping.{both-drained, both-timeless}
 use Rattle.calls.proofs.Zeros.{cleared-register, cleared-timer, cleared-left, cleared-fits, emptied-left, emptied-port, emptied-flag, emptied-fits, untimed-left, untimed-counter, untimed-word, untimed-fits}
@@ -38,6 +38,31 @@ pub tick-size : (d : ℕ) (s : State) → length (advanced d s) ≡ length s
 unfolding advanced
 tick-size d s = length-times (nextTime (counter s d)) d nobody _ ∙ length-put s (counterAt d) _
 
+-- the counter goes on, and no other does
+pub tick-counts : (d : ℕ) → d < 32 → (s : State) → length s ≡ words → counter (advanced d s) d ≡ nextTime (counter s d)
+unfolding advanced
+tick-counts d h s size =
+    let v = nextTime (counter s d) in
+    queue-times-left (counterAt d) (λ q m. omega arith) v d nobody h (put s (counterAt d) v) ∙ word-same s (counterAt d) v (omega arith)
+
+pub tick-counts-else : (d e : ℕ) → d < 32 → e < 32 → e ≢ d → (s : State) → counter (advanced d s) e ≡ counter s e
+unfolding advanced
+tick-counts-else d e h l ne s =
+    let v = nextTime (counter s d) in
+    queue-times-left (counterAt e) (λ q m. omega arith) v d nobody h (put s (counterAt d) v) ∙ word-other s (counterAt d) v (counterAt e) (omega arith)
+
+-- what waits at a port of another device is as it was; at a port of its own it is as it was, or is the new Time-Code
+pub tick-only : (d : ℕ) → d < 32 → (s : State) → length s ≡ words → (q : ℕ) → q < 256
+    → (timeWaits (advanced d s) q ≡ timeWaits s q) ⊎ ((timeWaits (advanced d s) q ≡ nextTime (counter s d) + 1) × (q / 8 ≡ d))
+unfolding advanced
+tick-only d h s size q l =
+    let v = nextTime (counter s d) in
+    let same : timeWaits (put s (counterAt d) v) q ≡ timeWaits s q = ap (λ n. n % 128) (word-other s (counterAt d) v (timeAt q) (omega arith)) in
+    elim (queue-times-cases v d nobody q (omega arith) l (put s (counterAt d) v) (length-put s (counterAt d) v ∙ size)) [
+      | inl o ↦ inl (o ∙ same)
+      | inr o ↦ inr o
+    ]
+
 -- at a port that runs, a Time-Code then waits
 pub tick-waits : (d p : ℕ) → d < 32 → p < 8 → (s : State) → length s ≡ words → running s (8 * d + p) ≡ 1
     → timeWaits (advanced d s) (8 * d + p) ≡ nextTime (counter s d) + 1
@@ -47,7 +72,7 @@ tick-waits d p h small s size runs =
     queue-times-waits v d nobody p (omega arith) h small (omega arith) (put s (counterAt d) v) (length-put s (counterAt d) v ∙ size)
     (word-other s (counterAt d) v (portAt (8 * d + p) runningAt) (omega arith) ∙ runs)
 
--- nor whether the last code that a port sent was a Time-Code
+-- it changes at no port whether the last code sent was a Time-Code
 pub tick-lately : (d : ℕ) → d < 32 → (s : State) → length s ≡ words → (q : ℕ) → q < 256 → lately (advanced d s) q ≡ lately s q
 unfolding advanced
 tick-lately d h s size q l =

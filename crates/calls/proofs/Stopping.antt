@@ -16,7 +16,7 @@ use Rattle.state.proofs.Keeping.{both-kinds}
 use Rattle.calls.specs.Calls.{drained, flagged, linkAsks, switched}
 use Rattle.calls.specs.Stopping.{Keeps, Stopped, LinkKeeps, LinkStops}
 
--- ---- a port's two sets are emptied
+-- ---- a port's two sets and its word of Time-Codes become 0
 
 module _ (s : State) (q : ℕ) where
   abbrev first : State

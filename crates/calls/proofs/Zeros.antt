@@ -186,42 +186,20 @@ module _ (d : ℕ) (s : State) (long : length s ≡ words) where
 
 -- ---- its counter, and what its ports have of Time-Codes
 
--- of the first p of them
-pub record Untimed (d p : ℕ) (s t : State) : Type 0 where
-  pub size : length t ≡ length s
-  pub gone : (j : ℕ) → j < p → time t (8 * d + j) ≡ 0
-  pub left : (i : ℕ) → ((j : ℕ) → j < p → i ≢ timeAt (8 * d + j)) → word t i ≡ word s i
-
-pub untimed-none : {d : ℕ} {s : State} → Untimed d 0 s s
-untimed-none = record { size = refl; gone = λ j l. absurd (omega arith); left = λ i o. refl }
-
-pub untimed-more : {d p : ℕ} {s t : State} → Untimed d p s t → length s ≡ words → d < 32 → p < 8 → Untimed d (p + 1) s (put t (timeAt (8 * d + p)) 0)
-untimed-more {d} {p} {s} {t} z long h l =
-    record {
-      size = length-put t (timeAt (8 * d + p)) 0 ∙ z .size;
-      gone = λ j m. elim (ℕ-discrete j p) [
-        | yes e ↦ rw e (word-same t (timeAt (8 * d + p)) 0 (omega (arith, z .size)))
-        | no n ↦ word-other t (timeAt (8 * d + p)) 0 (timeAt (8 * d + j)) (omega arith) ∙ z .gone j (omega arith)
-      ];
-      left = λ i o. word-other t (timeAt (8 * d + p)) 0 i (o p (omega arith)) ∙ z .left i (λ j m. o j (omega arith));
-    }
-
 module _ (d : ℕ) (s : State) (long : length s ≡ words) where
-  pub is-untimed : {t : State} → d < 32 → Untimed d 8 s t → put t (counterAt d) 0 ≡ untimed d s
+  pub is-untimed : {t : State} → d < 32 → Zeros (timeAt (8 * d)) (timeAt (8 * d + 8)) s t → put t (counterAt d) 0 ≡ untimed d s
   is-untimed {t} h z =
-      let left : (i : ℕ) → i ≢ counterAt d → ((j : ℕ) → j < 8 → i ≢ timeAt (8 * d + j)) → word (put t (counterAt d) 0) i ≡ word s i =
+      let left : (i : ℕ) → i ≢ counterAt d → (timeAt (8 * d) ≤ i → i < timeAt (8 * d + 8) → ⊥) → word (put t (counterAt d) 0) i ≡ word s i =
       λ i ne o. word-other t (counterAt d) 0 i ne ∙ z .left i o in
-      is-state _ _ (length-put t (counterAt d) 0 ∙ z .size ∙ long) (λ e l. left (registerAt e) (omega arith) (λ j m. omega arith))
-      (λ e k l m. left (timerAt e k) (omega arith) (λ j n. omega arith)) (λ q i l m. left (portAt q i) (omega arith) (λ j n. omega arith))
+      is-state _ _ (length-put t (counterAt d) 0 ∙ z .size ∙ long) (λ e l. left (registerAt e) (omega arith) (λ a b. absurd (omega arith)))
+      (λ e k l m. left (timerAt e k) (omega arith) (λ a b. absurd (omega arith))) (λ q i l m. left (portAt q i) (omega arith) (λ a b. absurd (omega arith)))
       (λ e l. elim (ℕ-discrete e d) [
         | yes is ↦ rw (eq-eqb e d is) (rw is (word-same t (counterAt d) 0 (omega (arith, z .size))))
-        | no n ↦ rw (ne-eqb e d n) (left (counterAt e) (omega arith) (λ j m. omega arith))
+        | no n ↦ rw (ne-eqb e d n) (left (counterAt e) (omega arith) (λ a b. absurd (omega arith)))
       ])
       (λ q l. elim (ℕ-discrete (q / 8) d) [
-        | yes is ↦
-            let here : 8 * d + q % 8 ≡ q = omega arith in
-            rw (eq-eqb (q / 8) d is) (word-other t (counterAt d) 0 (timeAt q) (omega arith) ∙ rw here at (z .gone (q % 8) (omega arith)))
-        | no n ↦ rw (ne-eqb (q / 8) d n) (left (timeAt q) (omega arith) (λ j m. omega arith))
+        | yes is ↦ rw (eq-eqb (q / 8) d is) (word-other t (counterAt d) 0 (timeAt q) (omega arith) ∙ z .gone (timeAt q) (omega arith) (omega arith))
+        | no n ↦ rw (ne-eqb (q / 8) d n) (left (timeAt q) (omega arith) (λ a b. absurd (omega arith)))
       ])
 
   -- no word in front of them changes
@@ -237,6 +215,9 @@ module _ (d : ℕ) (s : State) (long : length s ≡ words) where
   pub untimed-word : (q : ℕ) → q < 256 → (P : ℕ → Type 0) → P 0 → P (time s q) → P (time (untimed d s) q)
   untimed-word q h P none p = rw (time-of _ q h) (keep P (eqb (q / 8) d) (time s q) none p)
 
+  untimed-size : length (untimed d s) ≡ words
+  untimed-size = length-state _
+
   pub untimed-fits : ((i : ℕ) → word s i < 2 ^ 32) → Fits (untimed d s)
   untimed-fits small =
       record {
@@ -246,17 +227,5 @@ module _ (d : ℕ) (s : State) (long : length s ≡ words) where
             (λ q i h l. rw (port-of _ q i h l) (small (portAt q i)))
             (by-behind (λ i. word (untimed d s) i < 2 ^ 32) (λ e h. untimed-counter e h (λ v. v < 2 ^ 32) (omega arith) (small (counterAt e)))
             (λ q h. untimed-word q h (λ v. v < 2 ^ 32) (omega arith) (small (timeAt q)))
-            (λ i h. omega (
-              arith,
-              word-past (untimed d s) i (omega (
-                arith,
-                length-state (record {
-                  registers = register s;
-                  timers = timer s;
-                  ports = λ q i. word s (portAt q i);
-                  counters = λ e. cond (eqb e d) 0 (counter s e);
-                  times = λ q. cond (eqb (q / 8) d) 0 (time s q);
-                }),
-              )),
-            )));
+            (λ i h. omega (arith, word-past (untimed d s) i (omega (arith, untimed-size)))));
       }

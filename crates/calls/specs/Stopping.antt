@@ -17,7 +17,7 @@ pub record Keeps (plan : Plan) (q : ℕ) (before after : State) : Type 0 where
   pub others : (p i : ℕ) → p < 256 → i < portWords → p ≢ q → p ≢ peer plan q → word after (portAt p i) ≡ word before (portAt p i)
   pub times : (p : ℕ) → p < 256 → p ≢ q → p ≢ peer plan q → time after p ≡ time before p
 
--- neither end of it runs, nothing waits at either, and neither has sent a Time-Code last
+-- neither end of it runs, nothing waits at either, and the mark of a Time-Code that was sent last is gone from both
 pub record Stopped (plan : Plan) (q : ℕ) (after : State) : Type 0 where
   pub flags : (running after q ≡ 0) × (running after (peer plan q) ≡ 0)
   pub sets : (kind : ℕ) → kind < 2 → (waiting after kind q ≡ 0) × (waiting after kind (peer plan q) ≡ 0)

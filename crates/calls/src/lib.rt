@@ -57,7 +57,7 @@ pub fn link(plan: Plan, state: &mut [u32], device: usize, port: usize, running: 
     0
 }
 
-// The host of the master ticks: its counter goes on by one, and its ports send the Time-Code.
+// The host of the master ticks: its counter goes on by one, and the Time-Code is queued at its ports.
 pub fn tick(plan: Plan, state: &mut [u32], device: usize) -> u32
     ensures { λ r. ⌜ Ticks plan device (now (state .entry)) r (now (state .exit)) ⌝ }
 {
@@ -245,7 +245,7 @@ fn advance(state: &mut [u32], d: usize)
     requires { ⌜ (length (now state) ≡ words) × (d < 32) ⌝ }
     ensures { λ _. ⌜ now (state .exit) ≡ advanced d (now (state .entry)) ⌝ }
 {
-    let v = (state[COUNTERS + d] % 64 + 1) % 64;
+    let v = device::next_time(state[COUNTERS + d]);
     state[COUNTERS + d] = v;
     state::queue_time(state, d, NONE, v as u8);
 }
@@ -320,7 +320,7 @@ fn far_end(plan: Plan, q: usize) -> u16
 }
 
 // The link at port q runs from now on, or stops, at both ends. A stop loses what waits there, and
-// nothing else: the registers and timers of the two devices outlast it.
+// whether a Time-Code was sent last, and nothing else: registers, timers and counters outlast it.
 fn switch(plan: Plan, state: &mut [u32], q: usize, running: bool)
     requires { ⌜ (length (now state) ≡ words) × (q < 256) × (peer plan q < nobody) ⌝ }
     ensures { λ _. ⌜ now (state .exit) ≡ switched plan running q (now (state .entry)) ⌝ }
@@ -344,7 +344,8 @@ fn flag(state: &mut [u32], q: usize, far: usize, running: u32)
     state[PORTS + PORT * far + RUNNING] = running;
 }
 
-// Nothing waits at port q any more. Where its search starts stays.
+// Nothing waits at port q any more, and no Time-Code counts as sent last. Where its search starts
+// stays.
 fn drain(state: &mut [u32], q: usize)
     requires { ⌜ (length (now state) ≡ words) × (q < 256) ⌝ }
     ensures { λ _. ⌜ now (state .exit) ≡ drained q (now (state .entry)) ⌝ }
@@ -365,7 +366,7 @@ fn clear(state: &mut [u32], d: usize)
     }
 }
 
-// What waits at the ports of device d, and where each search starts, become 0.
+// The sets that wait at the ports of device d, and where each search starts, become 0.
 fn empty(state: &mut [u32], d: usize)
     requires { ⌜ (length (now state) ≡ words) × (d < 32) ⌝ }
     ensures { λ _. ⌜ now (state .exit) ≡ emptied d (now (state .entry)) ⌝ }

@@ -33,7 +33,7 @@ use Rattle.assurance.specs.Return.{Return, Gets, Given}
 use Rattle.assurance.proofs.Return.{return-trip}
 use Rattle.assurance.proofs.Instances.{ticked as Instances·ticked}
 use Rattle.assurance.proofs.Begun.{Begun, begun}
-use Rattle.assurance.proofs.Taking.{called-took}
+use Rattle.assurance.proofs.Taking.{called-took, took-late}
 use Rattle.assurance.proofs.Choices.{runs-joined}
 use Rattle.assurance.proofs.Slow.{slow, begins}
 use Rattle.cycles.specs.Star.{small, crowded, returning}
@@ -137,7 +137,7 @@ unfolding small returning
 late-back =
     let took = called-took small 1 31 (omega arith) (omega arith) 2 (omega arith) crowded (usual-crowded .sound .size) in
     let first = begins small (small-is .held) 1 (omega arith) 2 0 there refl (omega arith) full full-sound full-runs (took .turns 16 ∙ others-wait .1)
-    (took .lates 16 ∙ others-wait .2) waits alone long in
+    (took-late took 16 ∙ others-wait .2) waits alone long in
     slow small (small-is .held) 1 (omega arith) 2 0 there refl (omega arith) first (crossing - 1) (omega arith) .marks 0 (omega arith)
     ∙ full-begun .others 0 (omega arith) (omega arith) .0 ∙ holds-at 0 (omega arith) .0
   where

@@ -62,6 +62,13 @@ unfolding rank
 not-accepted action code h (inl e) = omega (arith, ap rank e)
 not-accepted action code h (inr e) = omega (arith, ap rank e)
 
+-- what becomes of a code that was accepted just before
+pub dropped : Code → Action
+dropped (Time v) = Named (Time v)
+dropped (Reserved top low) = Ignored (Reserved top low)
+dropped (Interrupt k) = Ignored (Interrupt k)
+dropped (Acknowledge k) = Ignored (Acknowledge k)
+
 module _ (side : Side) (register counter : ℕ) where
   -- ---- only the bit of the identifier concerned can change
 
@@ -118,7 +125,7 @@ module _ (side : Side) (register counter : ℕ) where
   unfolding reacts reactsTo counted
   hands-on byte = by-code (reads byte)
     where
-      by-value : (v : ℕ) (new : Bool) → codeIn (cond new (passedOn side register counter (Time v)) (Named (Time v))) ≡ Time v
+      by-value : (v : ℕ) (new : Bool) → codeIn (cond new (passedOn (side .router) (Time v)) (Named (Time v))) ≡ Time v
       by-value v true = passed-hands-on (side .router) (Time v)
       by-value v false = refl
 
@@ -163,13 +170,7 @@ module _ (side : Side) (register counter : ℕ) where
   unfolding counted
   counted-twice v h = rw (ne-eqb v (nextTime v) (omega arith))
 
-  -- so a code that was accepted just before is dropped
-  pub dropped : Code → Action
-  dropped (Time v) = Named (Time v)
-  dropped (Reserved top low) = Ignored (Reserved top low)
-  dropped (Interrupt k) = Ignored (Interrupt k)
-  dropped (Acknowledge k) = Ignored (Acknowledge k)
-
+  -- it is dropped
   pub accepted-twice : (byte : ℕ) (code : Code) → Accepted (reacts side register counter byte .action) code
       → Again (λ bits count. reacts side bits count byte) (dropped code)
   unfolding reacts reactsTo rank dropped

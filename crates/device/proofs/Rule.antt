@@ -34,7 +34,7 @@ module _ (side : Side) (register counter kind k : ℕ) (code : Code) where
   opposite s m b = simp (s, m, ne-eqb _ _ b)
 
   pub taken : (next : ℕ) (action : Action) → Accepts side register kind k → next ≡ marked kind register k
-      → action ≡ passedOn side register counter code → record { register = next; counter = counter; action = action } ≡ ruled side register counter kind k code
+      → action ≡ passedOn (side .router) code → record { register = next; counter = counter; action = action } ≡ ruled side register counter kind k code
   unfolding ruled
   taken next action o e a = simp (o .runs, o .may, eq-eqb _ _ (o .stood)) (λ i. record { register = e i; counter = counter; action = a i })
 

@@ -1,5 +1,5 @@
 -- RULES, "One device": the reaction to a byte (000, 2.2 o and w, 2.3.2 d and e, 2.3.3 e and f).
-use mathlib.Core.Bool.{cond}
+use mathlib.Core.Bool.{Bool, cond}
 use Prim.Native.Nat.{ℕ, _+_, _%_}
 use lib.Dec.{eqb}
 use Rattle.bits.specs.Set.{bit, join, leave}
@@ -24,15 +24,15 @@ kept register counter action = record { register = register; counter = counter; 
 abbrev pub nextTime : ℕ → ℕ
 nextTime counter = (counter + 1) % 64
 
+-- a router forwards a code, a node tells its host
+abbrev pub passedOn : Bool → Code → Action
+passedOn isRouter code = cond isRouter (Forwarded code) (Told code)
+
 -- a port's side: whether its device is a router, whether it runs, its permissions
 module _ (side : Side) (register counter : ℕ) where
-  -- a router forwards, a node tells its host
-  abbrev pub passedOn : Code → Action
-  passedOn code = cond (side .router) (Forwarded code) (Told code)
-
   -- accepted: the bit changes, and the code is passed on
   abbrev pub accepted : ℕ → ℕ → Code → Reaction
-  accepted kind k code = record { register = marked kind register k; counter = counter; action = passedOn code }
+  accepted kind k code = record { register = marked kind register k; counter = counter; action = passedOn (side .router) code }
 
   -- a code of a kind: a port not running, no permission, then the bit, which an interrupt finds 0 and an acknowledge 1
   unfoldable pub ruled : ℕ → ℕ → Code → Reaction
@@ -45,7 +45,7 @@ module _ (side : Side) (register counter : ℕ) where
 
   -- a Time-Code becomes the counter's value, and is passed on where that is one more than it was; the register stays
   unfoldable pub counted : ℕ → Reaction
-  counted v = record { register = register; counter = v; action = cond (eqb v (nextTime counter)) (passedOn (Time v)) (Named (Time v)) }
+  counted v = record { register = register; counter = v; action = cond (eqb v (nextTime counter)) (passedOn (side .router) (Time v)) (Named (Time v)) }
 
   unfoldable pub reactsTo : Code → Reaction
   reactsTo (Time v) = counted v

@@ -1,10 +1,8 @@
 // What one device does with a byte that arrives at one of its ports (draft 000, 2.2 and 2.3).
 // An Interrupt-Code and an acknowledge go by one rule, over the kind: 0 interrupt, 1 acknowledge.
 ghost use mathlib.Core.Path.{_≡_};
-ghost use mathlib.Core.Bool.{cond};
 ghost use Rattle.device.specs.Permissions.{maySend, mayReceive};
-ghost use Rattle.device.specs.declared.Action.the-variants.{Forwarded, Told};
-ghost use Rattle.device.specs.Reaction.{marked as Reaction·marked, ruled as Reaction·ruled, counted as Reaction·counted, reacts};
+ghost use Rattle.device.specs.Reaction.{marked as Reaction·marked, nextTime, passedOn, ruled as Reaction·ruled, counted as Reaction·counted, reacts};
 use codes::Code;
 
 // What becomes of the code.
@@ -65,8 +63,16 @@ pub fn marked(kind: u8, register: u32, k: u8) -> u32
     register
 }
 
+// The value of a Time-Code that follows upon a counter: 0 comes after 63. A counter above 63 counts
+// as its remainder by 64.
+pub fn next_time(counter: u32) -> u32
+    ensures { λ r. ⌜ r ≡ nextTime counter ⌝ }
+{
+    (counter % 64 + 1) % 64
+}
+
 // The reaction to a byte. Only an Interrupt-Code and an acknowledge get as far as the register, and
-// only a Time-Code changes the counter; one above 63 counts as its remainder by 64.
+// only a Time-Code changes the counter.
 pub fn react(side: Side, register: u32, counter: u32, byte: u8) -> Reaction
     ensures { λ r. ⌜ r ≡ reacts side register counter byte ⌝ }
 {
@@ -96,7 +102,7 @@ fn outcome(register: u32, counter: u32, action: Action) -> Reaction
 
 // A router forwards a code, a node tells its host.
 fn passed_on(router: bool, code: Code) -> Action
-    ensures { λ r. ⌜ r ≡ cond router (Forwarded code) (Told code) ⌝ }
+    ensures { λ r. ⌜ r ≡ passedOn router code ⌝ }
 {
     if router {
         return Action::Forwarded(code);
@@ -109,7 +115,8 @@ fn counted(side: Side, register: u32, counter: u32, v: u8) -> Reaction
     ensures { λ r. ⌜ r ≡ Reaction·counted side register counter v ⌝ }
 {
     let code = Code::Time(v);
-    if v as u32 != (counter % 64 + 1) % 64 {
+    let next = next_time(counter);
+    if v as u32 != next {
         return outcome(register, v as u32, Action::Named(code));
     }
     outcome(register, v as u32, passed_on(side.router, code))

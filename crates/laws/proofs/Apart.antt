@@ -28,7 +28,7 @@ use Rattle.device.proofs.Reactions.{marked-same, marked-other}
 use Rattle.plan.specs.Fields.{nobody}
 use Rattle.plan.specs.Reading.{Held}
 use Rattle.plan.specs.declared.Plan.{Plan}
-use Rattle.state.specs.State.{State, words, word, put, registerAt, timerAt, portAt, register, timer, waiting, nextAt, next, portsEnd, counterAt, counter, timeAt}
+use Rattle.state.specs.State.{State, words, word, put, registerAt, timerAt, portAt, register, timer, waiting, nextAt, next, portsEnd, counterAt, counter}
 use Rattle.state.specs.Network.{devices, router, peer, permissions, loadOf}
 use Rattle.state.specs.Sound.{Sound}
 use Rattle.state.specs.Queue.{sendsAt, queueAt, queueBut, queueAllAt}
@@ -39,6 +39,7 @@ use Rattle.bench.specs.Round.{World, nothing, sentWords, tick, timeGoes, chosen
 use Rattle.laws.specs.Alike.{Alike, SendsIt, SendAlike}
 use Rattle.state.proofs.Words.{length-put, word-same, word-other, put-word}
 use Rattle.state.proofs.Plans.{few}
+use Rattle.bench.proofs.Unqueued.{stamped-other, stamped-size}
 use Rattle.bench.proofs.Ticks.{ended, tick-cases}
 use Rattle.bench.proofs.RoundSound.{after, arrives-cases}
 use Rattle.bench.proofs.Stepped.{chosen-place, post-none, post-interrupt, post-acknowledge}
@@ -124,9 +125,6 @@ module _ {k : ℕ} (l : k < 32) {s t : State} (p : Both k s t) where
   next-aside : (q v : ℕ) → q < 256 → Both k (put s (portAt q nextAt) v) t
   next-aside q v h = rw (put-word t (portAt q nextAt)) at (next-both q v (next t q) h)
 
-  behind-aside : (i v : ℕ) → portsEnd ≤ i → Both k (put s i v) t
-  behind-aside i v h = rw (put-word t i) at (behind-both i v (word t i) h)
-
   -- words behind the ports change
   front-aside : {u : State} → length u ≡ length s → ((i : ℕ) → i < portsEnd → word u i ≡ word s i) → Both k u t
   front-aside size front =
@@ -198,11 +196,8 @@ module _ {k : ℕ} (l : k < 32) (q : ℕ) (h : q < 256) {s t : State} (p : Both 
       q _ _ h)
 
 -- what a port has of Time-Codes does not concern k
-stamped-aside : {k : ℕ} → k < 32 → (goes : Bool) (c : Found) (q : ℕ) {s t : State} → Both k s t → Both k (stamped goes c q s) t
-unfolding stamped
-stamped-aside l true c q p = behind-aside l p (timeAt q) 128 (omega arith)
-stamped-aside l false Nowhere q p = p
-stamped-aside l false (At j) q p = behind-aside l p (timeAt q) _ (omega arith)
+stamped-aside : {k : ℕ} → k < 32 → (b : Bool) (c : Found) (q : ℕ) {s t : State} → Both k s t → Both k (stamped b c q s) t
+stamped-aside l b c q {s} p = front-aside l p (stamped-size b c q s) (λ i h. stamped-other b c q s i (omega arith))
 
 stamped-both : {k : ℕ} → k < 32 → (g : Bool) (c : Found) (h : Bool) (e : Found) (q : ℕ) {s t : State} → Both k s t → Both k (stamped g c q s) (stamped h e q t)
 stamped-both l g c h e q p = back (stamped-aside l h e q (back (stamped-aside l g c q p)))

@@ -220,18 +220,17 @@ module _ (plan : Plan) (kind d k : ℕ) (s : State) where
   unfolding toldIn
   some-told = some-times (toldWord kind d k) (round plan s .told)
 
-module _ (plan : Plan) (held : Held plan) (s : State) (x : Sound plan s) (d k : ℕ) (h : d < devices plan) (l : k < 32) where
-  -- of timers no code
-  ticks-told : (kind : ℕ) → kind < 2 → times (toldWord (ofInterrupt + kind) d k) (afterTimers plan s .told) ≡ 0
-  unfolding ticked times
-  ticks-told kind g =
-      let n = few plan held in
-      let word = toldWord (ofInterrupt + kind) d k in
-      untouched (turn plan) (λ v. times word (v .told)) (32 * devices plan)
-      (λ i v b. tick-cases (router plan (i / 32)) (i / 32) (i % 32) v (λ u. times word (u .told) ≡ times word (v .told)) (λ e. refl)
-      (λ e. times-other word (toldWord ofTimeout (i / 32) (i % 32)) (omega arith) (router plan (i / 32)) (v .told)) (λ t e. refl))
-      (record { state = s; told = [] })
+-- of timers no code: a word that is no timeout's is not told
+pub ticks-told : (plan : Plan) → Held plan → (s : State) (word : ℕ) → ((e j : ℕ) → e < 32 → j < 32 → toldWord ofTimeout e j ≢ word) → times word (afterTimers plan s .told) ≡ 0
+unfolding ticked times
+ticks-told plan held s word other =
+    let n = few plan held in
+    untouched (turn plan) (λ v. times word (v .told)) (32 * devices plan)
+    (λ i v b. tick-cases (router plan (i / 32)) (i / 32) (i % 32) v (λ u. times word (u .told) ≡ times word (v .told)) (λ e. refl)
+    (λ e. times-other word (toldWord ofTimeout (i / 32) (i % 32)) (other (i / 32) (i % 32) (omega arith) (omega arith)) (router plan (i / 32)) (v .told)) (λ t e. refl))
+    (record { state = s; told = [] })
 
+module _ (plan : Plan) (held : Held plan) (s : State) (x : Sound plan s) (d k : ℕ) (h : d < devices plan) (l : k < 32) where
   -- of a kind of code nothing that no port sent
   pub none-told : (kind : ℕ) → kind < 2 → ((q : ℕ) → SendsIt plan k s kind q → ⊥) → toldIn plan (ofInterrupt + kind) d k s ≡ 0
   unfolding round reached toldIn
@@ -242,7 +241,7 @@ module _ (plan : Plan) (held : Held plan) (s : State) (x : Sound plan s) (d k : 
       (λ q v b. arrives-taken plan (sentBytes plan s) q (omega arith) v (λ u. times word (u .told) ≡ times word (v .told)) (λ shut u a. beside-times word a (omega arith))
       (λ c j f m e o. times-other word (toldWord (ofInterrupt + c) (q / 8) j) (λ is. none (peer plan q) (omega arith)) (router plan (q / 8)) (v .told)))
       (afterSending plan s)
-      ∙ ticks-told kind g
+      ∙ ticks-told plan held s (toldWord (ofInterrupt + kind) d k) (λ e j a b. omega arith)
 
   -- no timeout where the timer does not end
   pub no-timeout : timer s d k ≢ 1 → toldIn plan ofTimeout d k s ≡ 0
@@ -302,7 +301,7 @@ module _ (plan : Plan) (held : Held plan) (s : State) (x : Sound plan s) (d k : 
   unfolding round reached
   told-accepted m =
       elim (came (arrives plan sent) (λ v. Unit {0}) (8 * devices plan) (λ q v b u. tt) (λ v. List·Memᴰ word (v .told)) Came (λ q v b u. turn-came q v b) (afterSending plan s) tt m) [
-        | inl a ↦ absurd (omega (arith, times-some word a, ticks-told plan held s x d k h l kind g))
+        | inl a ↦ absurd (omega (arith, times-some word a, ticks-told plan held s word (λ e j u v. omega (arith, few plan held))))
         | inr c ↦
             let q = c .0 in
             let here = c .2 .0 in

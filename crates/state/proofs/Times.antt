@@ -7,7 +7,7 @@ use native.Mathlib.Decide.{ℕ-discrete}
 use native.Mathlib.Omega.{arith}
 use lib.Dec.{eqb, ltb}
 use lib.ListN.{length}
-use borrow.Author.Tests.{eq-eqb, ne-eqb, eqb-true, eqb-false, lt-ltb, ltb-true}
+use borrow.Author.Tests.{eq-eqb, ne-eqb, eqb-true, lt-ltb, ltb-true}
 use Rattle.lists.proofs.Loops.{keeps, untouched, hit}
 use Rattle.plan.specs.Reading.{Held}
 use Rattle.plan.specs.declared.Plan.{Plan}
@@ -72,7 +72,7 @@ module _ (plan : Plan) (held : Held plan) {s : State} (x : Sound plan s) where
       by-test false e = x
       by-test true e =
           let runs = eqb-true (running s q) 1 e in
-          let there : exists plan q ≡ true = not-absent (exists plan q) (λ y. omega (arith, runs, x .no-port q 3 h y (omega arith))) in
+          let there : exists plan q ≡ true = not-absent (exists plan q) (λ y. omega (arith, runs, x .no-port q runningAt h y (omega arith))) in
           time-step q (128 * lately s q + (v + 1)) h (omega arith) (omega arith) (λ z. absurd (omega arith)) (λ y. absurd (false≢true (sym y ∙ there)))
 
 -- at all ports of a device but one
@@ -86,7 +86,7 @@ queue-time-sound plan held v d but l h s x = keeps (queueTimeBut v d but) (Sound
 
 -- ---- what it leaves
 
-pub length-time : (v q : ℕ) (s : State) → length (queueTime v q s) ≡ length s
+length-time : (v q : ℕ) (s : State) → length (queueTime v q s) ≡ length s
 unfolding queueTime
 length-time v q s = by-test (eqb (running s q) 1)
   where
@@ -105,23 +105,26 @@ pub length-times : (v d but : ℕ) (s : State) → length (queueTimeAll v d but 
 unfolding queueTimeAll
 length-times v d but s = untouched (queueTimeBut v d but) length 8 (λ p t l. length-time-but v d but p t) s
 
--- every word that is none of a port's Time-Codes
-module _ (i : ℕ) (out : (q : ℕ) → q < 256 → i ≢ timeAt q) where
-  queue-time-left : (v q : ℕ) → q < 256 → (s : State) → word (queueTime v q s) i ≡ word s i
-  unfolding queueTime
-  queue-time-left v q h s = by-test (eqb (running s q) 1)
-    where
-      by-test : (t : Bool) → word (cond t (put s (timeAt q) (128 * lately s q + (v + 1))) s) i ≡ word s i
-      by-test true = word-other s (timeAt q) _ i (out q h)
-      by-test false = refl
+-- every word but the port's own
+queue-time-left : (v q i : ℕ) → i ≢ timeAt q → (s : State) → word (queueTime v q s) i ≡ word s i
+unfolding queueTime
+queue-time-left v q i out s = by-test (eqb (running s q) 1)
+  where
+    by-test : (t : Bool) → word (cond t (put s (timeAt q) (128 * lately s q + (v + 1))) s) i ≡ word s i
+    by-test true = word-other s (timeAt q) _ i out
+    by-test false = refl
 
-  pub queue-times-left : (v d but : ℕ) → d < 32 → (s : State) → word (queueTimeAll v d but s) i ≡ word s i
-  unfolding queueTimeAll
-  queue-times-left v d but h s = untouched (queueTimeBut v d but) (λ t. word t i) 8 (λ p t l. by-test p t l (eqb (8 * d + p) but)) s
-    where
-      by-test : (p : ℕ) (t : State) → p < 8 → (b : Bool) → word (cond b t (queueTime v (8 * d + p) t)) i ≡ word t i
-      by-test p t l true = refl
-      by-test p t l false = queue-time-left v (8 * d + p) (omega arith) t
+time-but-left : (v d but p i : ℕ) → i ≢ timeAt (8 * d + p) → (s : State) → word (queueTimeBut v d but p s) i ≡ word s i
+time-but-left v d but p i out s = by-test (eqb (8 * d + p) but)
+  where
+    by-test : (b : Bool) → word (cond b s (queueTime v (8 * d + p) s)) i ≡ word s i
+    by-test true = refl
+    by-test false = queue-time-left v (8 * d + p) i out s
+
+-- every word that is none of a port's Time-Codes
+pub queue-times-left : (i : ℕ) → ((q : ℕ) → q < 256 → i ≢ timeAt q) → (v d but : ℕ) → d < 32 → (s : State) → word (queueTimeAll v d but s) i ≡ word s i
+unfolding queueTimeAll
+queue-times-left i out v d but h s = untouched (queueTimeBut v d but) (λ t. word t i) 8 (λ p t l. time-but-left v d but p i (out (8 * d + p) (omega arith)) t) s
 
 -- whether the last code sent was a Time-Code stays as it was
 module _ (p : ℕ) (small : p < 256) where
@@ -147,26 +150,26 @@ module _ (p : ℕ) (small : p < 256) where
       by-test j t x true = x .1
       by-test j t x false = queue-time-lately v (8 * d + j) h t (x .0) ∙ x .1
 
--- what waits at a port is as it was, or is that Time-Code, at a port of the device other than the one left out
+-- what waits at a port is as it was, or is that Time-Code, at a port of the device
 pub queue-times-cases : (v d but q : ℕ) → v < 64 → q < 256 → (s : State) → length s ≡ words
-    → (timeWaits (queueTimeAll v d but s) q ≡ timeWaits s q) ⊎ ((timeWaits (queueTimeAll v d but s) q ≡ v + 1) × (q / 8 ≡ d) × (q ≢ but))
+    → (timeWaits (queueTimeAll v d but s) q ≡ timeWaits s q) ⊎ ((timeWaits (queueTimeAll v d but s) q ≡ v + 1) × (q / 8 ≡ d))
 unfolding queueTimeAll queueTime
 queue-times-cases v d but q l small s size =
-    keeps (queueTimeBut v d but) Now 8 (λ j t b x. (length-time-but v d but j t ∙ x .0, by-test j t b (x .0) (x .1) (eqb (8 * d + j) but) (eqb (running t (8 * d + j)) 1) refl)) s (size, inl refl) .1
+    keeps (queueTimeBut v d but) Now 8 (λ j t b x. (length-time-but v d but j t ∙ x .0, by-test j t b (x .0) (x .1) (eqb (8 * d + j) but) (eqb (running t (8 * d + j)) 1))) s (size, inl refl) .1
   where
     Cases : State → Type 0
-    Cases t = (timeWaits t q ≡ timeWaits s q) ⊎ ((timeWaits t q ≡ v + 1) × (q / 8 ≡ d) × (q ≢ but))
+    Cases t = (timeWaits t q ≡ timeWaits s q) ⊎ ((timeWaits t q ≡ v + 1) × (q / 8 ≡ d))
 
     Now : State → Type 0
     Now t = (length t ≡ words) × Cases t
 
-    by-test : (j : ℕ) (t : State) → j < 8 → length t ≡ words → Cases t → (a c : Bool) → eqb (8 * d + j) but ≡ a
+    by-test : (j : ℕ) (t : State) → j < 8 → length t ≡ words → Cases t → (a c : Bool)
         → Cases (cond a t (cond c (put t (timeAt (8 * d + j)) (128 * lately t (8 * d + j) + (v + 1))) t))
-    by-test j t b size x true c e = x
-    by-test j t b size x false false e = x
-    by-test j t b size x false true e =
+    by-test j t b size x true c = x
+    by-test j t b size x false false = x
+    by-test j t b size x false true =
         elim (ℕ-discrete q (8 * d + j)) [
-          | yes is ↦ inr (rw (is, word-same t (timeAt (8 * d + j)) (128 * lately t (8 * d + j) + (v + 1)) (omega arith)) (omega arith), omega arith, λ o. eqb-false (8 * d + j) but e (sym is ∙ o))
+          | yes is ↦ inr (rw (is, word-same t (timeAt (8 * d + j)) (128 * lately t (8 * d + j) + (v + 1)) (omega arith)) (omega arith), omega arith)
           | no ne ↦ rw (word-other t (timeAt (8 * d + j)) (128 * lately t (8 * d + j) + (v + 1)) (timeAt q) (omega arith)) x
         ]
 
@@ -176,18 +179,10 @@ pub queue-times-waits : (v d but p : ℕ) → v < 64 → d < 32 → p < 8 → 8 
 unfolding queueTimeAll queueTime
 queue-times-waits v d but p l h small ne s size runs =
     hit (queueTimeBut v d but) (λ t. (length t ≡ words) × (running t (8 * d + p) ≡ 1)) 8
-    (λ j t b x. (length-time-but v d but j t ∙ x .0, but-left j t b (portAt (8 * d + p) runningAt) (omega arith) ∙ x .1))
+    (λ j t b x. (length-time-but v d but j t ∙ x .0, time-but-left v d but j (portAt (8 * d + p) runningAt) (omega arith) t ∙ x .1))
     (λ t. timeWaits t (8 * d + p) ≡ v + 1) p small mine
-    (λ j t a b x y. rw (but-left j t b (timeAt (8 * d + p)) (omega arith)) y) s (size, runs)
+    (λ j t a b x y. rw (time-but-left v d but j (timeAt (8 * d + p)) (omega arith) t) y) s (size, runs)
   where
-    but-left : (j : ℕ) (t : State) → j < 8 → (i : ℕ) → i ≢ timeAt (8 * d + j) → word (queueTimeBut v d but j t) i ≡ word t i
-    but-left j t b i out = by-test (eqb (8 * d + j) but) (eqb (running t (8 * d + j)) 1)
-      where
-        by-test : (a c : Bool) → word (cond a t (cond c (put t (timeAt (8 * d + j)) (128 * lately t (8 * d + j) + (v + 1))) t)) i ≡ word t i
-        by-test true c = refl
-        by-test false true = word-other t (timeAt (8 * d + j)) _ i out
-        by-test false false = refl
-
     mine : (t : State) → (length t ≡ words) × (running t (8 * d + p) ≡ 1) → timeWaits (queueTimeBut v d but p t) (8 * d + p) ≡ v + 1
     mine t x =
         rw (ne-eqb (8 * d + p) but ne, eq-eqb (running t (8 * d + p)) 1 (x .1), word-same t (timeAt (8 * d + p)) (128 * lately t (8 * d + p) + (v + 1)) (omega (arith, x .0)))

@@ -18,7 +18,7 @@ use Rattle.calls.proofs.Called.{call-sound}
 use Rattle.laws.specs.Alike.{Alike}
 use Rattle.laws.proofs.Apart.{alike-same, call-apart}
 use Rattle.assurance.proofs.Meanwhile.{alike-then}
-use Rattle.assurance.proofs.Taking.{called-took}
+use Rattle.assurance.proofs.Taking.{called-took, took-late}
 use Rattle.plan.specs.Reading.{Held}
 use Rattle.plan.specs.declared.Plan.{Plan}
 use Rattle.witness.specs.Line.{busy}
@@ -51,7 +51,7 @@ module _ (plan : Plan) (held : Held plan) (here : 0 < devices plan) where
       record {
         sound = call-sound plan held t (x .sound) 0 0 k (omega arith) here (omega arith);
         left = λ j a b. alike-then (x .left j a b) (call-apart plan held t (x .sound) j b 0 0 k (omega arith) here (omega arith) (λ e. omega arith));
-        turn = let took = called-took plan 0 k (omega arith) (omega arith) 0 (omega arith) t (x .sound .size) in (took .turns 0 ∙ x .turn .0, took .lates 0 ∙ x .turn .1);
+        turn = let took = called-took plan 0 k (omega arith) (omega arith) 0 (omega arith) t (x .sound .size) in (took .turns 0 ∙ x .turn .0, took-late took 0 ∙ x .turn .1);
       }
 
   busy-so : So plan (busy plan)

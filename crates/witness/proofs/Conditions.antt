@@ -33,7 +33,7 @@ use Rattle.assurance.specs.Demand3.{Calls, none, then, Course, crossing, window
 use Rattle.assurance.proofs.Demand.{demand-3}
 use Rattle.witness.specs.Line.{line, deaf, busy, course}
 use Rattle.assurance.proofs.Begun.{call-taken, Begun, begun}
-use Rattle.assurance.proofs.Taking.{called-took}
+use Rattle.assurance.proofs.Taking.{called-took, took-late}
 use Rattle.assurance.proofs.Choices.{runs-joined}
 use Rattle.assurance.proofs.Slow.{slow, begins}
 use Rattle.assurance.proofs.Instances.{farthest-of, ticked}
@@ -112,7 +112,7 @@ module _ (plan : Plan) (held : Held plan) (here : 0 < devices plan) where
         let one = called-took plan 0 31 (omega arith) (omega arith) 0 (omega arith) (busy plan) (busy-sound plan held here .size) in
         let two = called-took plan 0 30 (omega arith) (omega arith) 0 (omega arith) (called plan 0 0 31 (busy plan)) (requested-sound .size) in
         let old = busy-turn plan held here in
-        (two .turns 0 ∙ one .turns 0 ∙ old .0, two .lates 0 ∙ one .lates 0 ∙ old .1)
+        (two .turns 0 ∙ one .turns 0 ∙ old .0, took-late two 0 ∙ took-late one 0 ∙ old .1)
 
     ticks-on : plan .core .master ≡ 1 → (n : ℕ) → Course plan 31 n (called plan 0 0 31 (busy plan)) (course plan)
     unfolding course

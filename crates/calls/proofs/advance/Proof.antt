@@ -20,14 +20,17 @@ unfolding advanced
 is-advanced d v s t long h e q = q ∙ timed-in v d nobody (put s (counterAt d) v) (length-put s (counterAt d) v ∙ long) h ∙ rw e
 
 same-length : tie.Need-same-length
-same-length c = c .before .before .queue-time .kept .0 ∙ length-set (c .before .before .before .before .before .before .args .state .now) _ _
+same-length c = c .before .before .queue-time .kept .0 ∙ length-set (c .before .before .before .before .before .before .before .args .state .now) _ _
 
 returns : tie.Need-returns
 unfolding word put
-returns c = is-advanced _ _ _ _ (search needs) (omega arith) (omega arith) (c .before .before .queue-time .ensures)
+returns c = is-advanced _ _ _ _ (search needs) (omega arith) (c .before .before .before .before .next-time .ensures) (c .before .before .queue-time .ensures)
 
 queue-time-requires : tie.Need-queue-time-requires
 queue-time-requires c κs = search needs
+
+next-time-requires : tie.Need-next-time-requires
+next-time-requires c κs = search needs
 
 pub advance-spec : {M : Type 1} → statement M
 advance-spec =
@@ -36,7 +39,7 @@ advance-spec =
     (λ c. search needs)
     (λ c. search needs)
     (λ c. search needs)
-    (λ c. search needs)
+    next-time-requires
     (λ c. search needs)
     (λ c. search needs)
     (λ c. search needs)

@@ -1,7 +1,6 @@
 -- `device::counted` meets its contract. Assumes nothing.
-use mathlib.Core.Path.{_≡_, _∙_}
+use mathlib.Core.Path.{_≡_, sym, _∙_}
 use Prim.Native.Nat.{ℕ}
-use native.Mathlib.Omega.{arith}
 use borrow.Author.Needs.{needs}
 use borrow.Author.Tests.{eq-eqb, ne-eqb}
 use Rattle.codes.specs.declared.Code.the-variants.{Time}
@@ -17,15 +16,15 @@ module _ (side : Side) (register counter v : ℕ) where
   unfolding counted
   another n = rw (ne-eqb v (nextTime counter) n)
 
-  follows : (action : Action) → v ≡ nextTime counter → action ≡ passedOn side register counter (Time v) → kept register v action ≡ counted side register counter v
+  follows : (action : Action) → v ≡ nextTime counter → action ≡ passedOn (side .router) (Time v) → kept register v action ≡ counted side register counter v
   unfolding counted
   follows action e a = rw (eq-eqb v (nextTime counter) e, a)
 
 returns : tie.Need-returns
-returns c = c .outcome .ensures ∙ another _ _ _ _ (λ e. c .before .if1 .taken (omega (arith, e)))
+returns c = c .outcome .ensures ∙ another _ _ _ _ (λ e. c .before .if1 .taken (e ∙ sym (c .before .before .next-time .ensures)))
 
 returns-2 : tie.Need-returns-2
-returns-2 c = c .outcome2 .ensures ∙ follows _ _ _ _ _ (omega (arith, c .before .before .if1 .left)) (c .before .passed-on .ensures)
+returns-2 c = c .outcome2 .ensures ∙ follows _ _ _ _ _ (c .before .before .if1 .left ∙ c .before .before .before .next-time .ensures) (c .before .passed-on .ensures)
 
 outcome-requires : tie.Need-outcome-requires
 outcome-requires c κs = search needs

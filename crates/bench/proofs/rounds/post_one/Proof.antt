@@ -1,5 +1,5 @@
-use mathlib.Core.Bool.{Bool, true, false, false≢true}
-use Prim.Native.Nat.{ℕ, zero, suc, _-_, _≤_, _<_}
+use mathlib.Core.Bool.{Bool, false}
+use Prim.Native.Nat.{ℕ, _-_, _<_}
 use Rattle.bits.specs.declared.Found.{Found}
 use mathlib.Core.Path.{_≡_, sym, ap, _∙_}
 use native.Mathlib.Decide.{ℕ-discrete}
@@ -11,7 +11,7 @@ use Rattle.bits.specs.declared.Found.the-variants.{At, Nowhere}
 use Rattle.codes.specs.Codes.{byteOf}
 use Rattle.state.specs.State.{State, word, put, waiting, timeWaits, lately}
 use Rattle.bench.specs.Round.{nothing, firstWaits, goes, timeGoes, chosen, sends, posts}
-use Rattle.bench.proofs.Stepped.{first-chosen, chosen-place, post-time, post-stamps, post-nothing, post-same, post-interrupt, post-acknowledge, post-leaves}
+use Rattle.bench.proofs.Stepped.{some-waits, first-chosen, chosen-place, post-time, post-stamps, post-nothing, post-same, post-interrupt, post-acknowledge, post-leaves}
 use borrow.Author.Needs.{needs}
 use Rattle.bench.proofs.rounds.post_one.Statement.{statement}
 use Rattle.bench.proofs.rounds.post_one.Tie as tie
@@ -20,12 +20,6 @@ use Rattle.bench.proofs.rounds.post_one.Tie as tie
 is-goes : (old : State) (q : ℕ) {r : Bool} {found : Found} → found ≡ firstWaits old q → r ≡ goes (timeWaits old q) (lately old q) found → timeGoes old q ≡ r
 unfolding timeGoes
 is-goes old q f e = sym (e ∙ ap (goes (timeWaits old q) (lately old q)) f)
-
--- one that goes waits
-goes-waits : (waits late : ℕ) (other : Found) → goes waits late other ≡ true → 1 ≤ waits
-unfolding goes
-goes-waits zero late other e = absurd (false≢true e)
-goes-waits (suc v) late other e = omega arith
 
 -- nothing is found, and no Time-Code goes
 module _ (old : State) (q : ℕ) (r : Found) (e : r ≡ firstWaits old q) (g : timeGoes old q ≡ false) where
@@ -60,7 +54,7 @@ unfolding word
 stays c = is-goes _ _ (c .before .before .before .choice .ensures) (c .before .time-goes .ensures) ∙ c .if1 .left
 
 sub-result : tie.Need-sub-result
-sub-result c = omega (arith, goes-waits _ _ _ (sym (c .before .time-goes .ensures) ∙ c .if1 .taken))
+sub-result c = omega (arith, some-waits _ _ _ (sym (c .before .time-goes .ensures) ∙ c .if1 .taken))
 
 returns-2 : tie.Need-returns-2
 returns-2 c =

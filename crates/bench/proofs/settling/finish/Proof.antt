@@ -9,7 +9,8 @@ use borrow.Author.Tests.{not-true, not-false}
 use Rattle.lists.specs.Table.{table}
 use Rattle.bench.specs.Settling.{pair}
 use Rattle.state.specs.State.{words}
-use Rattle.bench.proofs.SettlingLoop.{of-either, copied-same}
+use Rattle.bench.proofs.RoundSound.{of-either}
+use Rattle.bench.proofs.SettlingLoop.{copied-same}
 use borrow.Author.Needs.{needs}
 use Rattle.bench.proofs.settling.finish.Statement.{statement}
 use Rattle.bench.proofs.settling.finish.Tie as tie
@@ -23,7 +24,7 @@ used c =
 long : (c : tie.Joined1) → length (c .if1 .state) ≡ words
 long c =
     let a = c .before .before .before in
-    ap length (used c) ∙ of-either (λ (l : List ℕ). length l ≡ words) (a .args .home) _ _ (a .pre .0) (a .pre .1)
+    ap length (used c) ∙ of-either (λ (l : List ℕ). length l ≡ words) (a .args .home) (a .pre .0) (a .pre .1)
 
 same-length : tie.Need-same-length
 same-length c = omega (arith, long (c .before .before .before .before))

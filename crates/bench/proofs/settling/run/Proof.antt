@@ -14,8 +14,8 @@ use Rattle.bench.specs.Round.{round}
 use Rattle.bench.specs.inner.Idle.{Blank, Silent}
 use Rattle.bench.specs.Settling.{Quiet}
 use Rattle.bench.proofs.Idles.{held-laid, sound-idles, sound-blank, zeros-blank, silent-repeat}
-use Rattle.bench.proofs.RoundSound.{round-sound, rounds-sound}
-use Rattle.bench.proofs.SettlingLoop.{flip, of-either, of-both, Ran, ran-none, ran-more, settled, spent}
+use Rattle.bench.proofs.RoundSound.{of-either, round-sound, rounds-sound}
+use Rattle.bench.proofs.SettlingLoop.{flip, of-both, Ran, ran-none, ran-more, settled, spent}
 use borrow.Author.Needs.{needs}
 use Rattle.bench.proofs.settling.run.Statement.{statement}
 use Rattle.bench.proofs.settling.run.Tie as tie
@@ -35,7 +35,7 @@ module _ {plan : Plan} (held : Held plan) {s : State} (sound : Sound plan s) {al
     in-use = subst (Sound plan) (sym (k .ran .is)) (rounds-sound plan held s sound n)
 
     other : Blank (devices plan) (cond home second state)
-    other = of-either (Blank (devices plan)) home second state (k .blank-second) (k .blank)
+    other = of-either (Blank (devices plan)) home (k .blank-second) (k .blank)
 
     -- a round leads to the other area, and leaves the one in use
     known-more : {state' second' sent' : List ℕ} → (Quiet (cond home state second) → ⊥) → n < allowance
