@@ -17,6 +17,7 @@ pub mod Flags
 pub mod Slow
 pub mod Timely
 pub mod Distribution
+pub mod Nearest
 pub mod Demand
 pub mod Between
 pub mod Users

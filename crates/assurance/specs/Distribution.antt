@@ -8,7 +8,7 @@ use Rattle.device.specs.Reaction.{nextTime}
 use Rattle.plan.specs.Reading.{Held}
 use Rattle.plan.specs.declared.Plan.{Plan}
 use Rattle.state.specs.State.{State, running, counter, timeWaits}
-use Rattle.state.specs.Network.{router, peer}
+use Rattle.state.specs.Network.{devices, router, peer}
 use Rattle.state.specs.Sound.{Sound}
 use Rattle.calls.specs.Calls.{tickAsks, advanced, Takes, Ticks}
 use Rattle.bench.specs.Round.{ofTime, round, timeGoes}
@@ -104,3 +104,8 @@ Distributes = (plan : Plan) → Held plan → (master D : ℕ) (s : State) (roun
 unfoldable pub DistributesAll : Type 0
 DistributesAll = (plan : Plan) → Held plan → (master D : ℕ) (s u : State) → InStep plan master D s
     → (beats : Beats plan master D s u) → EachArrives plan master D s u beats
+
+-- such a D there always is: to any device that Time-Codes get to there are fewer crossings than there are devices
+unfoldable pub SomeD : Type 0
+SomeD = (plan : Plan) → Held plan → (master : ℕ) → master < devices plan → (s : State) → Sound plan s
+    → (n e : ℕ) → Crosses plan master s n e → (m : ℕ) × (m < devices plan) × Crosses plan master s m e
