@@ -31,6 +31,7 @@ use Rattle.laws.proofs.Apart.{sends-chosen}
 use Rattle.assurance.specs.Demand3.{SendsK}
 use Rattle.assurance.specs.Ticking.{ticking}
 use Rattle.assurance.proofs.Turns.{SameTurn, turn-same, turn-then}
+use Rattle.assurance.proofs.Begun.{Begun}
 use Rattle.assurance.proofs.Choices.{sends-small, sends-inside, sent-waits, waiting-of}
 use Rattle.assurance.proofs.Posted.{posts-sound, posts-late, posts-early, posts-next, posts-timer, posts-marks, posts-waited, posts-wait-late, posts-wait-on}
 use Rattle.assurance.proofs.Entering.{arrives-turns}
@@ -92,17 +93,54 @@ module _ (plan : Plan) (held : Held plan) (kind : ℕ) (g : kind < 2) (d p : ℕ
   room = omega (arith, few plan held)
 
   -- after t rounds, from u on
-  pub record Slow (u : State) (t : ℕ) (s : State) : Type 0 where
+  pub record Ready (u : State) (t : ℕ) (s : State) : Type 0 where
     pub sound : Sound plan s
     pub runs : running s q ≡ 1
     pub start : next s q ≡ t / 2
     pub late : lately s q ≡ t % 2
-    pub time : 1 ≤ timeWaits s q
     pub waits : (j : ℕ) → t / 2 ≤ j → j < 32 → bit (waiting s kind q) j ≡ 1
     -- 31 waits nowhere else, its bits are as at first, and its timers run on
     pub alone : (c r : ℕ) → c < 2 → r < 256 → (c ≡ kind → r ≢ q) → bit (waiting s c r) 31 ≡ 0
     pub marks : (e : ℕ) → e < devices plan → bit (register s e) 31 ≡ bit (register u e) 31
     pub long : (e : ℕ) → e < devices plan → bit (register s e) 31 ≡ 1 → 65 ≤ t + timer s e 31
+
+  -- and a Time-Code waits there
+  pub record Slow (u : State) (t : ℕ) (s : State) : Type 0 where
+    pub ready : Ready u t s
+    pub time : 1 ≤ timeWaits s q
+
+  -- a tick leaves all that, and brings the Time-Code
+  pub ticked-slow : {u s : State} {t : ℕ} → Ready u t s → Slow u t (advanced d s)
+  ticked-slow {s = s} x =
+      let n = few plan held in
+      let small-q : q < 256 = omega (arith, room) in
+      let left : (i : ℕ) → i < portsEnd → word (advanced d s) i ≡ word s i = tick-left d room s in
+      let marks : (e : ℕ) → e < devices plan → bit (register (advanced d s) e) 31 ≡ bit (register s e) 31 = λ e b. ap (λ v. bit v 31) (left (registerAt e) (omega arith)) in
+      record {
+        ready = record {
+          sound = tick-sound plan held s (x .sound) d there;
+          runs = left (portAt q runningAt) (omega arith) ∙ x .runs;
+          start = left (portAt q nextAt) (omega arith) ∙ x .start;
+          late = tick-lately d room s (x .sound .size) q small-q ∙ x .late;
+          waits = λ j b l. ap (λ v. bit v j) (left (portAt q kind) (omega arith)) ∙ x .waits j b l;
+          alone = λ c r f b out. ap (λ v. bit v 31) (left (portAt r c) (omega arith)) ∙ x .alone c r f b out;
+          marks = λ e b. marks e b ∙ x .marks e b;
+          long = λ e b o. omega (arith, left (timerAt e 31) (omega arith), x .long e b (sym (marks e b) ∙ o));
+        };
+        time = omega (arith, tick-waits d p room small s (x .sound .size) (x .runs));
+      }
+
+  -- where 31 has just begun at d, and no other port of d runs, it waits at that port alone
+  pub alone-begun : {s u : State} → Begun plan kind 31 d s u → ((r : ℕ) → r / 8 ≡ d → r ≢ q → running s r ≡ 1 → ⊥)
+      → (c r : ℕ) → c < 2 → r < 256 → (c ≡ kind → r ≢ q) → bit (waiting u c r) 31 ≡ 0
+  alone-begun {u = u} b single c r f l out =
+      elim (ℕ-discrete c kind) [
+        | no ne ↦ let is : c ≡ 1 - kind = omega arith in rw is (b .other r l)
+        | yes is ↦
+            let two = bit-two (waiting u kind r) 31 in
+            let none : bit (waiting u kind r) 31 ≡ 1 → ⊥ = λ o. let new = b .only r l o in single r (new .here) (out is) (new .runs) in
+            rw is (omega arith)
+      ]
 
   module _ {u s : State} {t : ℕ} (h : t < 63) (x : Slow u t s) where
     inside : q < 8 * devices plan
@@ -114,16 +152,16 @@ module _ (plan : Plan) (held : Held plan) (kind : ℕ) (g : kind < 2) (d p : ℕ
     first =
         sym (first-is s q (record {
           place = omega arith;
-          member = omega (arith, waiting-of plan held (t / 2) (omega arith) s q inside kind g, x .waits (t / 2) (omega arith) (omega arith), bit-two (waiting s (1 - kind) q) (t / 2));
-          nearest = λ k l b. rw (x .start) (omega arith);
+          member = omega (arith, waiting-of plan held (t / 2) (omega arith) s q inside kind g, x .ready .waits (t / 2) (omega arith) (omega arith), bit-two (waiting s (1 - kind) q) (t / 2));
+          nearest = λ k l b. rw (x .ready .start) (omega arith);
         }))
 
     -- a Time-Code goes in every other round
     even : t % 2 ≡ 0 → timeGoes s q ≡ true
-    even e = goes-first s q (x .time) (x .late ∙ e) first
+    even e = goes-first s q (x .time) (x .ready .late ∙ e) first
 
     odd : t % 2 ≡ 1 → timeGoes s q ≡ false
-    odd e = goes-second s q (x .late ∙ e) first
+    odd e = goes-second s q (x .ready .late ∙ e) first
 
     -- so 31 is not sent
     unsent : (r : ℕ) → SendsK plan 31 s r → ⊥
@@ -132,7 +170,7 @@ module _ (plan : Plan) (held : Held plan) (kind : ℕ) (g : kind < 2) (d p : ℕ
         let w = sent-waits plan held 31 (omega arith) s r i (y .0) (y .1) (y .2) in
         let c = sends-chosen (omega arith) plan held s r i (y .0) (y .1) (y .2) in
         elim (ℕ-discrete r q) [
-          | no ne ↦ omega (arith, x .alone (y .0) r (y .1) (sends-small plan 31 (y .0) s r (omega arith) (y .1) (y .2)) (λ _. ne), w)
+          | no ne ↦ omega (arith, x .ready .alone (y .0) r (y .1) (sends-small plan 31 (y .0) s r (omega arith) (y .1) (y .2)) (λ _. ne), w)
           | yes here ↦ not-here (rw here at c)
         ]
       where
@@ -153,74 +191,48 @@ module _ (plan : Plan) (held : Held plan) (kind : ℕ) (g : kind < 2) (d p : ℕ
     sets : (j : ℕ) → suc t / 2 ≤ j → j < 32 → bit (waiting posts kind q) j ≡ 1
     sets j b l =
         elim (ℕ-discrete (t % 2) 0) [
-          | yes e ↦ posts-wait-late plan held (x .sound) j l kind q g (omega (arith, room)) inside (even e) (x .waits j (omega arith) l)
+          | yes e ↦ posts-wait-late plan held (x .ready .sound) j l kind q g (omega (arith, room)) inside (even e) (x .ready .waits j (omega arith) l)
           | no ne ↦
-              posts-wait-on plan held (x .sound) j l kind q g (omega (arith, room)) (t / 2) inside (first-chosen s q (odd (omega arith)) ∙ first) (omega arith) (x .waits j (omega arith) l)
+              posts-wait-on plan held (x .ready .sound) j l kind q g (omega (arith, room)) (t / 2) inside (first-chosen s q (odd (omega arith)) ∙ first) (omega arith) (x .ready .waits j (omega arith) l)
         ]
 
     turned : (next posts q ≡ suc t / 2) × (lately posts q ≡ suc t % 2)
     turned =
         elim (ℕ-discrete (t % 2) 0) [
-          | yes e ↦ let y = posts-late plan held (x .sound) q inside (even e) in (omega (arith, y .0, x .start), omega (arith, y .1))
+          | yes e ↦ let y = posts-late plan held (x .ready .sound) q inside (even e) in (omega (arith, y .0, x .ready .start), omega (arith, y .1))
           | no ne ↦
               let c = first-chosen s q (odd (omega arith)) ∙ first in
-              (omega (arith, posts-next plan held (x .sound) q (t / 2) inside c), omega (arith, posts-early plan held (x .sound) q (t / 2) inside c))
+              (omega (arith, posts-next plan held (x .ready .sound) q (t / 2) inside c), omega (arith, posts-early plan held (x .ready .sound) q (t / 2) inside c))
         ]
 
-    next-on : Slow u (suc t) (advanced d after-round)
+    next-on : Ready u (suc t) after-round
     next-on =
         let n = few plan held in
         let small-q : q < 256 = omega (arith, room) in
-        let y = round-sound plan held s (x .sound) in
-        let runs = round-runs plan held q small-q s (x .sound) ∙ x .runs in
-        let apart = unsent-aside plan held 31 (omega arith) (x .sound) unsent .like in
-        let turn = round-turns plan held (x .sound) q small-q in
-        let node-waits = round-waits plan held (x .sound) q small-q (let e : q / 8 ≡ d = omega arith in rw e node) kind g in
-        let left : (i : ℕ) → i < portsEnd → word (advanced d after-round) i ≡ word after-round i = tick-left d room after-round in
-        let kept : (e : ℕ) → e < devices plan → bit (register posts e) 31 ≡ bit (register s e) 31 =
-        λ e b. posts-marks plan held (x .sound) 31 (omega arith) e b (λ o. omega (arith, x .long e b o)) in
-        let marked : (e : ℕ) → e < devices plan → bit (register (advanced d after-round) e) 31 ≡ bit (register s e) 31 =
-        λ e b. ap (λ r. bit r 31) (left (registerAt e) (omega arith)) ∙ apart .marks e (omega arith) ∙ kept e b in
+        let y = x .ready .sound in
+        let apart = unsent-aside plan held 31 (omega arith) y unsent .like in
+        let turn = round-turns plan held y q small-q in
+        let node-waits = round-waits plan held y q small-q (let e : q / 8 ≡ d = omega arith in rw e node) kind g in
+        let marked : (e : ℕ) → e < devices plan → bit (register after-round e) 31 ≡ bit (register s e) 31 =
+        λ e b. apart .marks e (omega arith) ∙ posts-marks plan held y 31 (omega arith) e b (λ o. omega (arith, x .ready .long e b o)) in
         record {
-          sound = tick-sound plan held after-round y d there;
-          runs = left (portAt q runningAt) (omega arith) ∙ runs;
-          start = left (portAt q nextAt) (omega arith) ∙ turn .start ∙ turned .0;
-          late = tick-lately d room after-round (y .size) q small-q ∙ turn .late ∙ turned .1;
-          time = omega (arith, tick-waits d p room small after-round (y .size) runs);
-          waits = λ j b l. ap (λ v. bit v j) (left (portAt q kind) (omega arith) ∙ node-waits) ∙ sets j b l;
+          sound = round-sound plan held s y;
+          runs = round-runs plan held q small-q s y ∙ x .ready .runs;
+          start = turn .start ∙ turned .0;
+          late = turn .late ∙ turned .1;
+          waits = λ j b l. ap (λ v. bit v j) node-waits ∙ sets j b l;
           alone = λ c r f b out.
-              let same = ap (λ v. bit v 31) (left (portAt r c) (omega arith)) ∙ apart .waits c r f b in
-              let none : bit (waiting posts c r) 31 ≡ 1 → ⊥ =
-              λ o. omega (arith, posts-waited plan held (x .sound) 31 (omega arith) c r f b o, x .alone c r f b out) in
+              let same = apart .waits c r f b in
+              let none : bit (waiting posts c r) 31 ≡ 1 → ⊥ = λ o. omega (arith, posts-waited plan held y 31 (omega arith) c r f b o, x .ready .alone c r f b out) in
               omega (arith, same, bit-two (waiting posts c r) 31);
-          marks = λ e b. marked e b ∙ x .marks e b;
+          marks = λ e b. marked e b ∙ x .ready .marks e b;
           long = λ e b o.
-              let timed = left (timerAt e 31) (omega arith) ∙ apart .timers e (omega arith) ∙ posts-timer plan held (x .sound) 31 (omega arith) e b in
-              omega (arith, timed, x .long e b (sym (marked e b) ∙ o));
+              let timed = apart .timers e (omega arith) ∙ posts-timer plan held y 31 (omega arith) e b in
+              omega (arith, timed, x .ready .long e b (sym (marked e b) ∙ o));
         }
 
-  -- all 63 rounds, with a tick before each
-  module _ {u : State} (first : Slow u 0 (advanced d u)) where
-    pub slow : (t : ℕ) → t ≤ 63 → Slow u t (ticking plan d u t)
-    unfolding ticking upTo
-    slow zero h = first
-    slow (suc t) h = next-on h (slow t (omega arith))
-
-  -- from a state in which nothing of that has begun
-  pub begins : (u : State) → Sound plan u → running u q ≡ 1 → next u q ≡ 0 → lately u q ≡ 0 → ((j : ℕ) → j < 32 → bit (waiting u kind q) j ≡ 1)
-      → ((c r : ℕ) → c < 2 → r < 256 → (c ≡ kind → r ≢ q) → bit (waiting u c r) 31 ≡ 0)
-      → ((e : ℕ) → e < devices plan → bit (register u e) 31 ≡ 1 → 65 ≤ timer u e 31) → Slow u 0 (advanced d u)
-  begins u y runs start late waits alone long =
-      let n = few plan held in
-      let left : (i : ℕ) → i < portsEnd → word (advanced d u) i ≡ word u i = tick-left d room u in
-      record {
-        sound = tick-sound plan held u y d there;
-        runs = left (portAt q runningAt) (omega (arith, room)) ∙ runs;
-        start = left (portAt q nextAt) (omega (arith, room)) ∙ start;
-        late = tick-lately d room u (y .size) q (omega (arith, room)) ∙ late;
-        time = omega (arith, tick-waits d p room small u (y .size) runs);
-        waits = λ j b l. ap (λ v. bit v j) (left (portAt q kind) (omega (arith, room))) ∙ waits j l;
-        alone = λ c r f b out. ap (λ v. bit v 31) (left (portAt r c) (omega arith)) ∙ alone c r f b out;
-        marks = λ e b. ap (λ v. bit v 31) (left (registerAt e) (omega arith));
-        long = λ e b o. omega (arith, left (timerAt e 31) (omega arith), long e b (sym (ap (λ v. bit v 31) (left (registerAt e) (omega arith))) ∙ o));
-      }
+  -- all 63 rounds, with a tick before each, from a state in which nothing of that has begun
+  pub slow : (u : State) → Ready u 0 u → (t : ℕ) → t ≤ 63 → Slow u t (ticking plan d u t)
+  unfolding ticking upTo
+  slow u first zero h = ticked-slow first
+  slow u first (suc t) h = ticked-slow (next-on h (slow u first t (omega arith)))

@@ -35,7 +35,7 @@ use Rattle.assurance.proofs.Instances.{ticked as Instances·ticked}
 use Rattle.assurance.proofs.Begun.{Begun, begun}
 use Rattle.assurance.proofs.Taking.{called-took, took-late}
 use Rattle.assurance.proofs.Choices.{runs-joined}
-use Rattle.assurance.proofs.Slow.{slow, begins}
+use Rattle.assurance.proofs.Slow.{Ready, alone-begun, slow}
 use Rattle.cycles.specs.Star.{small, crowded, returning}
 use Rattle.cycles.specs.RateBack.{EnoughBack}
 use Rattle.cycles.proofs.Stars.{small-is}
@@ -136,9 +136,18 @@ late-back : bit (register (returning (crossing - 1)) 0) 31 ≡ 1
 unfolding small returning
 late-back =
     let took = called-took small 1 31 (omega arith) (omega arith) 2 (omega arith) crowded (usual-crowded .sound .size) in
-    let first = begins small (small-is .held) 1 (omega arith) 2 0 there refl (omega arith) full full-sound full-runs (took .turns 16 ∙ others-wait .1)
-    (took-late took 16 ∙ others-wait .2) waits alone long in
-    slow small (small-is .held) 1 (omega arith) 2 0 there refl (omega arith) first (crossing - 1) (omega arith) .marks 0 (omega arith)
+    let first : Ready small (small-is .held) 1 (omega arith) 2 0 there refl (omega arith) full 0 full =
+    record {
+      sound = full-sound;
+      runs = full-runs;
+      start = took .turns 16 ∙ others-wait .1;
+      late = took-late took 16 ∙ others-wait .2;
+      waits = λ j a b. waits j b;
+      alone = alone-begun small (small-is .held) 1 (omega arith) 2 0 there refl (omega arith) full-begun not-other;
+      marks = λ e b. refl;
+      long = long;
+    } in
+    slow small (small-is .held) 1 (omega arith) 2 0 there refl (omega arith) full first (crossing - 1) (omega arith) .ready .marks 0 (omega arith)
     ∙ full-begun .others 0 (omega arith) (omega arith) .0 ∙ holds-at 0 (omega arith) .0
   where
     waits : (j : ℕ) → j < 32 → bit (waiting full 1 16) j ≡ 1
@@ -156,16 +165,6 @@ late-back =
         let joined = runs-joined small (small-is .held) (usual-crowded .sound) r (omega arith) on in
         let e : 8 * suc 1 + suc (r - 17) ≡ r = omega arith in
         omega (arith, small-is .no-more 1 (omega arith) (r - 17) (omega arith), ap (peer small) e)
-
-    alone : (c r : ℕ) → c < 2 → r < 256 → (c ≡ 1 → r ≢ 16) → bit (waiting full c r) 31 ≡ 0
-    alone c r f b out =
-        elim (ℕ-discrete c 1) [
-          | no zero ↦ let is : c ≡ 0 = omega arith in rw is (full-begun .other r b)
-          | yes is ↦
-              let two = bit-two (waiting full 1 r) 31 in
-              let none : bit (waiting full 1 r) 31 ≡ 1 → ⊥ = λ o. let new = full-begun .only r b o in not-other r (new .here) (out is) (new .runs) in
-              rw is (omega arith)
-        ]
 
     long : (e : ℕ) → e < devices small → bit (register full e) 31 ≡ 1 → 65 ≤ timer full e 31
     long e h b =

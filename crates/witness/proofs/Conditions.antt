@@ -35,7 +35,7 @@ use Rattle.witness.specs.Line.{line, deaf, busy, course}
 use Rattle.assurance.proofs.Begun.{call-taken, Begun, begun}
 use Rattle.assurance.proofs.Taking.{called-took, took-late}
 use Rattle.assurance.proofs.Choices.{runs-joined}
-use Rattle.assurance.proofs.Slow.{slow, begins}
+use Rattle.assurance.proofs.Slow.{Ready, alone-begun, slow}
 use Rattle.assurance.proofs.Instances.{farthest-of, ticked}
 use Rattle.witness.proofs.Accepted.{line-held, deaf-held}
 use Rattle.witness.proofs.Busy.{busy-sound, busy-unset, busy-idle, busy-turn, busy-runs, busy-others}
@@ -124,8 +124,18 @@ module _ (plan : Plan) (held : Held plan) (here : 0 < devices plan) where
     unfolding course
     slowly node single loads e h ne =
         let n = few plan held in
-        let x = slow plan held 0 (omega arith) 0 0 here node (omega arith) (begins plan held 0 (omega arith) 0 0 here node (omega arith) full full-sound full-runs
-        (full-turn .0) (full-turn .1) full-waits alone long) (crossing - 1) (omega arith) in
+        let first : Ready plan held 0 (omega arith) 0 0 here node (omega arith) full 0 full =
+        record {
+          sound = full-sound;
+          runs = full-runs;
+          start = full-turn .0;
+          late = full-turn .1;
+          waits = λ j a b. full-waits j b;
+          alone = alone-begun plan held 0 (omega arith) 0 0 here node (omega arith) full-begun not-other;
+          marks = λ i b. refl;
+          long = long;
+        } in
+        let x = slow plan held 0 (omega arith) 0 0 here node (omega arith) full first (crossing - 1) (omega arith) .ready in
         (x .waits 31 (omega arith) (omega arith), x .marks e h ∙ unset e h ne)
       where
         unset : (e : ℕ) → e < devices plan → e ≢ 0 → bit (register full e) 31 ≡ 0
@@ -140,16 +150,6 @@ module _ (plan : Plan) (held : Held plan) (here : 0 < devices plan) where
             let joined = runs-joined plan held (busy-sound plan held here) r (omega arith) runs in
             let e : suc (r - 1) ≡ r = omega arith in
             omega (arith, eqb-true (peer plan (suc (r - 1))) nobody (every-at 7 (λ p. eqb (peer plan (suc p)) nobody) single (r - 1) (omega arith)), ap (peer plan) e)
-
-        alone : (c r : ℕ) → c < 2 → r < 256 → (c ≡ 0 → r ≢ 0) → bit (waiting full c r) 31 ≡ 0
-        alone c r f b out =
-            elim (ℕ-discrete c 0) [
-              | no one ↦ let is : c ≡ 1 = omega arith in rw is (full-begun .other r b)
-              | yes is ↦
-                  let two = bit-two (waiting full 0 r) 31 in
-                  let none : bit (waiting full 0 r) 31 ≡ 1 → ⊥ = λ o. let new = full-begun .only r b o in not-other r (new .here) (out is) (new .runs) in
-                  rw is (omega arith)
-            ]
 
     -- all that is asked
 
