@@ -92,7 +92,7 @@ module _ (plan : Plan) (held : Held plan) (k : ℕ) (l : k < 32) (s : State) (q 
   waiting-of (suc zero) g = omega (arith, bit-or k (waiting s 0 q) (waiting s 1 q))
   waiting-of (suc (suc n)) g = absurd (omega arith)
 
-  -- of what is found where no Time-Code goes
+  -- what is first is found
   found : (c : Found) → firstWaits s q ≡ c → Finds (bitOr (waiting s 0 q) (waiting s 1 q)) (next s q) c
   found c e = rw e at (first-finds s q)
 

@@ -30,7 +30,7 @@ use Rattle.assurance.specs.Distribution.{Others, none, then, tick, carry
 use Rattle.assurance.proofs.Taking.{called-took}
 use Rattle.assurance.proofs.Choices.{runs-there, runs-joined}
 use Rattle.assurance.proofs.Posted.{posts-early, posts-time-on, posts-counter}
-use Rattle.assurance.proofs.Timely.{Gets, gets-device, Timely, has, Goes, goes-inside, goes-only, p-waits, came-leads, Going, going-keeps, going-count, going, gets-in}
+use Rattle.assurance.proofs.Timely.{Gets, gets-device, Timely, has, Goes, goes-inside, goes-only, p-waits, came-leads, came-gets, Going, going-keeps, going-count, going, gets-in}
 
 -- ---- what hosts do meanwhile leaves every word behind the ports
 
@@ -353,12 +353,42 @@ module _ (plan : Plan) (held : Held plan) (master D : ℕ) (s : State) (last : �
       before : (n e : ℕ) → Crosses plan master (at last) n e → Crosses plan master s n e
       before = there-still (at last) s (λ q h. sym (same q h))
 
+  -- a counter that moved is that of a device that Time-Codes get to
+  moved : (e t : ℕ) → e < 32 → t ≤ last → (counter (at t) e ≡ counter s e) ⊎ Reached e
+  unfolding round
+  moved e zero h to =
+      elim (ℕ-discrete e master) [
+        | yes o ↦ inr (rw o reaches-itself)
+        | no ne ↦ inl (begins .behind (counterAt e) (omega arith) ∙ first-else e h ne)
+      ]
+  moved e (suc t) h to =
+      elim (moved e t h (omega arith)) [
+        | inr get ↦ inr get
+        | inl same ↦ elim (y t to .counted e h) [
+          | inl left ↦ inl (counted t to e ∙ left ∙ posts-counter plan held (f t to .sound) e h ∙ same)
+          | inr o ↦ inr (came-gets plan held master there s x c c-small (at t) (f t to) (o .1 .1))
+        ]
+      ]
+
+  only : (e t : ℕ) → e < 32 → t ≤ last
+      → (counter (at t) e ≡ counter s e) ⊎ ((counter (at t) e ≡ v) × ((n : ℕ) × (n ≤ t) × Crosses plan master s n e))
+  unfolding sight
+  only e t h to =
+      elim (moved e t h to) [
+        | inl same ↦ inl same
+        | inr get ↦ elim (fine t to .count e get) [
+          | inl old ↦ inl (old ∙ sym (given .equal (get .0) e (get .1)))
+          | inr new ↦ inr (new, spread .only t to (get, new))
+        ]
+      ]
+
   arrives : Arrives plan master D s last at
   unfolding sight
   arrives =
       record {
         comes = comes;
         once = λ q t u lt to g k. spread .once t u lt to g k;
+        only = only;
         told = λ n e w node ne.
             let sum = told-by e (n, w) node last (le-refl _) in
             let end : has plan held master there s x c c-small (counter (at last) e) ≡ 1 = rw (at-last n e w, eq-eqb v v refl) in

@@ -1,4 +1,4 @@
--- What worked instances need, over any plan: when a plan is held, what rests at the start, how far is farthest, and rounds with no call between them.
+-- What worked instances need, over any plan: when a plan is held, what rests at the start, how far is farthest, and rounds with no call between them, or with a tick before each.
 use mathlib.Core.Path.{_≡_, refl, ap, _∙_}
 use mathlib.Core.Bool.{Bool, true, _&&_}
 use mathlib.Core.List.{List, []}

@@ -205,7 +205,7 @@ module _ (plan : Plan) (held : Held plan) {s : State} (x : Sound plan s) where
   unfolding stamp
   posts-early q j h c = rw (posts-time q h, chosen-first s q c .0, c) (omega arith)
 
-  pub posts-waits : (q kind : ℕ) → q < 8 * devices plan → kind < 2 → waiting posts kind q ≡ left (chosen s q) (waiting s kind q)
+  posts-waits : (q kind : ℕ) → q < 8 * devices plan → kind < 2 → waiting posts kind q ≡ left (chosen s q) (waiting s kind q)
   posts-waits q kind h g =
       let n = few plan held in
       posts-port q kind (left (chosen s q)) h (omega arith) (λ t e. unqueued-waits s q t (omega arith) e kind g)

@@ -51,7 +51,7 @@ same-place e = ap placeOf e
 
 module _ (plan : Plan) (held : Held plan) {s : State} (x : Sound plan s) (q : ℕ) (small : q < 256) where
   -- its turn is as sending left it
-  pub round-turns : SameTurn (afterSending plan s .state) (round plan s .next) q
+  round-turns : SameTurn (afterSending plan s .state) (round plan s .next) q
   unfolding round reached
   round-turns =
       let n = few plan held in
@@ -63,7 +63,7 @@ module _ (plan : Plan) (held : Held plan) {s : State} (x : Sound plan s) (q : �
       (afterSending plan s) (posts-sound plan held x, turn-same _ q) .1
 
   -- and so is what waits there, since a node hands nothing on
-  pub round-waits : router plan (q / 8) ≡ false → (kind : ℕ) → kind < 2 → waiting (round plan s .next) kind q ≡ waiting (afterSending plan s .state) kind q
+  round-waits : router plan (q / 8) ≡ false → (kind : ℕ) → kind < 2 → waiting (round plan s .next) kind q ≡ waiting (afterSending plan s .state) kind q
   unfolding round reached
   round-waits node kind g =
       let n = few plan held in

@@ -153,7 +153,7 @@ module _ (plan : Plan) (held : Held plan) (master : ℕ) (there : master < devic
         peer-back j h l =
             far-end plan held j h (not-absent (exists plan j) (λ e. omega (arith, absent-loose plan held j h e))) l .back
 
-    came-gets : {e j : ℕ} → Came e j → Gets e
+    pub came-gets : {e j : ℕ} → Came e j → Gets e
     came-gets {e} {j} a =
         let y = goes-only (peer plan j) (a .sender) .1 in
         (suc (y .0 .0), cross (peer plan j) (y .0 .1) (y .1) (came-leads a))
@@ -417,7 +417,7 @@ module _ (plan : Plan) (held : Held plan) (master : ℕ) (there : master < devic
           by-test true = queue-times-left (counterAt e) (λ q b. omega arith) v d j room t ∙ has-it
           by-test false = has-it
 
-      pub arrives-here : Goes (peer plan j) → counter (arrives plan (sentBytes plan s) j w .state) d ≡ v
+      arrives-here : Goes (peer plan j) → counter (arrives plan (sentBytes plan s) j w .state) d ≡ v
       arrives-here g =
           arrives-any plan (sentBytes plan s) j room w (λ u. counter (u .state) d ≡ v) (λ none big. absurd (omega (arith, sent-value (peer plan j) g)))
           (λ value h e. let is : value ≡ v = sym e ∙ sent-value (peer plan j) g in rw is (counts-here (record { inside = small; here = refl; sender = g })))

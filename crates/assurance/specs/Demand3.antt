@@ -26,9 +26,12 @@ pub data Calls (plan : Plan) (k : ℕ) (s : State) : State → Type 0 where
   tick : {t u : State} (d number : ℕ) → Calls plan k s t → Ticks plan d t number u → Calls plan k s u
 
 -- so many rounds are played from s on, each with calls after it; `at t` is the state after t rounds and the calls after them
-pub record Course (plan : Plan) (k rounds : ℕ) (s : State) (at : ℕ → State) : Type 0 where
-  pub begins : Calls plan k s (at 0)
-  pub goes-on : (t : ℕ) → t < rounds → Calls plan k (round plan (at t) .next) (at (suc t))
+pub record Played (plan : Plan) (Between : State → State → Type 0) (rounds : ℕ) (s : State) (at : ℕ → State) : Type 0 where
+  pub begins : Between s (at 0)
+  pub goes-on : (t : ℕ) → t < rounds → Between (round plan (at t) .next) (at (suc t))
+
+abbrev pub Course : Plan → ℕ → ℕ → State → (ℕ → State) → Type 0
+Course plan k = Played plan (Calls plan k)
 
 -- ---- the demand
 
@@ -55,7 +58,7 @@ module _ (plan : Plan) (k source D : ℕ) (s : State) where
     pub taken : Ordered (callAsks plan 0 source k s) 0
     -- D is the greatest, over the devices reached, of the least number of crossings to each
     pub farthest : Farthest plan s 0 k source D
-    -- for `window D` rounds nobody requests k again or acknowledges it; other identifiers are used as they may be
+    -- for `window D` rounds nobody requests k again or acknowledges it; other identifiers are used as they may be, and the master ticks as it may
     pub course : Course plan k (window D) (called plan 0 source k s) at
     -- every timer load is longer than that
     pub loads : (d : ℕ) → d < devices plan → window D < loadOf plan d k

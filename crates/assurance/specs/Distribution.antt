@@ -1,7 +1,7 @@
 -- RULES, "How time is distributed": one tick comes to every device, two rounds a crossing, whatever other codes do.
 use mathlib.Core.Path.{_≡_}
 use mathlib.Core.Bool.{true, false}
-use mathlib.Core.Logic.{_≢_}
+use mathlib.Core.Logic.{_⊎_, _≢_}
 use Prim.Native.Nat.{ℕ, suc, _+_, _*_, _/_, _≤_, _<_}
 use Rattle.answers.specs.Ordered.{Ordered}
 use Rattle.device.specs.Reaction.{nextTime}
@@ -14,6 +14,7 @@ use Rattle.calls.specs.Calls.{tickAsks, advanced, Takes, Ticks}
 use Rattle.bench.specs.Round.{ofTime, round, timeGoes}
 use Rattle.laws.specs.Telling.{toldBy}
 use Rattle.flood.specs.Flood.{Net, Crossed}
+use Rattle.assurance.specs.Demand3.{Played}
 
 -- ---- what happens meanwhile
 
@@ -22,11 +23,6 @@ pub data Others (plan : Plan) (s : State) : State → Type 0 where
   none : Others plan s s
   then : {t u : State} (kind d k number : ℕ) → Others plan s t → kind < 2 → Takes plan kind d k t number u → Others plan s u
   tick : {t u : State} (d number : ℕ) → Others plan s t → Ticks plan d t number u → number ≢ 0 → Others plan s u
-
--- so many rounds are played from s on, each with calls after it; `at t` is the state after t rounds and the calls after them
-pub record Passing (plan : Plan) (rounds : ℕ) (s : State) (at : ℕ → State) : Type 0 where
-  pub begins : Others plan s (at 0)
-  pub goes-on : (t : ℕ) → t < rounds → Others plan (round plan (at t) .next) (at (suc t))
 
 -- ---- where Time-Codes go: over every link that runs, as no permission is asked, and on through routers
 
@@ -59,26 +55,28 @@ abbrev pub value : ℕ → State → ℕ
 value master s = nextTime (counter s master)
 
 module _ (plan : Plan) (master D : ℕ) where
-  -- a state in which all are in step
+  -- a state in which all are in step, and none of them needs more than D crossings
   pub record InStep (s : State) : Type 0 where
     pub sound : Sound plan s
     -- no Time-Code waits, and all devices that one gets to have the master's counter
     pub idle : (q : ℕ) → q < 256 → timeWaits s q ≡ 0
     pub equal : (n e : ℕ) → Crosses plan master s n e → counter s e ≡ counter s master
-    -- none of these devices needs more than D crossings
     pub within : (n e : ℕ) → Crosses plan master s n e → (m : ℕ) × (m ≤ D) × Crosses plan master s m e
 
   -- the master's tick is taken, and for so many rounds nobody ticks, no link changes, and no device is reset; all else goes on as it may
   pub record Beat (s : State) (rounds : ℕ) (at : ℕ → State) : Type 0 where
     pub taken : Ordered (tickAsks plan master s) 0
     pub enough : timeWindow D ≤ rounds
-    pub passing : Passing plan rounds (advanced master s) at
+    pub passing : Played plan (Others plan) rounds (advanced master s) at
 
   pub record Arrives (s : State) (rounds : ℕ) (at : ℕ → State) : Type 0 where
     -- a device n crossings away has the value after `timeCrossing` x n rounds, and from then on
     pub comes : (n e t : ℕ) → Crosses plan master s n e → timeCrossing * n ≤ t → t ≤ rounds → counter (at t) e ≡ value master s
-    -- no port sends it twice
+    -- no port sends a Time-Code twice
     pub once : (q t u : ℕ) → t < u → u < rounds → timeGoes (at t) q ≡ true → timeGoes (at u) q ≡ true → ⊥
+    -- no other counter moves, and none sooner than a round for each crossing
+    pub only : (e t : ℕ) → e < 32 → t ≤ rounds
+        → (counter (at t) e ≡ counter s e) ⊎ ((counter (at t) e ≡ value master s) × ((n : ℕ) × (n ≤ t) × Crosses plan master s n e))
     -- the host of each node that it gets to is told of it once, but that of the master never
     pub told : (n e : ℕ) → Crosses plan master s n e → router plan e ≡ false → e ≢ master → toldBy plan ofTime e (value master s) at rounds ≡ 1
     pub master-untold : toldBy plan ofTime master (value master s) at rounds ≡ 0

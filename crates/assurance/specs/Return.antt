@@ -68,7 +68,8 @@ module _ (plan : Plan) (k from to D' : ℕ) (s : State) (at : ℕ → State) whe
     pub handles : bit (handler plan to) k ≡ 1
     pub was-reached : Gets plan k from s to
     pub farthest : FarthestBack plan k from to s D'
-    -- for `window D'` rounds nobody requests k or acknowledges it, no link changes and no device is reset; other identifiers are used as they may be
+    -- for `window D'` rounds nobody requests k or acknowledges it, no link changes and no device is reset; other identifiers are used as they may be, and
+    -- the master ticks as it may
     pub course : Course plan k (window D') (called plan 1 to k s) at
     -- the timer of k in each device reached is greater than these rounds, so that none ends in them
     pub long : (e : ℕ) → Gets plan k from s e → window D' < timer s e k

@@ -149,7 +149,7 @@ copies-more {i = i} {v} {t = t} x l h e =
     }
 
 -- what is so of every place that is theirs, and of every other, is so of all; those of devices, of ports, of counters, and of the ports' Time-Codes
-pub by-theirs : {n : ℕ} (P : ℕ → Type 0) → n ≤ 32 → ((i : ℕ) → i < registerAt n → P i) → ((i : ℕ) → portsAt ≤ i → i < portsPast n → P i)
+by-theirs : {n : ℕ} (P : ℕ → Type 0) → n ≤ 32 → ((i : ℕ) → i < registerAt n → P i) → ((i : ℕ) → portsAt ≤ i → i < portsPast n → P i)
     → ((i : ℕ) → portsEnd ≤ i → i < counterAt n → P i) → ((i : ℕ) → timeAt 0 ≤ i → i < timeAt (8 * n) → P i)
     → ((i : ℕ) → registerAt n ≤ i → (portsAt ≤ i → portsPast n ≤ i) → Behind n i → P i) → (i : ℕ) → P i
 by-theirs {n} P few devices ports counters times others i =

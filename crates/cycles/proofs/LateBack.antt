@@ -1,5 +1,5 @@
--- On the way back, too, the rounds of a crossing are enough and no fewer are: where all other identifiers wait before it, and a Time-Code before each of
--- them, an acknowledge is sent in the last of them.
+-- On the way back, too, the rounds of a crossing are enough and no fewer are: where all other identifiers wait before it, and a Time-Code before each
+-- code, an acknowledge is sent in the last of them.
 use mathlib.Core.Path.{_≡_, refl, sym, ap, _∙_}
 use mathlib.Core.Bool.{Bool, true, _&&_}
 use mathlib.Core.Logic.{_≢_}
@@ -145,7 +145,7 @@ late-back =
       waits = λ j a b. waits j b;
       alone = alone-begun small (small-is .held) 1 (omega arith) 2 0 there refl (omega arith) full-begun not-other;
       marks = λ e b. refl;
-      long = long;
+      long = λ e h b. omega (arith, long e h b);
     } in
     slow small (small-is .held) 1 (omega arith) 2 0 there refl (omega arith) full first (crossing - 1) (omega arith) .ready .marks 0 (omega arith)
     ∙ full-begun .others 0 (omega arith) (omega arith) .0 ∙ holds-at 0 (omega arith) .0

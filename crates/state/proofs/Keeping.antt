@@ -1,4 +1,4 @@
--- What keeps a state sound: a change in the words of one device, in the waiting sets or next of one port, or of the flags at both ends of a link; and emptying any ports.
+-- What keeps a state sound: a change in the words of one device, in the waiting sets or next of one port, in the words behind the ports, or of the flags at both ends of a link; and emptying any ports.
 use mathlib.Core.Path.{_≡_, refl, sym, ap, _∙_}
 use mathlib.Core.Bool.{true, false, false≢true}
 use mathlib.Core.Logic.{_⊎_, inl, inr, _≢_, dite}

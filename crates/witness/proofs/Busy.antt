@@ -1,4 +1,4 @@
--- The first states of the examples are sound, and in them 30 and 31 are unset and wait nowhere.
+-- The first states of the examples are sound, and in them 30 and 31 are unset and wait nowhere; node 0's port has sent nothing.
 use mathlib.Core.Path.{_≡_, refl, sym, _∙_}
 use mathlib.Core.Bool.{true}
 use Prim.Native.Nat.{ℕ, _≤_, _<_}

@@ -133,7 +133,7 @@ module _ (plan : Plan) (held : Held plan) (here : 0 < devices plan) where
           waits = λ j a b. full-waits j b;
           alone = alone-begun plan held 0 (omega arith) 0 0 here node (omega arith) full-begun not-other;
           marks = λ i b. refl;
-          long = long;
+          long = λ i b o. omega (arith, long i b o);
         } in
         let x = slow plan held 0 (omega arith) 0 0 here node (omega arith) full first (crossing - 1) (omega arith) .ready in
         (x .waits 31 (omega arith) (omega arith), x .marks e h ∙ unset e h ne)

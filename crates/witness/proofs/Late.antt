@@ -1,4 +1,4 @@
--- The rounds of a crossing are enough, and no fewer are: where all other identifiers wait before it, and a Time-Code before each of them, a code is sent
+-- The rounds of a crossing are enough, and no fewer are: where all other identifiers wait before it, and a Time-Code before each code, one is sent
 -- in the last of them. So are the rounds of the window: until the last of them a code may wait.
 use mathlib.Core.Path.{_≡_, ap, _∙_}
 use Prim.Native.Nat.{ℕ, _-_, _<_}
