@@ -2,7 +2,7 @@
 use mathlib.Core.Path.{_≡_}
 use mathlib.Core.Bool.{true, false}
 use mathlib.Core.Logic.{_⊎_, _≢_}
-use Prim.Native.Nat.{ℕ, suc, _+_, _*_, _/_, _≤_, _<_}
+use Prim.Native.Nat.{ℕ, _+_, _*_, _/_, _≤_, _<_}
 use Rattle.answers.specs.Ordered.{Ordered}
 use Rattle.device.specs.Reaction.{nextTime}
 use Rattle.plan.specs.Reading.{Held}
@@ -11,7 +11,7 @@ use Rattle.state.specs.State.{State, running, counter, timeWaits}
 use Rattle.state.specs.Network.{devices, router, peer}
 use Rattle.state.specs.Sound.{Sound}
 use Rattle.calls.specs.Calls.{tickAsks, advanced, Takes, Ticks}
-use Rattle.bench.specs.Round.{ofTime, round, timeGoes}
+use Rattle.bench.specs.Round.{ofTime, timeGoes}
 use Rattle.laws.specs.Telling.{toldBy}
 use Rattle.flood.specs.Flood.{Net, Crossed}
 use Rattle.assurance.specs.Demand3.{Played}

@@ -13,7 +13,6 @@ use Rattle.lists.proofs.Loops.{keeps}
 use Rattle.lists.proofs.Facts.{facts}
 use Rattle.lists.proofs.Tests.{and-left, and-right}
 use Rattle.bits.specs.Set.{bit, join, leave}
-use Rattle.bits.proofs.Sets.{bit-two}
 use Rattle.bits.specs.First.{searched, firstFrom, following}
 use Rattle.codes.specs.Codes.{reads}
 use Rattle.device.specs.Permissions.{maySend, mayReceive}

@@ -21,7 +21,6 @@ use Rattle.state.specs.Network.{devices, router, peer, permissions, source, loa
 use Rattle.state.specs.Sound.{Sound}
 use Rattle.calls.specs.Calls.{callAsks, called}
 use Rattle.calls.proofs.Called.{call-sound}
-use Rattle.bits.proofs.Sets.{bit-two}
 use Rattle.state.proofs.Plans.{few}
 use Rattle.laws.specs.Alike.{Alike}
 use Rattle.laws.proofs.Apart.{call-apart}
