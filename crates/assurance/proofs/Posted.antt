@@ -21,12 +21,12 @@ use Rattle.state.specs.Sound.{Sound}
 use Rattle.state.proofs.Words.{length-put, word-same, word-other}
 use Rattle.state.proofs.Plans.{few}
 use Rattle.state.proofs.Keeping.{both-kinds}
-use Rattle.bench.specs.Round.{World, timeGoes, chosen, unqueued, stamped, posts as Round·posts, ticked, posted, afterTimers, afterSending}
-use Rattle.bench.proofs.Ticks.{tick-other, ticked-sound}
+use Rattle.bench.specs.Round.{World, timeGoes, chosen, unqueued, stamped, posts as Round·posts, fallen, posted, afterTimers, afterSending}
+use Rattle.bench.proofs.Falls.{fall-other, fallen-sound}
 use Rattle.bench.proofs.Stepped.{chosen-first, time-chosen}
 use Rattle.bench.proofs.Unqueued.{posted-sound, posted-left, stamped-other, stamped-size}
 use Rattle.laws.specs.Alike.{SendsIt}
-use Rattle.laws.proofs.Timers.{turn, timed-bit, ticked-timer}
+use Rattle.laws.proofs.Timers.{turn, timed-bit, fallen-timer}
 use Rattle.laws.proofs.Apart.{sends-chosen}
 use Rattle.assurance.proofs.Choices.{waits-owned}
 use Rattle.assurance.proofs.Fits.{Fit}
@@ -125,18 +125,18 @@ module _ (plan : Plan) (held : Held plan) {s : State} (x : Sound plan s) where
   posts = afterSending plan s .state
 
   falls-sound : Sound plan falls
-  falls-sound = ticked-sound plan held start x
+  falls-sound = fallen-sound plan held start x
 
   pub posts-sound : Sound plan posts
   posts-sound = posted-sound plan held s x falls falls-sound
 
   -- the timers leave every word of a port
   falls-left : (i : ℕ) → portsAt ≤ i → word falls i ≡ word s i
-  unfolding ticked
+  unfolding fallen
   falls-left i h =
       let n = few plan held in
       untouched (turn plan) (λ v. word (v .state) i) (32 * devices plan)
-      (λ j v b. tick-other (router plan (j / 32)) (j / 32) (j % 32) v i (omega arith) (omega arith)) start
+      (λ j v b. fall-other (router plan (j / 32)) (j / 32) (j % 32) v i (omega arith) (omega arith)) start
 
   pub posts-runs : (q : ℕ) → q < 256 → running posts q ≡ running s q
   unfolding posted
@@ -218,7 +218,7 @@ module _ (plan : Plan) (held : Held plan) {s : State} (x : Sound plan s) where
     pub posts-timer : (d : ℕ) → d < devices plan → timer posts d k ≡ timer s d k - 1
     posts-timer d h =
         let n = few plan held in
-        posted-left plan held s (timerAt d k) falls (omega arith) (omega arith) ∙ ticked-timer plan held d k h l start x
+        posted-left plan held s (timerAt d k) falls (omega arith) (omega arith) ∙ fallen-timer plan held d k h l start x
 
     -- a timer that does not end leaves its bit
     pub posts-marks : (d : ℕ) → d < devices plan → (bit (register s d) k ≡ 1 → 1 < timer s d k) → bit (register posts d) k ≡ bit (register s d) k
@@ -226,7 +226,7 @@ module _ (plan : Plan) (held : Held plan) {s : State} (x : Sound plan s) where
         let n = few plan held in
         let same : register posts d ≡ register falls d = posted-left plan held s (registerAt d) falls (omega arith) (omega arith) in
         let now = timed-bit (falls-sound .timers d k h (omega arith) l) in
-        let fell : timer falls d k ≡ timer s d k - 1 = ticked-timer plan held d k h l start x in
+        let fell : timer falls d k ≡ timer s d k - 1 = fallen-timer plan held d k h l start x in
         ap (λ v. bit v k) same ∙ elim (ℕ-discrete (bit (register s d) k) 1) [
           | yes e ↦ let more = long e in now .1 (omega arith) ∙ sym e
           | no ne ↦

@@ -26,7 +26,7 @@ use Rattle.bench.proofs.Stepped.{goes-waits, post-time, sends-time}
 use Rattle.bench.proofs.RoundSound.{taking, takes, counts, isNew, arrives-any, arrives-sound}
 use Rattle.laws.specs.Telling.{times}
 use Rattle.laws.proofs.Apart.{sent-at}
-use Rattle.laws.proofs.Telling.{once, times-more, times-other, ticks-told}
+use Rattle.laws.proofs.Telling.{once, times-more, times-other, falls-told}
 use Rattle.flood.specs.Flood.{Net, Relays, here, cross}
 use Rattle.assurance.specs.Distribution.{carrying, Crosses}
 use Rattle.assurance.proofs.Taking.{took}
@@ -427,7 +427,7 @@ module _ (plan : Plan) (held : Held plan) (master : ℕ) (there : master < devic
 
     -- before the arrivals no host was told of a Time-Code
     first-told : (e : ℕ) → e < 32 → times (toldWord ofTime e v) (afterTimers plan s .told) ≡ 0
-    first-told e h = ticks-told plan held s (toldWord ofTime e v) (λ d j a b. omega arith)
+    first-told e h = falls-told plan held s (toldWord ofTime e v) (λ d j a b. omega arith)
 
     going-first : Going (afterSending plan s)
     going-first =

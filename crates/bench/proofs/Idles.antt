@@ -21,14 +21,14 @@ use Rattle.plan.proofs.BothWays.{held-few}
 use Rattle.state.specs.State.{State, words, word, put, deviceWords, portsAt, portsEnd, registerAt, timerAt, timer, counterAt, timeAt}
 use Rattle.state.specs.Network.{devices, portsOf, exists, peer}
 use Rattle.state.specs.Sound.{Sound}
-use Rattle.bench.specs.Round.{World, nothing, sentWords, tick, sentBytes, arrives, round}
+use Rattle.bench.specs.Round.{World, nothing, sentWords, fall, sentBytes, arrives, round}
 use Rattle.bench.specs.inner.Idle.{Rests, Unused, portsPast, Behind, Blank, Idles, Laid, Copies, Silent}
 use Rattle.bench.specs.inner.Shown.{Seen, seen, Follows}
-use Rattle.bench.proofs.Ticks.{tick-other}
+use Rattle.bench.proofs.Falls.{fall-other}
 use Rattle.state.proofs.Plans.{few, owned, absent-loose}
 use Rattle.state.proofs.Words.{word-past, length-put, word-same, word-other}
 use Rattle.state.proofs.Parts.{by-place, by-behind}
-use Rattle.bench.proofs.Stepped.{tick-idle, goes-not, chosen-none, post-nothing, arrives-nothing}
+use Rattle.bench.proofs.Stepped.{fall-idle, goes-not, chosen-none, post-nothing, arrives-nothing}
 use Rattle.bench.proofs.Following.{world, follows-still, shows-none}
 
 -- ---- timers
@@ -38,36 +38,36 @@ sound-rests x d h g = record { rests = λ k l. x .timers d k h g l .off }
 
 -- of one device: from timer i to timer m none runs
 pub rests-follows : (isRouter : Bool) (d : ℕ) {x y : Seen} {i m : ℕ} → i ≤ m → ((k : ℕ) → i ≤ k → k < m → timer (x .state) d k ≡ 0)
-    → Follows (upTo (tick isRouter d) i) x y → Follows (upTo (tick isRouter d) m) x y
+    → Follows (upTo (fall isRouter d) i) x y → Follows (upTo (fall isRouter d) m) x y
 rests-follows isRouter d {i = i} l h p =
-    follows-still (tick isRouter d) p l
+    follows-still (fall isRouter d) p l
     (λ w e k a b.
-    let same : timer (upTo (tick isRouter d) i w .state) d k ≡ timer (w .state) d k =
-    untouched (tick isRouter d) (λ v. timer (v .state) d k) i (λ j v c. tick-other isRouter d j v (timerAt d k) (omega arith) (omega arith)) w in
-    tick-idle isRouter d k _ _ (same ∙ ap (λ (s : State). timer s d k) e ∙ h k a b))
+    let same : timer (upTo (fall isRouter d) i w .state) d k ≡ timer (w .state) d k =
+    untouched (fall isRouter d) (λ v. timer (v .state) d k) i (λ j v c. fall-other isRouter d j v (timerAt d k) (omega arith) (omega arith)) w in
+    fall-idle isRouter d k _ _ (same ∙ ap (λ (s : State). timer s d k) e ∙ h k a b))
 
 -- of all devices, by device then identifier
 module _ (isRouter : ℕ → Bool) where
-  abbrev pub ticks : ℕ → World → World
-  ticks i = tick (isRouter (i / 32)) (i / 32) (i % 32)
+  abbrev pub falls : ℕ → World → World
+  falls i = fall (isRouter (i / 32)) (i / 32) (i % 32)
 
-  pub ticks-of : (d k : ℕ) (w : World) → k < 32 → ticks (32 * d + k) w ≡ tick (isRouter d) d k w
-  ticks-of d k w l =
+  pub falls-of : (d k : ℕ) (w : World) → k < 32 → falls (32 * d + k) w ≡ fall (isRouter d) d k w
+  falls-of d k w l =
       let device : (32 * d + k) / 32 ≡ d = omega arith in
       let place : (32 * d + k) % 32 ≡ k = omega arith in
       rw (device, place)
 
   -- those of the devices before d leave its words
-  ticks-leave : (d i : ℕ) (w : World) → registerAt d ≤ i → word (upTo ticks (32 * d) w .state) i ≡ word (w .state) i
-  ticks-leave d i w h =
-      untouched ticks (λ v. word (v .state) i) (32 * d)
-      (λ j v b. tick-other (isRouter (j / 32)) (j / 32) (j % 32) v i (omega arith) (omega arith)) w
+  falls-leave : (d i : ℕ) (w : World) → registerAt d ≤ i → word (upTo falls (32 * d) w .state) i ≡ word (w .state) i
+  falls-leave d i w h =
+      untouched falls (λ v. word (v .state) i) (32 * d)
+      (λ j v b. fall-other (isRouter (j / 32)) (j / 32) (j % 32) v i (omega arith) (omega arith)) w
 
   -- so when its turn comes, it rests as at first
-  pub rests-yet : {s t : State} {a b : List ℕ} {n : ℕ} (d : ℕ) → Rests s d → Follows (upTo ticks (32 * d)) (seen s a 0) (seen t b n) → Rests t d
+  pub rests-yet : {s t : State} {a b : List ℕ} {n : ℕ} (d : ℕ) → Rests s d → Follows (upTo falls (32 * d)) (seen s a 0) (seen t b n) → Rests t d
   rests-yet {s} {t} {a} d r p =
       let is : (i : ℕ) → registerAt d ≤ i → word t i ≡ word s i =
-      λ i h. ap (λ (u : State). word u i) (p .follows a (world s []) (shows-none s a) .state) ∙ ticks-leave d i (world s []) h in
+      λ i h. ap (λ (u : State). word u i) (p .follows a (world s []) (shows-none s a) .state) ∙ falls-leave d i (world s []) h in
       record {
         rests = λ k l z.
             is (timerAt d k) (omega arith) ∙ r .rests k l (sym (ap (λ (v : ℕ). bit v k) (is (registerAt d) (omega arith))) ∙ z);

@@ -1,3 +1,4 @@
+pub mod Falls
 pub mod Following
 pub mod Idles
 pub mod RoundReturns
@@ -5,7 +6,6 @@ pub mod RoundSound
 pub mod SettlingLoop
 pub mod Stepped
 pub mod ThreeSteps
-pub mod Ticks
 pub mod ToldRoom
 pub mod Tried
 pub mod Unique

@@ -32,7 +32,7 @@ use Rattle.bench.specs.Settling.{rounds}
 use Rattle.state.proofs.Words.{length-put, word-other, put-word}
 use Rattle.state.proofs.Plans.{few}
 use Rattle.state.proofs.Marks.{mark-step}
-use Rattle.bench.proofs.Ticks.{ticked-sound}
+use Rattle.bench.proofs.Falls.{fallen-sound}
 use Rattle.state.proofs.Waits.{queue-all-sound}
 use Rattle.state.proofs.Times.{counter-step, queue-time-sound, length-times, queue-times-left}
 use Rattle.bench.proofs.Unqueued.{posted-sound}
@@ -231,7 +231,7 @@ module _ (plan : Plan) (held : Held plan) where
   unfolding round
   round-sound s x =
       reached-sound (sentBytes plan s) (afterSending plan s)
-      (posted-sound plan held s x (afterTimers plan s .state) (ticked-sound plan held (record { state = s; told = [] }) x))
+      (posted-sound plan held s x (afterTimers plan s .state) (fallen-sound plan held (record { state = s; told = [] }) x))
 
   -- any number of them
   pub rounds-sound : (s : State) → Sound plan s → (n : ℕ) → Sound plan (rounds plan n s)

@@ -23,35 +23,35 @@ use Rattle.device.specs.declared.Action.the-variants.{Forwarded, Told}
 use Rattle.plan.specs.declared.Plan.{Plan}
 use Rattle.state.specs.State.{State, put, word, registerAt, timerAt, portAt, register, timer, waiting, nextAt, next, counterAt, counter, timeAt, timeWaits, lately}
 use Rattle.state.specs.Network.{router, peer, loadOf}
-use Rattle.bench.specs.Round.{World, nothing, ofTimeout, toldWord, tick, firstWaits, goes, timeGoes, chosen, sentWord, sends, unqueued, stamped, posts, timed, forwarded, tells, sideAt, acted, arrived, arrives}
+use Rattle.bench.specs.Round.{World, nothing, ofTimeout, toldWord, fall, firstWaits, goes, timeGoes, chosen, sentWord, sends, unqueued, stamped, posts, timed, forwarded, tells, sideAt, acted, arrived, arrives}
 use Rattle.state.proofs.Words.{word-other}
 use Rattle.bench.proofs.Following.{world}
 
 -- ---- 1. timers
 
 module _ (isRouter : Bool) (d k : ℕ) (s : State) (told : List ℕ) where
-  pub tick-idle : timer s d k ≡ 0 → tick isRouter d k (world s told) ≡ world s told
-  unfolding tick
-  tick-idle e = rw (e, tick)
+  pub fall-idle : timer s d k ≡ 0 → fall isRouter d k (world s told) ≡ world s told
+  unfolding fall
+  fall-idle e = rw (e, fall)
 
-  pub tick-falls : (timer s d k ≡ 0 → ⊥) → (timer s d k ≡ 1 → ⊥) → tick isRouter d k (world s told) ≡ world (put s (timerAt d k) (timer s d k - 1)) told
-  unfolding tick
-  tick-falls p q = by-left (timer s d k) refl
+  pub fall-on : (timer s d k ≡ 0 → ⊥) → (timer s d k ≡ 1 → ⊥) → fall isRouter d k (world s told) ≡ world (put s (timerAt d k) (timer s d k - 1)) told
+  unfolding fall
+  fall-on p q = by-left (timer s d k) refl
     where
-      by-left : (t : ℕ) → timer s d k ≡ t → tick isRouter d k (world s told) ≡ world (put s (timerAt d k) (timer s d k - 1)) told
+      by-left : (t : ℕ) → timer s d k ≡ t → fall isRouter d k (world s told) ≡ world (put s (timerAt d k) (timer s d k - 1)) told
       by-left zero e = absurd (p e)
       by-left (suc zero) e = absurd (q e)
-      by-left (suc (suc t)) e = rw (e, ne-eqb (suc t) 0 (omega arith), tick) (ap (λ (v : ℕ). world (put s (timerAt d k) v) told) (omega arith))
+      by-left (suc (suc t)) e = rw (e, ne-eqb (suc t) 0 (omega arith), fall) (ap (λ (v : ℕ). world (put s (timerAt d k) v) told) (omega arith))
 
   -- the bit is cleared
   module _ (r : ℕ) (e : timer s d k ≡ 1) (is : r ≡ leave (register s d) k) where
-    pub tick-ends : isRouter ≡ true → tick isRouter d k (world s told) ≡ world (put (put s (registerAt d) r) (timerAt d k) 0) told
-    unfolding tick
-    tick-ends h = rw (e, h, is, tick)
+    pub fall-ends : isRouter ≡ true → fall isRouter d k (world s told) ≡ world (put (put s (registerAt d) r) (timerAt d k) 0) told
+    unfolding fall
+    fall-ends h = rw (e, h, is, fall)
 
-    pub tick-tells : isRouter ≡ false → tick isRouter d k (world s told) ≡ world (put (put s (registerAt d) r) (timerAt d k) 0) (told ++ (toldWord ofTimeout d k ∷ []))
-    unfolding tick
-    tick-tells h = rw (e, h, is, tick)
+    pub fall-tells : isRouter ≡ false → fall isRouter d k (world s told) ≡ world (put (put s (registerAt d) r) (timerAt d k) 0) (told ++ (toldWord ofTimeout d k ∷ []))
+    unfolding fall
+    fall-tells h = rw (e, h, is, fall)
 
 -- ---- 2. sending
 

@@ -4,13 +4,13 @@ use mathlib.Core.List.{List, []}
 use Prim.Native.Nat.{ℕ}
 use Rattle.plan.specs.declared.Plan.{Plan}
 use Rattle.state.specs.State.{State}
-use Rattle.bench.specs.Round.{ticked, posted, sentBytes, reached, afterSending, round}
+use Rattle.bench.specs.Round.{fallen, posted, sentBytes, reached, afterSending, round}
 use Rattle.bench.specs.inner.Shown.{seen, Shows, Follows, Played}
 use Rattle.bench.proofs.Following.{shown-none, world}
 
 pub played-by : {plan : Plan} {old first second third last : State} {bytes before middle after : List ℕ} {n m : ℕ}
     → first ≡ old
-    → Follows (ticked plan) (seen first before 0) (seen second middle n)
+    → Follows (fallen plan) (seen first before 0) (seen second middle n)
     → third ≡ posted plan old second
     → bytes ≡ sentBytes plan old
     → Follows (reached plan bytes) (seen third middle n) (seen last after m)

@@ -23,9 +23,9 @@ use Rattle.plan.specs.declared.Plan.{Plan}
 use Rattle.state.specs.State.{State, timer}
 use Rattle.state.specs.Network.{devices, router, portsOf, peer}
 use Rattle.state.proofs.Plans.{few, node-ports, absent-loose}
-use Rattle.bench.specs.Round.{World, ofTimeout, toldWord, tick, tells, acted, arrived, ticked, sentBytes, arrives, reached, afterTimers, afterSending, round, nothing, sentWords}
+use Rattle.bench.specs.Round.{World, ofTimeout, toldWord, fall, tells, acted, arrived, fallen, sentBytes, arrives, reached, afterTimers, afterSending, round, nothing, sentWords}
 use Rattle.bench.specs.RoundCall.{toldWords}
-use Rattle.bench.proofs.Stepped.{tick-idle, tick-falls, tick-ends, tick-tells, arrives-nothing, arrives-byte}
+use Rattle.bench.proofs.Stepped.{fall-idle, fall-on, fall-ends, fall-tells, arrives-nothing, arrives-byte}
 
 -- ---- a node has its first two ports at most, and nobody is the peer of a port that it lacks
 
@@ -65,28 +65,28 @@ module _ (load : ℕ → ℕ) (permissions : List ℕ) (q : ℕ) (side : Side) (
   reacts-silent (Interrupt k) = ruled-silent 0 k (Interrupt k)
   reacts-silent (Acknowledge k) = ruled-silent 1 k (Acknowledge k)
 
-tick-most : (isRouter : Bool) (d k : ℕ) (w : World) → length (tick isRouter d k w .told) ≤ length (w .told) + 1
-tick-most isRouter d k w =
+fall-most : (isRouter : Bool) (d k : ℕ) (w : World) → length (fall isRouter d k w .told) ≤ length (w .told) + 1
+fall-most isRouter d k w =
     elim (ℕ-discrete (timer (w .state) d k) 0) [
-      | yes z ↦ omega (arith, ap (λ (x : World). length (x .told)) (tick-idle isRouter d k (w .state) (w .told) z))
+      | yes z ↦ omega (arith, ap (λ (x : World). length (x .told)) (fall-idle isRouter d k (w .state) (w .told) z))
       | no z ↦
           elim (ℕ-discrete (timer (w .state) d k) 1) [
             | yes o ↦ by-role isRouter o
-            | no o ↦ omega (arith, ap (λ (x : World). length (x .told)) (tick-falls isRouter d k (w .state) (w .told) z o))
+            | no o ↦ omega (arith, ap (λ (x : World). length (x .told)) (fall-on isRouter d k (w .state) (w .told) z o))
           ]
     ]
   where
-    by-role : (b : Bool) → timer (w .state) d k ≡ 1 → length (tick b d k w .told) ≤ length (w .told) + 1
-    by-role true o = omega (arith, ap (λ (x : World). length (x .told)) (tick-ends true d k (w .state) (w .told) _ o refl refl))
-    by-role false o = omega (arith, ap (λ (x : World). length (x .told)) (tick-tells false d k (w .state) (w .told) _ o refl refl), length-append (w .told) (toldWord ofTimeout d k ∷ []))
+    by-role : (b : Bool) → timer (w .state) d k ≡ 1 → length (fall b d k w .told) ≤ length (w .told) + 1
+    by-role true o = omega (arith, ap (λ (x : World). length (x .told)) (fall-ends true d k (w .state) (w .told) _ o refl refl))
+    by-role false o = omega (arith, ap (λ (x : World). length (x .told)) (fall-tells false d k (w .state) (w .told) _ o refl refl), length-append (w .told) (toldWord ofTimeout d k ∷ []))
 
 -- ---- what the loops tell
 
-ticks-most : (f : ℕ → World → World) → ((i : ℕ) (w : World) → length (f i w .told) ≤ length (w .told) + 1) → (n : ℕ) (w : World)
+falls-most : (f : ℕ → World → World) → ((i : ℕ) (w : World) → length (f i w .told) ≤ length (w .told) + 1) → (n : ℕ) (w : World)
     → length (upTo f n w .told) ≤ length (w .told) + n
 unfolding upTo
-ticks-most f h zero w = omega arith
-ticks-most f h (suc n) w = omega (arith, ticks-most f h n w, h n (upTo f n w))
+falls-most f h zero w = omega arith
+falls-most f h (suc n) w = omega (arith, falls-most f h n w, h n (upTo f n w))
 
 module _ (plan : Plan) (held : Held plan) (sent : List ℕ) (none : getD sent nobody nothing ≡ nothing) where
   -- at most one word
@@ -128,10 +128,10 @@ unfolding sentBytes
 length-sent plan old = length-table sentWords _
 
 pub told-fits : (plan : Plan) (old : State) → Held plan → length (round plan old .told) ≤ toldWords
-unfolding round ticked reached
+unfolding round fallen reached
 told-fits plan old h =
     let n = few plan h in
     let none : getD (sentBytes plan old) nobody nothing ≡ nothing = List·getD-eq-default (sentBytes plan old) nothing (omega (arith, length-sent plan old)) in
     let timeouts : length (afterTimers plan old .told) ≤ 32 * devices plan =
-    omega (arith, ticks-most (λ i. tick (router plan (i / 32)) (i / 32) (i % 32)) (λ i w. tick-most (router plan (i / 32)) (i / 32) (i % 32) w) (32 * devices plan) (record { state = old; told = [] })) in
+    omega (arith, falls-most (λ i. fall (router plan (i / 32)) (i / 32) (i % 32)) (λ i w. fall-most (router plan (i / 32)) (i / 32) (i % 32) w) (32 * devices plan) (record { state = old; told = [] })) in
     omega (arith, timeouts, reached-most plan h (sentBytes plan old) none (8 * devices plan) (afterSending plan old) (omega arith))

@@ -47,8 +47,8 @@ toldWord kind d k = 65536 * kind + 256 * d + k
 
 -- ---- 1. timers: one that runs goes down by 1; where it comes to 0 its bit goes too, and a node tells its host
 
-unfoldable pub tick : Bool → ℕ → ℕ → World → World
-tick isRouter d k w =
+unfoldable pub fall : Bool → ℕ → ℕ → World → World
+fall isRouter d k w =
     elim (timer (w .state) d k) [
       | zero ↦ w
       | suc t ↦
@@ -170,8 +170,8 @@ sentWords = 256
 
 module _ (plan : Plan) where
   -- by device, then identifier
-  unfoldable pub ticked : World → World
-  ticked w = upTo (λ i. tick (router plan (i / 32)) (i / 32) (i % 32)) (32 * devices plan) w
+  unfoldable pub fallen : World → World
+  fallen w = upTo (λ i. fall (router plan (i / 32)) (i / 32) (i % 32)) (32 * devices plan) w
 
   -- a word for each of 256 ports, at 8 x d + p the byte sent
   unfoldable pub sentBytes : State → List ℕ
@@ -192,7 +192,7 @@ module _ (plan : Plan) where
 
   module _ (old : State) where
     abbrev pub afterTimers : World
-    afterTimers = ticked (record { state = old; told = [] })
+    afterTimers = fallen (record { state = old; told = [] })
 
     abbrev pub afterSending : World
     afterSending = record { state = posted old (afterTimers .state); told = afterTimers .told }

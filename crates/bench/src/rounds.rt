@@ -9,7 +9,7 @@ ghost use Rattle.lists.specs.Loop.{upTo};
 ghost use Rattle.plan.specs.declared.Plan.{Plan};
 ghost use Rattle.state.specs.State.{words};
 ghost use Rattle.state.specs.Network.{loadFor};
-ghost use Rattle.bench.specs.Round.{toldWord, nothing, sentWords, tick, firstWaits, goes, sends, posts, timed, forwarded, tells, acted, arrived, sentBytes, posted, reached, areas};
+ghost use Rattle.bench.specs.Round.{toldWord, nothing, sentWords, fall, firstWaits, goes, sends, posts, timed, forwarded, tells, acted, arrived, sentBytes, posted, reached, areas};
 ghost use Rattle.bench.specs.RoundCall.{Plays};
 ghost use Rattle.bench.specs.inner.Idle.{Rests, Blank, Laid, Idles, Copies, Silent};
 ghost use Rattle.bench.specs.inner.Shown.{Notes, seen, Follows, Played};
@@ -68,7 +68,7 @@ fn tell(told: &mut [u32], count: usize, kind: u32, d: usize, k: u32) -> usize
 // ---- 1. timers
 
 // Timer k of device d goes down by 1; where it comes to 0 its bit goes too, and a node tells its host.
-fn tick_one(
+fn fall_one(
     router: bool,
     d: usize,
     k: u32,
@@ -77,7 +77,7 @@ fn tick_one(
     count: usize,
 ) -> usize
     requires { ⌜ (length (now state) ≡ words) × (d < 32) × (k < 32) × (count < 4096) ⌝ }
-    ensures { λ r. ⌜ Follows (tick router d k) (seen (now (state .entry)) (now (told .entry)) count) (seen (now (state .exit)) (now (told .exit)) r) × (r ≤ count + 1) ⌝ }
+    ensures { λ r. ⌜ Follows (fall router d k) (seen (now (state .entry)) (now (told .entry)) count) (seen (now (state .exit)) (now (told .exit)) r) × (r ≤ count + 1) ⌝ }
 {
     let at = DEVICE * d + 1 + k as usize;
     let left = state[at];
@@ -99,28 +99,28 @@ fn tick_one(
 
 // The timers of device d, in the order of their identifiers. One whose bit is clear does not run, and
 // is passed over.
-fn tick_device(router: bool, d: usize, state: &mut [u32], told: &mut [u32], count: usize) -> usize
+fn fall_device(router: bool, d: usize, state: &mut [u32], told: &mut [u32], count: usize) -> usize
     requires { ⌜ (length (now state) ≡ words) × (d < 32) × (count ≤ 1024) × Rests (now state) d ⌝ }
-    ensures { λ r. ⌜ Follows (upTo (tick router d) 32) (seen (now (state .entry)) (now (told .entry)) count) (seen (now (state .exit)) (now (told .exit)) r) × (r ≤ count + 32) ⌝ }
+    ensures { λ r. ⌜ Follows (upTo (fall router d) 32) (seen (now (state .entry)) (now (told .entry)) count) (seen (now (state .exit)) (now (told .exit)) r) × (r ≤ count + 32) ⌝ }
 {
     let mut count = count;
     let mut rest = state[DEVICE * d];
     while rest != 0 {
         let k = u32::trailing_zeros(rest);
-        count = tick_one(router, d, k, state, told, count);
+        count = fall_one(router, d, k, state, told, count);
         rest = bits::leave(rest, k);
     }
     count
 }
 
 // All timers, by device then identifier.
-fn tick_all(n: usize, role: &[u8; 32], state: &mut [u32], told: &mut [u32]) -> usize
+fn fall_all(n: usize, role: &[u8; 32], state: &mut [u32], told: &mut [u32]) -> usize
     requires { ⌜ (length (now state) ≡ words) × (n ≤ 32) × ((d : ℕ) → d < n → Rests (now state) d) ⌝ }
-    ensures { λ r. ⌜ Follows (upTo (λ i. tick (eqb (getD (now (role .entry)) (i / 32) 0) 1) (i / 32) (i % 32)) (32 * n)) (seen (now (state .entry)) (now (told .entry)) 0) (seen (now (state .exit)) (now (told .exit)) r) × (r ≤ 32 * n) ⌝ }
+    ensures { λ r. ⌜ Follows (upTo (λ i. fall (eqb (getD (now (role .entry)) (i / 32) 0) 1) (i / 32) (i % 32)) (32 * n)) (seen (now (state .entry)) (now (told .entry)) 0) (seen (now (state .exit)) (now (told .exit)) r) × (r ≤ 32 * n) ⌝ }
 {
     let mut count: usize = 0;
     for d in 0..n {
-        count = tick_device(role[d] == 1, d, state, told, count);
+        count = fall_device(role[d] == 1, d, state, told, count);
     }
     count
 }
@@ -386,7 +386,7 @@ pub(crate) fn play(
     ensures { λ r. ⌜ Played (record { core = core; peers = now (peers .entry) }) (now (old .entry)) (now (told .entry)) (now (next .exit)) (now (sent .exit)) (now (told .exit)) r ⌝ }
 {
     bring(core.devices, old, next);
-    let count = tick_all(core.devices, &core.role, next, told);
+    let count = fall_all(core.devices, &core.role, next, told);
     post_all(core, peers, old, next, sent);
     arrive_all(core, peers, sent, next, told, count)
 }

@@ -18,7 +18,7 @@ use Rattle.state.specs.Network.{loadFor}
 use Rattle.state.specs.Queue.{queueAt, queueAllAt}
 use Rattle.state.specs.Mark.{mark}
 use Rattle.calls.specs.Calls.{called}
-use Rattle.bench.specs.Round.{ofInterrupt, tick, firstWaits, goes, timeGoes, stamped, chosen, sentWord, sends, unqueued, timed, forwarded, tells, acted, arrived, ticked, sentBytes, posted, arrives, reached, round}
+use Rattle.bench.specs.Round.{ofInterrupt, fall, firstWaits, goes, timeGoes, stamped, chosen, sentWord, sends, unqueued, timed, forwarded, tells, acted, arrived, fallen, sentBytes, posted, arrives, reached, round}
 use Rattle.laws.specs.Telling.{times, toldBy}
 use Rattle.assurance.specs.Demand3.{none, window, Given}
 use Rattle.assurance.specs.Cycle.{AtRest, Ends, AsSoon}
@@ -47,7 +47,7 @@ abbrev comesTo : State → Bool
 comesTo s = resting star 1 s && (let w = hears 2 (called star 0 1 1 s) in again w && idles star 1 (hear star ofInterrupt 3 1 w .state))
 
 computed : comesTo before ≡ true
-unfolding before star hear heard times every upTo table joined bit join leave searched firstFrom following reads maySend mayReceive marked ruled counted reactsTo reacts word put stateOf loadFor queueAt queueAllAt called mark tick firstWaits goes timeGoes stamped chosen sentWord sends unqueued timed forwarded tells acted arrived ticked sentBytes posted arrives reached round
+unfolding before star hear heard times every upTo table joined bit join leave searched firstFrom following reads maySend mayReceive marked ruled counted reactsTo reacts word put stateOf loadFor queueAt queueAllAt called mark fall firstWaits goes timeGoes stamped chosen sentWord sends unqueued timed forwarded tells acted arrived fallen sentBytes posted arrives reached round
 computed = refl
 
 abbrev two : Heard

@@ -24,13 +24,13 @@ use Rattle.state.specs.Mark.{mark}
 use Rattle.state.specs.Sound.{Sound}
 use Rattle.calls.specs.Calls.{called}
 use Rattle.calls.proofs.Called.{call-sound}
-use Rattle.bench.specs.Round.{tick, firstWaits, goes, timeGoes, stamped, chosen, sentWord, sends, unqueued, timed, forwarded, tells, acted, arrived, ticked, sentBytes, posted, arrives, reached, round}
+use Rattle.bench.specs.Round.{fall, firstWaits, goes, timeGoes, stamped, chosen, sentWord, sends, unqueued, timed, forwarded, tells, acted, arrived, fallen, sentBytes, posted, arrives, reached, round}
 use Rattle.laws.proofs.Apart.{alike-same, call-apart}
 use Rattle.reach.proofs.Distances.{walk-device}
 use Rattle.assurance.specs.Demand3.{none, Course, crossing, window}
 use Rattle.assurance.specs.Return.{Return, Gets, Given}
 use Rattle.assurance.proofs.Return.{return-trip}
-use Rattle.assurance.proofs.Instances.{ticked as Instances·ticked}
+use Rattle.assurance.proofs.Instances.{ticked}
 use Rattle.assurance.proofs.Begun.{Begun, begun}
 use Rattle.assurance.proofs.Taking.{called-took, took-late}
 use Rattle.assurance.proofs.Choices.{runs-joined}
@@ -60,7 +60,7 @@ abbrev comesBack : State → Bool
 comesBack s = holding s && idles small 31 s && waits-all s
 
 computed : comesBack crowded ≡ true
-unfolding crowded small every upTo table joined bit join leave searched firstFrom following reads maySend mayReceive marked ruled counted reactsTo reacts word put stateOf loadFor queueAt queueAllAt called mark tick firstWaits goes timeGoes stamped chosen sentWord sends unqueued timed forwarded tells acted arrived ticked sentBytes posted arrives reached round
+unfolding crowded small every upTo table joined bit join leave searched firstFrom following reads maySend mayReceive marked ruled counted reactsTo reacts word put stateOf loadFor queueAt queueAllAt called mark fall firstWaits goes timeGoes stamped chosen sentWord sends unqueued timed forwarded tells acted arrived fallen sentBytes posted arrives reached round
 computed = refl
 
 before-it : (holding crowded && idles small 31 crowded) ≡ true
@@ -105,7 +105,7 @@ full-runs = full-begun .runs 16 (omega arith) ∙ runs
 
 course-back : (n : ℕ) → Course small 31 n full returning
 unfolding small returning
-course-back = Instances·ticked small (small-is .held) 2 0 there refl (omega arith) 31 none full-sound full-runs
+course-back = ticked small (small-is .held) 2 0 there refl (omega arith) 31 none full-sound full-runs
 
 given-back : Given small 31 1 2 2 crowded returning
 unfolding small bit

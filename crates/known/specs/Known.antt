@@ -20,7 +20,7 @@ use Rattle.state.specs.Start.{started}
 use Rattle.state.specs.Queue.{queueAt, queueAllAt}
 use Rattle.state.specs.Mark.{mark}
 use Rattle.calls.specs.Calls.{called}
-use Rattle.bench.specs.Round.{nothing, tick, firstWaits, goes, timeGoes, stamped, chosen, sentWord, sends, unqueued, timed, forwarded, tells, acted, arrived, ticked, sentBytes, posted, arrives, reached, round}
+use Rattle.bench.specs.Round.{nothing, fall, firstWaits, goes, timeGoes, stamped, chosen, sentWord, sends, unqueued, timed, forwarded, tells, acted, arrived, fallen, sentBytes, posted, arrives, reached, round}
 use Rattle.bench.specs.Settling.{rounds}
 
 -- node 0, a source of every identifier, and router 1; loads of 1, all permissions
@@ -101,5 +101,5 @@ stated =
     }
 
 pub known-values : computed ≡ stated
-unfolding computed stated valuesFrom link just choice clocks sixth upTo table joined bit join leave searched firstFrom following reads maySend mayReceive marked ruled counted reactsTo reacts word put stateOf loadFor queueAt queueAllAt mark called tick firstWaits goes timeGoes stamped chosen sentWord sends unqueued timed forwarded tells acted arrived ticked sentBytes posted arrives reached round
+unfolding computed stated valuesFrom link just choice clocks sixth upTo table joined bit join leave searched firstFrom following reads maySend mayReceive marked ruled counted reactsTo reacts word put stateOf loadFor queueAt queueAllAt mark called fall firstWaits goes timeGoes stamped chosen sentWord sends unqueued timed forwarded tells acted arrived fallen sentBytes posted arrives reached round
 known-values = refl

@@ -35,12 +35,12 @@ use Rattle.state.specs.Queue.{sendsAt, queueAt, queueBut, queueAllAt}
 use Rattle.state.specs.Mark.{loaded, mark}
 use Rattle.calls.specs.Calls.{called, advanced}
 use Rattle.calls.proofs.Called.{tick-left, tick-size}
-use Rattle.bench.specs.Round.{World, nothing, sentWords, tick, timeGoes, chosen, sends, unqueued, stamped, posts, timed, forwarded, sideAt, acted, arrived, ticked, sentBytes, posted, arrives, reached, afterTimers, afterSending, round}
+use Rattle.bench.specs.Round.{World, nothing, sentWords, fall, timeGoes, chosen, sends, unqueued, stamped, posts, timed, forwarded, sideAt, acted, arrived, fallen, sentBytes, posted, arrives, reached, afterTimers, afterSending, round}
 use Rattle.laws.specs.Alike.{Alike, SendsIt, SendAlike}
 use Rattle.state.proofs.Words.{length-put, word-same, word-other, put-word}
 use Rattle.state.proofs.Plans.{few}
 use Rattle.bench.proofs.Unqueued.{stamped-other, stamped-size}
-use Rattle.bench.proofs.Ticks.{ended, tick-cases}
+use Rattle.bench.proofs.Falls.{ended, fall-cases}
 use Rattle.bench.proofs.RoundSound.{after, arrives-cases}
 use Rattle.bench.proofs.Stepped.{chosen-place, post-none, post-interrupt, post-acknowledge}
 use Rattle.laws.proofs.Timers.{turn}
@@ -146,25 +146,25 @@ left-both {k} l x y = leave-same x k l ∙ sym (leave-same y k l)
 -- ---- 1. timers: those of another identifier, and its own
 
 module _ {k : ℕ} (l : k < 32) (isRouter : Bool) (d : ℕ) (h : d < 32) where
-  tick-aside : (j : ℕ) → j < 32 → j ≢ k → (w : World) {t : State} → Both k (w .state) t → Both k (tick isRouter d j w .state) t
-  tick-aside j m ne w {t} p =
-      tick-cases isRouter d j w (λ v. Both k (v .state) t) (λ e. p)
+  fall-aside : (j : ℕ) → j < 32 → j ≢ k → (w : World) {t : State} → Both k (w .state) t → Both k (fall isRouter d j w .state) t
+  fall-aside j m ne w {t} p =
+      fall-cases isRouter d j w (λ v. Both k (v .state) t) (λ e. p)
       (λ e. timer-aside l
       (register-aside l p d (leave (register (w .state) d) j) h (leave-other (register (w .state) d) j k l (λ o. ne (sym o)) ∙ p .like .marks d h))
       d j 0 h m ne)
       (λ n e. timer-aside l p d j (suc n) h m ne)
 
-  tick-both : (w v : World) → Both k (w .state) (v .state) → Both k (tick isRouter d k w .state) (tick isRouter d k v .state)
-  tick-both w v p =
+  fall-both : (w v : World) → Both k (w .state) (v .state) → Both k (fall isRouter d k w .state) (fall isRouter d k v .state)
+  fall-both w v p =
       let e = p .like .timers d h in
-      tick-cases isRouter d k w (λ x. Both k (x .state) (tick isRouter d k v .state))
-      (λ a. tick-cases isRouter d k v (λ y. Both k (w .state) (y .state)) (λ b. p) (λ b. absurd (omega arith)) (λ n b. absurd (omega arith)))
-      (λ a. tick-cases isRouter d k v (λ y. Both k (ended isRouter d k w .state) (y .state)) (λ b. absurd (omega arith))
+      fall-cases isRouter d k w (λ x. Both k (x .state) (fall isRouter d k v .state))
+      (λ a. fall-cases isRouter d k v (λ y. Both k (w .state) (y .state)) (λ b. p) (λ b. absurd (omega arith)) (λ n b. absurd (omega arith)))
+      (λ a. fall-cases isRouter d k v (λ y. Both k (ended isRouter d k w .state) (y .state)) (λ b. absurd (omega arith))
       (λ b. timer-both l
       (register-both l p d (leave (register (w .state) d) k) (leave (register (v .state) d) k) h (left-both l (register (w .state) d) (register (v .state) d)))
       d k 0 0 h l (λ o. refl))
       (λ n b. absurd (omega arith)))
-      (λ n a. tick-cases isRouter d k v (λ y. Both k (put (w .state) (timerAt d k) (suc n)) (y .state)) (λ b. absurd (omega arith)) (λ b. absurd (omega arith))
+      (λ n a. fall-cases isRouter d k v (λ y. Both k (put (w .state) (timerAt d k) (suc n)) (y .state)) (λ b. absurd (omega arith)) (λ b. absurd (omega arith))
       (λ m b. timer-both l p d k (suc n) (suc m) h l (λ o. omega arith)))
 
 -- ---- 2. sending
@@ -389,16 +389,16 @@ module _ {k : ℕ} (l : k < 32) (plan : Plan) (held : Held plan) (old : State) (
 -- ---- a round
 
 module _ (plan : Plan) (held : Held plan) {k : ℕ} (l : k < 32) where
-  ticked-both : (w v : World) → Both k (w .state) (v .state) → Both k (ticked plan w .state) (ticked plan v .state)
-  unfolding ticked
-  ticked-both w v p =
+  fallen-both : (w v : World) → Both k (w .state) (v .state) → Both k (fallen plan w .state) (fallen plan v .state)
+  unfolding fallen
+  fallen-both w v p =
       let n = few plan held in
       keeps-both (turn plan) (turn plan) (λ x y. Both k (x .state) (y .state)) (32 * devices plan)
       (λ i x y b r. elim (ℕ-discrete (i % 32) k) [
-        | yes e ↦ rw e (tick-both l (router plan (i / 32)) (i / 32) (omega arith) x y r)
+        | yes e ↦ rw e (fall-both l (router plan (i / 32)) (i / 32) (omega arith) x y r)
         | no ne ↦
             let aside : (z : World) (u : State) → Both k (z .state) u → Both k (turn plan i z .state) u =
-            λ z u o. tick-aside l (router plan (i / 32)) (i / 32) (omega arith) (i % 32) (omega arith) ne z o in
+            λ z u o. fall-aside l (router plan (i / 32)) (i / 32) (omega arith) (i % 32) (omega arith) ne z o in
             back (aside y (turn plan i x .state) (back (aside x (y .state) r)))
       ])
       w v p
@@ -444,7 +444,7 @@ pub identifiers-apart : (plan : Plan) → Held plan → (s t : State) → Sound 
 unfolding round
 identifiers-apart plan held s t x y k l like same =
     let timers =
-    ticked-both plan held l (record { state = s; told = [] }) (record { state = t; told = [] })
+    fallen-both plan held l (record { state = s; told = [] }) (record { state = t; told = [] })
     (record { like = like; left = x .size; right = y .size }) in
     let posts = posted-both plan held l s t same (afterTimers plan s .state) (afterTimers plan t .state) timers in
     reached-both plan held l s t same (afterSending plan s) (afterSending plan t) posts .like

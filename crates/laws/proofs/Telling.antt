@@ -23,19 +23,19 @@ use Rattle.state.specs.State.{State, words, put, registerAt, timerAt, register,
 use Rattle.state.specs.Network.{devices, router, peer}
 use Rattle.state.specs.Sound.{Sound}
 use Rattle.state.specs.Mark.{mark}
-use Rattle.bench.specs.Round.{World, ofInterrupt, ofAcknowledge, ofTimeout, ofTime, toldWord, ticked, sentBytes, arrives, reached, afterTimers, afterSending, round}
+use Rattle.bench.specs.Round.{World, ofInterrupt, ofAcknowledge, ofTimeout, ofTime, toldWord, fallen, sentBytes, arrives, reached, afterTimers, afterSending, round}
 use Rattle.state.proofs.Words.{word-same, word-other}
 use Rattle.state.proofs.Plans.{few}
 use Rattle.state.proofs.Keeping.{both-kinds}
 use Rattle.state.proofs.Waits.{queue-all-left}
-use Rattle.bench.proofs.Ticks.{tick-cases}
+use Rattle.bench.proofs.Falls.{fall-cases}
 use Rattle.bench.proofs.Unqueued.{posted-sound, posted-left}
 use Rattle.bench.proofs.RoundSound.{taking, Beside, arrives-taken, arrives-cases, arrives-sound}
 use Rattle.laws.specs.Alike.{SendsIt}
 use Rattle.laws.specs.Telling.{times, toldIn, toldBy}
 use Rattle.laws.specs.Timing.{accepts, action, before, incoming, AcceptedAt, NoneAccepted}
 use Rattle.laws.proofs.Accepting.{arrives-left, arrives-opens}
-use Rattle.laws.proofs.Timers.{timed-bit, turn, turn-sound, ticked-came, beside-came, arrives-more, reached-came}
+use Rattle.laws.proofs.Timers.{timed-bit, turn, turn-sound, fallen-came, beside-came, arrives-more, reached-came}
 
 -- ---- how often a word stands in a list
 
@@ -161,13 +161,13 @@ module _ (plan : Plan) (held : Held plan) (s : State) (x : Sound plan s) (d k : 
             omega (arith, told ofInterrupt, told ofAcknowledge, told ofTimeout)
       ]
 
-  tick-even : (i : ℕ) (v : World) → i < 32 * devices plan → Sound plan (v .state) → Even s d k v → Even s d k (turn plan i v)
-  tick-even i v b y even =
+  fall-even : (i : ℕ) (v : World) → i < 32 * devices plan → Sound plan (v .state) → Even s d k v → Even s d k (turn plan i v)
+  fall-even i v b y even =
       let n = few plan held in
       let e = i / 32 in
       let j = i % 32 in
       let r = register (v .state) e in
-      tick-cases (router plan e) e j v (Even s d k) (λ o. even)
+      fall-cases (router plan e) e j v (Even s d k) (λ o. even)
       (λ o.
       let on = timed-bit (y .timers e j (omega arith) (omega arith) (omega arith)) .1 (omega arith) in
       turned-even ofTimeout e j (omega arith) (omega arith) v _
@@ -189,12 +189,12 @@ module _ (plan : Plan) (held : Held plan) (s : State) (x : Sound plan s) (d k : 
 
   pub told-balance : bit (register (round plan s .next) d) k + (toldIn plan ofAcknowledge d k s + toldIn plan ofTimeout d k s)
       ≡ bit (register s d) k + toldIn plan ofInterrupt d k s
-  unfolding round reached ticked toldIn times
+  unfolding round reached fallen toldIn times
   told-balance =
       let n = few plan held in
       let timers : Sound plan (afterTimers plan s .state) × Even s d k (afterTimers plan s) =
       keeps (turn plan) (λ v. Sound plan (v .state) × Even s d k v) (32 * devices plan)
-      (λ i v b y. (turn-sound plan held i v b (y .0), tick-even i v b (y .0) (y .1))) (record { state = s; told = [] }) (x, omega arith) in
+      (λ i v b y. (turn-sound plan held i v b (y .0), fall-even i v b (y .0) (y .1))) (record { state = s; told = [] }) (x, omega arith) in
       keeps (arrives plan (sentBytes plan s)) (λ v. Sound plan (v .state) × Even s d k v) (8 * devices plan)
       (λ q v b y. (arrives-sound plan held (sentBytes plan s) q (omega arith) v (y .0), arrives-even q v b (y .0) (y .1))) (afterSending plan s) (
         posted-sound plan held s x (afterTimers plan s .state) (timers .0),
@@ -221,12 +221,12 @@ module _ (plan : Plan) (kind d k : ℕ) (s : State) where
   some-told = some-times (toldWord kind d k) (round plan s .told)
 
 -- of timers no code: a word that is no timeout's is not told
-pub ticks-told : (plan : Plan) → Held plan → (s : State) (word : ℕ) → ((e j : ℕ) → e < 32 → j < 32 → toldWord ofTimeout e j ≢ word) → times word (afterTimers plan s .told) ≡ 0
-unfolding ticked times
-ticks-told plan held s word other =
+pub falls-told : (plan : Plan) → Held plan → (s : State) (word : ℕ) → ((e j : ℕ) → e < 32 → j < 32 → toldWord ofTimeout e j ≢ word) → times word (afterTimers plan s .told) ≡ 0
+unfolding fallen times
+falls-told plan held s word other =
     let n = few plan held in
     untouched (turn plan) (λ v. times word (v .told)) (32 * devices plan)
-    (λ i v b. tick-cases (router plan (i / 32)) (i / 32) (i % 32) v (λ u. times word (u .told) ≡ times word (v .told)) (λ e. refl)
+    (λ i v b. fall-cases (router plan (i / 32)) (i / 32) (i % 32) v (λ u. times word (u .told) ≡ times word (v .told)) (λ e. refl)
     (λ e. times-other word (toldWord ofTimeout (i / 32) (i % 32)) (other (i / 32) (i % 32) (omega arith) (omega arith)) (router plan (i / 32)) (v .told)) (λ t e. refl))
     (record { state = s; told = [] })
 
@@ -241,14 +241,14 @@ module _ (plan : Plan) (held : Held plan) (s : State) (x : Sound plan s) (d k : 
       (λ q v b. arrives-taken plan (sentBytes plan s) q (omega arith) v (λ u. times word (u .told) ≡ times word (v .told)) (λ shut u a. beside-times word a (omega arith))
       (λ c j f m e o. times-other word (toldWord (ofInterrupt + c) (q / 8) j) (λ is. none (peer plan q) (omega arith)) (router plan (q / 8)) (v .told)))
       (afterSending plan s)
-      ∙ ticks-told plan held s (toldWord (ofInterrupt + kind) d k) (λ e j a b. omega arith)
+      ∙ falls-told plan held s (toldWord (ofInterrupt + kind) d k) (λ e j a b. omega arith)
 
   -- no timeout where the timer does not end
   pub no-timeout : timer s d k ≢ 1 → toldIn plan ofTimeout d k s ≡ 0
   unfolding round
   no-timeout runs =
       let untold : List·Memᴰ (toldWord ofTimeout d k) (round plan s .told) → ⊥ =
-      λ m. elim (ticked-came plan held d k h l (record { state = s; told = [] }) x (reached-came plan held (afterSending plan s) d k (omega (arith, few plan held)) l (sentBytes plan s) m)) [
+      λ m. elim (fallen-came plan held d k h l (record { state = s; told = [] }) x (reached-came plan held (afterSending plan s) d k (omega (arith, few plan held)) l (sentBytes plan s) m)) [
         | inl a ↦ List·Memᴰ·not-nil a
         | inr c ↦ runs (c .0)
       ] in
@@ -301,7 +301,7 @@ module _ (plan : Plan) (held : Held plan) (s : State) (x : Sound plan s) (d k : 
   unfolding round reached
   told-accepted m =
       elim (came (arrives plan sent) (λ v. Unit {0}) (8 * devices plan) (λ q v b u. tt) (λ v. List·Memᴰ word (v .told)) Came (λ q v b u. turn-came q v b) (afterSending plan s) tt m) [
-        | inl a ↦ absurd (omega (arith, times-some word a, ticks-told plan held s word (λ e j u v. omega (arith, few plan held))))
+        | inl a ↦ absurd (omega (arith, times-some word a, falls-told plan held s word (λ e j u v. omega (arith, few plan held))))
         | inr c ↦
             let q = c .0 in
             let here = c .2 .0 in

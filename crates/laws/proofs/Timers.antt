@@ -23,47 +23,47 @@ use Rattle.bench.specs.Settling.{rounds}
 use Rattle.state.specs.Sound.{Timed, Sound}
 use Rattle.state.specs.Mark.{mark}
 use Rattle.calls.specs.Calls.{called}
-use Rattle.bench.specs.Round.{World, ofInterrupt, ofTimeout, ofTime, toldWord, nothing, tick, ticked, sentBytes, arrives, reached, afterTimers, afterSending, afterArrivals, round}
+use Rattle.bench.specs.Round.{World, ofInterrupt, ofTimeout, ofTime, toldWord, nothing, fall, fallen, sentBytes, arrives, reached, afterTimers, afterSending, afterArrivals, round}
 use Rattle.state.proofs.Words.{length-put, word-same}
 use Rattle.state.proofs.Plans.{few, load-fits}
 use Rattle.state.proofs.Keeping.{both-kinds}
 use Rattle.state.proofs.Marks.{mark-other}
 use Rattle.state.proofs.Waits.{queue-all-left}
-use Rattle.bench.proofs.Ticks.{tick-cases, tick-other, tick-step, ticked-sound}
+use Rattle.bench.proofs.Falls.{fall-cases, fall-other, fall-step, fallen-sound}
 use Rattle.bench.proofs.Unqueued.{posted-sound, posted-left}
 use Rattle.bench.proofs.RoundSound.{Beside, arrives-cases, arrives-sound, round-sound, rounds-sound}
 use Rattle.calls.proofs.Called.{call-sound}
 use Rattle.laws.specs.Timing.{accepts, action, before, incoming, AcceptedAt, NoneAccepted, Unaccepted, Unsent, Loaded, Undisturbed, Fell}
 use Rattle.laws.proofs.Accepting.{arrives-left, arrives-found, arrives-loads}
 
--- ---- one tick
+-- ---- one timer
 
 module _ (isRouter : Bool) (d k : ℕ) (w : World) where
   -- its own timer falls by one, if it runs
-  tick-own : length (w .state) ≡ words → d < 32 → k < 32 → timer (tick isRouter d k w .state) d k ≡ timer (w .state) d k - 1
-  tick-own size h l =
-      tick-cases isRouter d k w (λ v. timer (v .state) d k ≡ timer (w .state) d k - 1) (λ e. omega arith)
+  fall-own : length (w .state) ≡ words → d < 32 → k < 32 → timer (fall isRouter d k w .state) d k ≡ timer (w .state) d k - 1
+  fall-own size h l =
+      fall-cases isRouter d k w (λ v. timer (v .state) d k ≡ timer (w .state) d k - 1) (λ e. omega arith)
       (λ e. word-same _ (timerAt d k) 0 (omega (arith, length-put (w .state) (registerAt d) (leave (register (w .state) d) k))) ∙ omega arith)
       (λ t e. word-same (w .state) (timerAt d k) (suc t) (omega arith) ∙ omega arith)
 
   -- what was told stays told
-  tick-more : (v : ℕ) → List·Memᴰ v (w .told) → List·Memᴰ v (tick isRouter d k w .told)
-  tick-more v m = tick-cases isRouter d k w (λ u. List·Memᴰ v (u .told)) (λ e. m) (λ e. by-role isRouter) (λ t e. m)
+  fall-more : (v : ℕ) → List·Memᴰ v (w .told) → List·Memᴰ v (fall isRouter d k w .told)
+  fall-more v m = fall-cases isRouter d k w (λ u. List·Memᴰ v (u .told)) (λ e. m) (λ e. by-role isRouter) (λ t e. m)
     where
       by-role : (r : Bool) → List·Memᴰ v (cond r (w .told) (w .told ++ (toldWord ofTimeout d k ∷ [])))
       by-role true = m
       by-role false = Memᴰ·append-left (toldWord ofTimeout d k ∷ []) m
 
   -- a node's timer that ends is told
-  tick-tells : isRouter ≡ false → timer (w .state) d k ≡ 1 → List·Memᴰ (toldWord ofTimeout d k) (tick isRouter d k w .told)
-  tick-tells node o =
-      tick-cases isRouter d k w (λ u. List·Memᴰ (toldWord ofTimeout d k) (u .told)) (λ e. absurd (omega arith))
+  fall-tells : isRouter ≡ false → timer (w .state) d k ≡ 1 → List·Memᴰ (toldWord ofTimeout d k) (fall isRouter d k w .told)
+  fall-tells node o =
+      fall-cases isRouter d k w (λ u. List·Memᴰ (toldWord ofTimeout d k) (u .told)) (λ e. absurd (omega arith))
       (λ e. rw node (Memᴰ·append-right (w .told) (List·Memᴰ·head refl))) (λ t e. absurd (omega arith))
 
   -- and nothing else
-  tick-came : (v : ℕ) → List·Memᴰ v (tick isRouter d k w .told) → List·Memᴰ v (w .told) ⊎ ((v ≡ toldWord ofTimeout d k) × (timer (w .state) d k ≡ 1) × (isRouter ≡ false))
-  tick-came v =
-      tick-cases isRouter d k w
+  fall-came : (v : ℕ) → List·Memᴰ v (fall isRouter d k w .told) → List·Memᴰ v (w .told) ⊎ ((v ≡ toldWord ofTimeout d k) × (timer (w .state) d k ≡ 1) × (isRouter ≡ false))
+  fall-came v =
+      fall-cases isRouter d k w
       (λ u. List·Memᴰ v (u .told) → List·Memᴰ v (w .told) ⊎ ((v ≡ toldWord ofTimeout d k) × (timer (w .state) d k ≡ 1) × (isRouter ≡ false)))
       (λ e m. inl m) (λ e. by-role e isRouter refl) (λ t e m. inl m)
     where
@@ -72,7 +72,7 @@ module _ (isRouter : Bool) (d k : ℕ) (w : World) where
       by-role o true e m = inl m
       by-role o false e m = elim (List·Memᴰ·append-cases (w .told) m) [ inl a ↦ inl a | inr b ↦ inr (List·Memᴰ·eq-of-singleton b, o, e) ]
 
--- ---- all ticks
+-- ---- all timers
 
 -- a sound state's bit says whether the timer runs
 pub timed-bit : {s : State} {d k : ℕ} → Timed s d k → (timer s d k ≡ 0 → bit (register s d) k ≡ 0) × (1 ≤ timer s d k → bit (register s d) k ≡ 1)
@@ -83,12 +83,12 @@ timed-bit {s} {d} {k} t =
       | no ne ↦ let on = t .on (omega arith) in omega arith
     ]
 
--- the turns of `ticked`
+-- the turns of `fallen`
 abbrev pub turn : Plan → ℕ → World → World
-turn plan i = tick (router plan (i / 32)) (i / 32) (i % 32)
+turn plan i = fall (router plan (i / 32)) (i / 32) (i % 32)
 
 pub turn-sound : (plan : Plan) → Held plan → (i : ℕ) (v : World) → i < 32 * devices plan → Sound plan (v .state) → Sound plan (turn plan i v .state)
-turn-sound plan held i v b y = tick-step plan held y (i / 32) (omega arith) (router plan (i / 32)) (i % 32) (v .told) (omega arith)
+turn-sound plan held i v b y = fall-step plan held y (i / 32) (omega arith) (router plan (i / 32)) (i % 32) (v .told) (omega arith)
 
 module _ (plan : Plan) (held : Held plan) (d k : ℕ) (h : d < devices plan) (l : k < 32) where
   -- that of this timer, and the others
@@ -99,34 +99,34 @@ module _ (plan : Plan) (held : Held plan) (d k : ℕ) (h : d < devices plan) (l 
       rw (a, b) p
 
   turn-other : (i : ℕ) (v : World) → i ≢ 32 * d + k → timer (turn plan i v .state) d k ≡ timer (v .state) d k
-  turn-other i v ne = tick-other (router plan (i / 32)) (i / 32) (i % 32) v (timerAt d k) (omega arith) (omega arith)
+  turn-other i v ne = fall-other (router plan (i / 32)) (i / 32) (i % 32) v (timerAt d k) (omega arith) (omega arith)
 
   module _ (w : World) (x : Sound plan (w .state)) where
-    pub ticked-timer : timer (ticked plan w .state) d k ≡ timer (w .state) d k - 1
-    unfolding ticked
-    ticked-timer =
+    pub fallen-timer : timer (fallen plan w .state) d k ≡ timer (w .state) d k - 1
+    unfolding fallen
+    fallen-timer =
         let n = few plan held in
         own (turn plan) (λ v. Sound plan (v .state)) (32 * devices plan) (turn-sound plan held) (λ v. timer (v .state) d k) (λ t. t - 1) (32 * d + k) (omega arith)
         (λ i v b ne y. turn-other i v ne)
-        (λ v y. turn-here (λ e j. timer (tick (router plan e) e j v .state) d k ≡ timer (v .state) d k - 1)
-        (tick-own (router plan d) d k v (y .size) (omega arith) l))
+        (λ v y. turn-here (λ e j. timer (fall (router plan e) e j v .state) d k ≡ timer (v .state) d k - 1)
+        (fall-own (router plan d) d k v (y .size) (omega arith) l))
         w x
 
     -- until its turn, it stands as it stood
     before-turn : timer (upTo (turn plan) (32 * d + k) w .state) d k ≡ timer (w .state) d k
     before-turn = untouched (turn plan) (λ v. timer (v .state) d k) (32 * d + k) (λ i v b. turn-other i v (omega arith)) w
 
-    ticked-tells : router plan d ≡ false → timer (w .state) d k ≡ 1 → List·Memᴰ (toldWord ofTimeout d k) (ticked plan w .told)
-    unfolding ticked upTo
-    ticked-tells node o =
+    fallen-tells : router plan d ≡ false → timer (w .state) d k ≡ 1 → List·Memᴰ (toldWord ofTimeout d k) (fallen plan w .told)
+    unfolding fallen upTo
+    fallen-tells node o =
         keeps-from (turn plan) (λ v. List·Memᴰ (toldWord ofTimeout d k) (v .told)) (suc (32 * d + k)) (32 * devices plan) (omega arith)
-        (λ i v a b m. tick-more (router plan (i / 32)) (i / 32) (i % 32) v (toldWord ofTimeout d k) m) w
-        (turn-here (λ e j. List·Memᴰ (toldWord ofTimeout d k) (tick (router plan e) e j (upTo (turn plan) (32 * d + k) w) .told))
-        (tick-tells (router plan d) d k (upTo (turn plan) (32 * d + k) w) node (before-turn ∙ o)))
+        (λ i v a b m. fall-more (router plan (i / 32)) (i / 32) (i % 32) v (toldWord ofTimeout d k) m) w
+        (turn-here (λ e j. List·Memᴰ (toldWord ofTimeout d k) (fall (router plan e) e j (upTo (turn plan) (32 * d + k) w) .told))
+        (fall-tells (router plan d) d k (upTo (turn plan) (32 * d + k) w) node (before-turn ∙ o)))
 
-    pub ticked-came : List·Memᴰ (toldWord ofTimeout d k) (ticked plan w .told) → List·Memᴰ (toldWord ofTimeout d k) (w .told) ⊎ ((timer (w .state) d k ≡ 1) × (router plan d ≡ false))
-    unfolding ticked
-    ticked-came m =
+    pub fallen-came : List·Memᴰ (toldWord ofTimeout d k) (fallen plan w .told) → List·Memᴰ (toldWord ofTimeout d k) (w .told) ⊎ ((timer (w .state) d k ≡ 1) × (router plan d ≡ false))
+    unfolding fallen
+    fallen-came m =
         elim (came (turn plan) (λ v. Sound plan (v .state)) (32 * devices plan) (turn-sound plan held) (λ v. List·Memᴰ (toldWord ofTimeout d k) (v .told))
         (λ i v. (i ≡ 32 * d + k) × (timer (v .state) d k ≡ 1) × (router plan d ≡ false)) by-turn w x m) [
           | inl a ↦ inl a
@@ -136,7 +136,7 @@ module _ (plan : Plan) (held : Held plan) (d k : ℕ) (h : d < devices plan) (l 
         by-turn : (i : ℕ) (v : World) → i < 32 * devices plan → Sound plan (v .state) → List·Memᴰ (toldWord ofTimeout d k) (turn plan i v .told)
             → List·Memᴰ (toldWord ofTimeout d k) (v .told) ⊎ ((i ≡ 32 * d + k) × (timer (v .state) d k ≡ 1) × (router plan d ≡ false))
         by-turn i v b y m =
-            elim (tick-came (router plan (i / 32)) (i / 32) (i % 32) v (toldWord ofTimeout d k) m) [
+            elim (fall-came (router plan (i / 32)) (i / 32) (i % 32) v (toldWord ofTimeout d k) m) [
               | inl a ↦ inl a
               | inr c ↦
                   let e = c .0 in
@@ -192,7 +192,7 @@ module _ (plan : Plan) (held : Held plan) (s : State) (x : Sound plan s) (d k : 
   before-sound : (q : ℕ) → q ≤ 8 * devices plan → Sound plan (before plan s q .state)
   before-sound q b =
       keeps (arrives plan (sentBytes plan s)) (λ v. Sound plan (v .state)) q (λ j v c y. arrives-sound plan held (sentBytes plan s) j (omega arith) v y) (afterSending plan s)
-      (posted-sound plan held s x (afterTimers plan s .state) (ticked-sound plan held (record { state = s; told = [] }) x))
+      (posted-sound plan held s x (afterTimers plan s .state) (fallen-sound plan held (record { state = s; told = [] }) x))
 
   -- the timer stands still where no code of k is accepted at its device
   before-still : (q : ℕ) → q < 8 * devices plan → ((kind : ℕ) → kind < 2 → q / 8 ≡ d → AcceptedAt plan s q kind k → ⊥)
@@ -253,7 +253,7 @@ module _ (plan : Plan) (held : Held plan) (s : State) (x : Sound plan s) (d k : 
   unfolding upTo
   runs-on runs none =
       let t = timer (afterTimers plan s .state) d k in
-      let falls : t ≡ timer s d k - 1 = ticked-timer plan held d k h l (record { state = s; told = [] }) x in
+      let falls : t ≡ timer s d k - 1 = fallen-timer plan held d k h l (record { state = s; told = [] }) x in
       let at : (q : ℕ) → q ≤ 8 * devices plan → timer (before plan s q .state) d k ≡ t =
       λ q. stands-from 0 t sending-still
       (λ j a b o. both-kinds (λ kind. j / 8 ≡ d → AcceptedAt plan s j kind k → ⊥) (finds-set j b (omega arith)) (at-port 1 none j))
@@ -300,14 +300,14 @@ module _ (plan : Plan) (held : Held plan) (s : State) (x : Sound plan s) (d k : 
   pub timer-falls : (t : ℕ) → timer s d k ≡ suc t → Fell plan (afterTimers plan s) d k t
   timer-falls t e =
       let w : World = record { state = s; told = [] } in
-      let now : timer (afterTimers plan s .state) d k ≡ t = ticked-timer plan held d k h l w x ∙ omega arith in
-      let bits = timed-bit (ticked-sound plan held w x .timers d k h (omega (arith, few plan held)) l) in
+      let now : timer (afterTimers plan s .state) d k ≡ t = fallen-timer plan held d k h l w x ∙ omega arith in
+      let bits = timed-bit (fallen-sound plan held w x .timers d k h (omega (arith, few plan held)) l) in
       record {
         now = now;
         runs = λ o. bits .1 (omega arith);
         ends = λ z. bits .0 (now ∙ z);
-        tells = λ z node. ticked-tells plan held d k h l w x node (omega arith);
-        only = λ m. elim (ticked-came plan held d k h l w x m) [ inl a ↦ absurd (List·Memᴰ·not-nil a) | inr c ↦ (omega (arith, c .0), c .1) ];
+        tells = λ z node. fallen-tells plan held d k h l w x node (omega arith);
+        only = λ m. elim (fallen-came plan held d k h l w x m) [ inl a ↦ absurd (List·Memᴰ·not-nil a) | inr c ↦ (omega (arith, c .0), c .1) ];
       }
 
   -- and nothing after them changes that, where no code of k is accepted

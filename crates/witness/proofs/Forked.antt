@@ -30,7 +30,7 @@ use Rattle.state.specs.Start.{started}
 use Rattle.state.proofs.Plans.{owned}
 use Rattle.state.proofs.Started.{start-joined, started-sound}
 use Rattle.calls.specs.Calls.{called}
-use Rattle.bench.specs.Round.{tick, firstWaits, goes, timeGoes, stamped, chosen, sentWord, sends, unqueued, timed, forwarded, tells, acted, arrived, ticked, sentBytes, posted, arrives, reached, round}
+use Rattle.bench.specs.Round.{fall, firstWaits, goes, timeGoes, stamped, chosen, sentWord, sends, unqueued, timed, forwarded, tells, acted, arrived, fallen, sentBytes, posted, arrives, reached, round}
 use Rattle.reach.specs.Walk.{Leads, Walk, stay, cross}
 use Rattle.reach.specs.Away.{Farthest}
 use Rattle.reach.proofs.Found.{none-away}
@@ -211,7 +211,7 @@ still-holds t h =
 
 -- computed, with no waiting: node 1 acknowledges when all hold 31, after a round, and a round later router 2 alone does
 pub is-left : left (answering false 1 1) ≡ true
-unfolding asking answering fork counted firstWaits goes timeGoes stamped every upTo table joined bit join leave searched firstFrom following reads maySend mayReceive marked ruled reactsTo reacts word put stateOf loadFor queueAt queueAllAt called mark tick chosen sentWord sends unqueued timed forwarded tells acted arrived ticked sentBytes posted arrives reached round
+unfolding asking answering fork counted firstWaits goes timeGoes stamped every upTo table joined bit join leave searched firstFrom following reads maySend mayReceive marked ruled reactsTo reacts word put stateOf loadFor queueAt queueAllAt called mark fall chosen sentWord sends unqueued timed forwarded tells acted arrived fallen sentBytes posted arrives reached round
 is-left = refl
 
 pub is-needed : Unasked → ⊥

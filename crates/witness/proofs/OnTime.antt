@@ -26,7 +26,7 @@ use Rattle.state.proofs.Plans.{owned}
 use Rattle.state.proofs.Started.{started-sound}
 use Rattle.calls.specs.Calls.{tickAsks, called, advanced}
 use Rattle.calls.proofs.Called.{tick-sound, call-sound}
-use Rattle.bench.specs.Round.{tick, firstWaits, goes, timeGoes, stamped, chosen, sentWord, sends, unqueued, timed, forwarded, acted, arrived, ticked, sentBytes, posted, arrives, reached, round}
+use Rattle.bench.specs.Round.{fall, firstWaits, goes, timeGoes, stamped, chosen, sentWord, sends, unqueued, timed, forwarded, acted, arrived, fallen, sentBytes, posted, arrives, reached, round}
 use Rattle.bench.proofs.RoundSound.{rounds-sound}
 use Rattle.flood.specs.Flood.{here, cross}
 use Rattle.assurance.specs.Distribution.{none, timeCrossing, timeWindow, Crosses, InStep, Beat, Distributes}
@@ -57,8 +57,8 @@ test s = eqb (running s 0) 1 && every 16 (λ q. eqb (timeWaits s q) 0) && every 
 -- it is true, and so is what is said of the router: two rounds are computed
 computed : (test asked && eqb (counter (again (timeCrossing - 1)) 1) 1) ≡ true
 unfolding asked again deaf counted firstWaits goes timeGoes stamped every upTo table joined bit join leave searched firstFrom reads maySend mayReceive
-    ruled reactsTo reacts word put stateOf loadFor queueAt queueAllAt queueTime queueTimeAll called advanced mark tick chosen sentWord sends
-    unqueued timed forwarded acted arrived ticked sentBytes posted arrives reached round
+    ruled reactsTo reacts word put stateOf loadFor queueAt queueAllAt queueTime queueTimeAll called advanced mark fall chosen sentWord sends
+    unqueued timed forwarded acted arrived fallen sentBytes posted arrives reached round
 computed = refl
 
 -- so all that holds

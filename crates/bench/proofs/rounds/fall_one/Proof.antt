@@ -2,22 +2,22 @@ use native.Mathlib.Omega.{arith}
 use lib.ListN.{length-set}
 use Rattle.state.specs.State.{word, put}
 use Rattle.bench.proofs.Following.{silent, noted}
-use Rattle.bench.proofs.Stepped.{tick-idle, tick-falls, tick-ends, tick-tells}
+use Rattle.bench.proofs.Stepped.{fall-idle, fall-on, fall-ends, fall-tells}
 use borrow.Author.Needs.{needs}
-use Rattle.bench.proofs.rounds.tick_one.Statement.{statement}
-use Rattle.bench.proofs.rounds.tick_one.Tie as tie
+use Rattle.bench.proofs.rounds.fall_one.Statement.{statement}
+use Rattle.bench.proofs.rounds.fall_one.Tie as tie
 
 returns : tie.Need-returns
 unfolding word
 returns c =
     let a = c .before .before .before .before .args in
-    (silent (λ told. tick-idle (a .router) (a .d) (a .k) (a .state .now) told (c .if1 .taken)), omega arith)
+    (silent (λ told. fall-idle (a .router) (a .d) (a .k) (a .state .now) told (c .if1 .taken)), omega arith)
 
 returns-2 : tie.Need-returns-2
 unfolding word put
 returns-2 c =
     let a = c .before .before .before .before .before .args in
-    (silent (λ told. tick-falls (a .router) (a .d) (a .k) (a .state .now) told (c .before .if1 .left) (c .if2 .taken)), omega arith)
+    (silent (λ told. fall-on (a .router) (a .d) (a .k) (a .state .now) told (c .before .if1 .left) (c .if2 .taken)), omega arith)
 
 slice-write-state-3 : tie.Need-slice-write-state-3
 slice-write-state-3 c = simp length-set (omega arith)
@@ -29,7 +29,7 @@ returns-3 : tie.Need-returns-3
 unfolding word put
 returns-3 c =
     let a = c .before .before .before .before .before .before .before .before .args in
-    (silent (λ told. tick-ends (a .router) (a .d) (a .k) (a .state .now) told (c .before .leave .result) (c .before .before .before .if2 .left) (c .before .leave .ensures) (c .if3 .taken)), omega arith)
+    (silent (λ told. fall-ends (a .router) (a .d) (a .k) (a .state .now) told (c .before .leave .result) (c .before .before .before .if2 .left) (c .before .leave .ensures) (c .if3 .taken)), omega arith)
 
 same-length-3 : tie.Need-same-length-3
 same-length-3 c = simp length-set
@@ -38,7 +38,7 @@ returns-4 : tie.Need-returns-4
 unfolding word put
 returns-4 c =
     let a = c .before .before .before .before .before .before .before .before .before .before .before .before .args in
-    (noted (λ told. tick-tells (a .router) (a .d) (a .k) (a .state .now) told (c .before .before .before .before .before .leave .result) (c .before .before .before .before .before .before .before .if2 .left) (c .before .before .before .before .before .leave .ensures) (c .before .before .before .before .if3 .left)) (c .before .before .tell .ensures .0), omega (arith, c .before .before .tell .ensures .1))
+    (noted (λ told. fall-tells (a .router) (a .d) (a .k) (a .state .now) told (c .before .before .before .before .before .leave .result) (c .before .before .before .before .before .before .before .if2 .left) (c .before .before .before .before .before .leave .ensures) (c .before .before .before .before .if3 .left)) (c .before .before .tell .ensures .0), omega (arith, c .before .before .tell .ensures .1))
 
 leave-requires : tie.Need-leave-requires
 leave-requires c κs = search needs
@@ -46,8 +46,8 @@ leave-requires c κs = search needs
 tell-requires : tie.Need-tell-requires
 tell-requires c κs = search needs
 
-pub tick-one-spec : {M : Type 1} → statement M
-tick-one-spec =
+pub fall-one-spec : {M : Type 1} → statement M
+fall-one-spec =
     tie.close
     (tie.spec
     (λ c. search needs)

@@ -11,16 +11,16 @@ use Rattle.bits.specs.Set.{bit, leave}
 use Rattle.bits.proofs.Sets.{bit-zero, leave-same, leave-other, leave-lt, leave-less}
 use Rattle.bits.proofs.Trailing.{trailing-below, trailing-at, trailing-lt}
 use Rattle.state.specs.State.{words, word, timer}
-use Rattle.bench.specs.Round.{tick}
+use Rattle.bench.specs.Round.{fall}
 use Rattle.bench.specs.inner.Shown.{Seen, seen, Follows}
 use Rattle.bench.proofs.Following.{follows-none, follows-more}
 use Rattle.bench.proofs.Idles.{rests-follows}
 use borrow.Author.Needs.{needs}
-use Rattle.bench.proofs.rounds.tick_device.Statement.{statement}
-use Rattle.bench.proofs.rounds.tick_device.Tie as tie
+use Rattle.bench.proofs.rounds.fall_device.Statement.{statement}
+use Rattle.bench.proofs.rounds.fall_device.Tie as tie
 
--- the timers before `at` have ticked; of the others only those run that are left in `rest`
-record Ticking (router : Bool) (d size : ℕ) (x : Seen) (rest : ℕ) (y : Seen) : Type 0 where
+-- the timers before `at` have fallen; of the others only those run that are left in `rest`
+record Falling (router : Bool) (d size : ℕ) (x : Seen) (rest : ℕ) (y : Seen) : Type 0 where
   at : ℕ
   within : at ≤ 32
   fits : rest < 2 ^ 32
@@ -29,9 +29,9 @@ record Ticking (router : Bool) (d size : ℕ) (x : Seen) (rest : ℕ) (y : Seen)
   count : y .count ≤ x .count + at
   state : length (y .state) ≡ words
   area : length (y .area) ≡ size
-  follows : Follows (upTo (tick router d) at) x y
+  follows : Follows (upTo (fall router d) at) x y
 
-module _ {router : Bool} {d size : ℕ} {x : Seen} {rest : ℕ} {y : Seen} (v : Ticking router d size x rest y) where
+module _ {router : Bool} {d size : ℕ} {x : Seen} {rest : ℕ} {y : Seen} (v : Falling router d size x rest y) where
   -- the next timer that runs
   module _ (some : 0 < rest) where
     abbrev k : ℕ
@@ -46,8 +46,8 @@ module _ {router : Bool} {d size : ℕ} {x : Seen} {rest : ℕ} {y : Seen} (v : 
     less : leave rest k < rest
     less = leave-less rest k low (trailing-at 32 rest low)
 
-    again : {z : Seen} → Follows (tick router d k) y z → z .count ≤ y .count + 1 → length (z .state) ≡ length (y .state) → length (z .area) ≡ length (y .area)
-        → Ticking router d size x (leave rest k) z
+    again : {z : Seen} → Follows (fall router d k) y z → z .count ≤ y .count + 1 → length (z .state) ≡ length (y .state) → length (z .area) ≡ length (y .area)
+        → Falling router d size x (leave rest k) z
     again p n s a =
         record {
           at = k + 1;
@@ -66,11 +66,11 @@ module _ {router : Bool} {d size : ℕ} {x : Seen} {rest : ℕ} {y : Seen} (v : 
         }
 
   -- none is left
-  done : rest ≡ 0 → Follows (upTo (tick router d) 32) x y
+  done : rest ≡ 0 → Follows (upTo (fall router d) 32) x y
   done e = rests-follows router d (v .within) (λ k h l. v .idle k h l (ap (λ (w : ℕ). bit w k) e ∙ bit-zero k)) (v .follows)
 
 abbrev Inv-loop : tie.InvT-loop
-Inv-loop router d state₀ told₀ count count₀ rest₀ state told count' rest = Ticking router d (length told₀) (seen state₀ told₀ count) rest (seen state told count')
+Inv-loop router d state₀ told₀ count count₀ rest₀ state told count' rest = Falling router d (length told₀) (seen state₀ told₀ count) rest (seen state told count')
 
 abbrev μ-loop : tie.MeasureT-loop
 μ-loop router d state₀ told₀ count count₀ rest₀ state told count' rest = rest
@@ -91,8 +91,8 @@ loop-holds c =
       follows = follows-none _;
     }
 
-tick-one-requires : tie.Need-tick-one-requires Inv-loop μ-loop
-tick-one-requires c κs =
+fall-one-requires : tie.Need-fall-one-requires Inv-loop μ-loop
+fall-one-requires c κs =
     let v = c .before .before .before .loop .inv in
     let low = low v (omega arith) in
     (v .state, search needs, low, omega (arith, v .count))
@@ -106,7 +106,7 @@ loop-again : tie.Need-loop-again Inv-loop μ-loop
 loop-again c =
     let b = c .before .before .before .before .before in
     let l = b .before .before .before .before .loop in
-    rw (c .leave .ensures) (again (l .inv) (omega arith) (b .tick-one .ensures .0) (b .tick-one .ensures .1) (b .tick-one .kept .1 .1 .1 .0) (b .tick-one .kept .1 .1 .1 .1 .0))
+    rw (c .leave .ensures) (again (l .inv) (omega arith) (b .fall-one .ensures .0) (b .fall-one .ensures .1) (b .fall-one .kept .1 .1 .1 .0) (b .fall-one .kept .1 .1 .1 .1 .0))
 
 returns : tie.Need-returns Inv-loop μ-loop
 returns c =
@@ -116,8 +116,8 @@ returns c =
 leave-requires : tie.Need-leave-requires Inv-loop μ-loop
 leave-requires c κs = search needs
 
-pub tick-device-spec : {M : Type 1} → statement M
-tick-device-spec =
+pub fall-device-spec : {M : Type 1} → statement M
+fall-device-spec =
     tie.close
     (tie.spec
     Inv-loop
@@ -126,7 +126,7 @@ tick-device-spec =
     (λ c. search needs)
     (λ c. search needs)
     loop-holds
-    tick-one-requires
+    fall-one-requires
     leave-requires
     loop-less
     loop-again
