@@ -1,5 +1,5 @@
 -- Every call that is taken keeps a sound state sound; and what a tick changes.
-use mathlib.Core.Path.{_≡_, refl, sym, ap, _∙_}
+use mathlib.Core.Path.{_≡_, refl, sym, ap, subst, _∙_}
 use mathlib.Core.Bool.{Bool, true, false}
 use mathlib.Core.Logic.{_⊎_, inl, inr, _≢_, dite}
 use Prim.Native.Nat.{ℕ, _+_, _*_, _/_, _%_, _≤_, _<_}
@@ -23,9 +23,10 @@ use Rattle.state.proofs.Keeping.{device-step, empty-step, sets-step, flags-step
 use Rattle.state.proofs.Marks.{mark-step}
 use Rattle.state.proofs.Waits.{queue-all-sound}
 use Rattle.state.proofs.Times.{time-step, counter-step, queue-time-sound, length-times, queue-times-left, queue-times-lately, queue-times-cases, queue-times-waits}
-use Rattle.calls.specs.Calls.{called, cleared, emptied, untimed, drained, advanced, switched, reset}
+use Rattle.calls.specs.Calls.{called, drained, advanced, switched, reset}
+use Rattle.calls.specs.inner.Steps.{cleared, emptied, untimed}
 use Rattle.calls.proofs.Stopping.{both-drained, both-timeless}
-use Rattle.calls.proofs.Zeros.{cleared-register, cleared-timer, cleared-left, cleared-fits, emptied-left, emptied-port, emptied-flag, emptied-fits, untimed-left, untimed-counter, untimed-word, untimed-fits}
+use Rattle.calls.proofs.Zeros.{cleared-register, cleared-timer, cleared-left, cleared-fits, emptied-left, emptied-port, emptied-flag, emptied-fits, untimed-left, untimed-counter, untimed-word, untimed-fits, reset-steps}
 
 -- a tick changes a counter and what ports have of Time-Codes, and no word in front of these
 pub tick-left : (d : ℕ) → d < 32 → (s : State) (i : ℕ) → i < portsEnd → word (advanced d s) i ≡ word s i
@@ -128,7 +129,7 @@ module _ (plan : Plan) (held : Held plan) where
         empty-step plan held y (emptied-fits d t (y .size) (y .fits)) (emptied-left d t (y .size))
         (λ q. dite (decLt q 256) (emptied-flag d t (y .size) q) (λ n. emptied-left d t (y .size) (portAt q runningAt) (λ a b. omega arith)))
         (λ q i l m. emptied-port d t (y .size) q i l (omega arith)) in
-        untimed-sound d (emptied d t) z
+        subst (Sound plan) (reset-steps d s) (untimed-sound d (emptied d t) z)
 
     -- nothing waits at a port any more
     drained-sound : (q : ℕ) → q < 256 → exists plan q ≡ true → Sound plan (drained q s)

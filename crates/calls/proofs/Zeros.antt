@@ -1,5 +1,5 @@
 -- Words that become 0: by one store after the other, and as the definitions say it.
-use mathlib.Core.Path.{_≡_, refl, sym, _∙_}
+use mathlib.Core.Path.{_≡_, refl, sym, ap, _∙_}
 use mathlib.Core.Bool.{Bool, true, false, cond, not, _&&_}
 use mathlib.Core.Logic.{_⊎_, inl, inr, _≢_}
 use Prim.Native.Nat.{ℕ, _+_, _*_, _/_, _%_, _^_, _≤_, _<_}
@@ -12,7 +12,8 @@ use Rattle.state.specs.State.{State, words, word, put, deviceWords, portsAt, po
 use Rattle.state.proofs.Words.{word-past, length-put, word-same, word-other}
 use Rattle.state.proofs.Parts.{by-place, by-behind, length-state, register-of, timer-of, port-of, counter-of, time-of, behind-kept, is-state}
 use Rattle.state.proofs.Keeping.{Fits}
-use Rattle.calls.specs.Calls.{cleared, emptied, untimed}
+use Rattle.calls.specs.Calls.{reset}
+use Rattle.calls.specs.inner.Steps.{cleared, emptied, untimed}
 
 -- what is so of 0 and of a word is so of the word where a test does not make it 0
 pub keep : (P : ℕ → Type 0) (t : Bool) (v : ℕ) → P 0 → P v → P (cond t 0 v)
@@ -229,3 +230,14 @@ module _ (d : ℕ) (s : State) (long : length s ≡ words) where
             (λ q h. untimed-word q h (λ v. v < 2 ^ 32) (omega arith) (small (timeAt q)))
             (λ i h. omega (arith, word-past (untimed d s) i (omega (arith, untimed-size)))));
       }
+
+-- ---- all three are a reset
+
+pub reset-steps : (d : ℕ) (s : State) → untimed d (emptied d (cleared d s)) ≡ reset d s
+reset-steps d s =
+    is-state _ (untimed d (emptied d (cleared d s))) (length-state _)
+    (λ e l. register-of _ e l ∙ register-of _ e l ∙ register-of _ e l)
+    (λ e k l m. timer-of _ e k l m ∙ timer-of _ e k l m ∙ timer-of _ e k l m)
+    (λ q i l m. port-of _ q i l m ∙ port-of _ q i l m ∙ ap (cond (eqb (q / 8) d && not (eqb i runningAt)) 0) (port-of _ q i l m))
+    (λ e l. counter-of _ e l ∙ ap (cond (eqb e d) 0) (counter-of _ e l ∙ counter-of _ e l))
+    (λ q l. time-of _ q l ∙ ap (cond (eqb (q / 8) d) 0) (time-of _ q l ∙ time-of _ q l))

@@ -17,50 +17,13 @@ use Rattle.state.specs.Sound.{stateAsks}
 use Rattle.state.specs.Queue.{sendsAt, queueAll, queueTimeAll}
 use Rattle.state.specs.Mark.{mark}
 
--- ---- words that become 0
+-- ---- what a stop and a start change at a port
 
--- the register and the timers of device d
-abbrev pub cleared : ℕ → State → State
-cleared d s =
-    stateOf
-    (record {
-      registers = λ e. cond (eqb e d) 0 (register s e);
-      timers = λ e k. cond (eqb e d) 0 (timer s e k);
-      ports = λ q i. word s (portAt q i);
-      counters = counter s;
-      times = time s;
-    })
-
--- the waiting sets and next of its ports: all but the flags
-abbrev pub emptied : ℕ → State → State
-emptied d s =
-    stateOf
-    (record {
-      registers = register s;
-      timers = timer s;
-      ports = λ q i. cond (eqb (q / 8) d && not (eqb i runningAt)) 0 (word s (portAt q i));
-      counters = counter s;
-      times = time s;
-    })
-
--- its counter, and what its ports have of Time-Codes
-abbrev pub untimed : ℕ → State → State
-untimed d s =
-    stateOf
-    (record {
-      registers = register s;
-      timers = timer s;
-      ports = λ q i. word s (portAt q i);
-      counters = λ e. cond (eqb e d) 0 (counter s e);
-      times = λ q. cond (eqb (q / 8) d) 0 (time s q);
-    })
-
--- the waiting sets of port q, and what it has of Time-Codes
+-- the waiting sets of port q, and what it has of Time-Codes, become 0
 abbrev pub drained : ℕ → State → State
 drained q s = put (put (put s (portAt q 0) 0) (portAt q 1) 0) (timeAt q) 0
 
--- ---- the flag that says whether a port runs
-
+-- the flag that says whether a port runs
 unfoldable pub flagOf : Bool → ℕ
 flagOf runs = cond runs 1 0
 
@@ -133,7 +96,7 @@ module _ (plan : Plan) where
       deviceAsks d s
       ++ (ask 4 (p < portsOf plan d) ∷ ask 7 (peer plan (8 * d + p) < nobody) ∷ ask 10 (running s (8 * d + p) ≢ flagOf runs) ∷ [])
 
-  -- the flag is put at both ends, and where the link stops nothing waits at either any more
+  -- the flag is put at both ends, and where the link stops nothing waits at either any more, and the mark is gone from both
   unfoldable pub switched : Bool → ℕ → State → State
   switched true q s = flagged 1 q (peer plan q) s
   switched false q s = flagged 0 q (peer plan q) (drained (peer plan q) (drained q s))
@@ -142,10 +105,18 @@ module _ (plan : Plan) where
   abbrev pub Links : ℕ → ℕ → Bool → State → ℕ → State → Type 0
   Links d p runs before number after = Outcome (linkAsks runs d p before) before (switched runs (8 * d + p) before) number after
 
--- ---- device d is reset: register, timers, counter, and its ports' waiting sets, next and Time-Codes become 0
+-- ---- device d is reset: register, timers and counter become 0, and of its ports all but the flags
 
 abbrev pub reset : ℕ → State → State
-reset d s = untimed d (emptied d (cleared d s))
+reset d s =
+    stateOf
+    (record {
+      registers = λ e. cond (eqb e d) 0 (register s e);
+      timers = λ e k. cond (eqb e d) 0 (timer s e k);
+      ports = λ q i. cond (eqb (q / 8) d && not (eqb i runningAt)) 0 (word s (portAt q i));
+      counters = λ e. cond (eqb e d) 0 (counter s e);
+      times = λ q. cond (eqb (q / 8) d) 0 (time s q);
+    })
 
 abbrev pub Resets : Plan → ℕ → State → ℕ → State → Type 0
 Resets plan d before number after = Outcome (deviceAsks plan d before) before (reset d before) number after

@@ -6,6 +6,7 @@ use mathlib.Core.Logic.{_⊎_, inl, inr, _≢_}
 use Prim.Native.Nat.{ℕ, zero, suc, _+_, _-_, _*_, _≤_, _<_}
 use native.Mathlib.Decide.{ℕ-discrete}
 use native.Mathlib.Omega.{arith}
+use borrow.Author.Tests.{ne-eqb}
 use Rattle.answers.specs.Ordered.{Condition, Outcome}
 use Rattle.answers.proofs.Outcomes.{Holds, numbered, holds}
 use Rattle.bits.specs.Set.{bit}
@@ -16,14 +17,14 @@ use Rattle.state.specs.State.{State, word, portsEnd, registerAt, timerAt, regis
 use Rattle.state.specs.Network.{devices, router, source, handler, loadOf}
 use Rattle.state.specs.Sound.{Sound}
 use Rattle.state.specs.Mark.{mark}
+use Rattle.state.proofs.Parts.{register-of, timer-of}
 use Rattle.state.proofs.Plans.{few, port-there, masked, load-fits}
 use Rattle.state.proofs.Marks.{mark-other}
 use Rattle.state.proofs.Waits.{queue-all-left}
-use Rattle.calls.specs.Calls.{callAsks, called, advanced, linkAsks, switched, cleared, emptied, reset as Calls·reset}
+use Rattle.calls.specs.Calls.{callAsks, called, advanced, linkAsks, switched, reset as Calls·reset}
 use Rattle.calls.specs.Stopping.{Keeps}
 use Rattle.calls.proofs.Called.{call-sound, tick-sound, tick-left, link-sound, reset-sound}
 use Rattle.calls.proofs.Stopping.{switched-keeps}
-use Rattle.calls.proofs.Zeros.{cleared-left, cleared-fits, emptied-left, emptied-fits, untimed-left}
 use Rattle.bench.specs.Round.{ofInterrupt, ofAcknowledge, ofTimeout, round}
 use Rattle.bench.proofs.RoundSound.{round-sound}
 use Rattle.laws.specs.Telling.{toldIn}
@@ -98,15 +99,10 @@ module _ (plan : Plan) (held : Held plan) (d k : ℕ) (h : d < devices plan) (l 
 
     reset-stays : (e : ℕ) → e < devices plan → e ≢ d → Stays s (Calls·reset e s)
     reset-stays e there ne =
-        let t = cleared e s in
-        let y = cleared-fits e s (x .size) (x .fits) in
-        let u = emptied-fits e t (y .size) (y .fits) in
-        let left : (i : ℕ) → i < registerAt (d + 1) → registerAt d ≤ i → word (Calls·reset e s) i ≡ word s i =
-        λ i a b. untimed-left e (emptied e t) (u .size) i (omega (arith, small)) ∙ emptied-left e t (y .size) i (λ m n. omega (arith, small)) ∙ cleared-left e s (x .size) i (λ m n. omega arith) in
         record {
           sound = reset-sound plan held s x e there;
-          holds = ap (λ r. bit r k) (left (registerAt d) (omega arith) (omega arith)) ∙ on;
-          timed = left (timerAt d k) (omega arith) (omega arith);
+          holds = ap (λ r. bit r k) (register-of _ d small ∙ rw (ne-eqb d e (λ o. ne (sym o)))) ∙ on;
+          timed = timer-of _ d k small l ∙ rw (ne-eqb d e (λ o. ne (sym o)));
         }
 
     -- done, it stays by what the call makes; refused, as it is
@@ -144,8 +140,8 @@ module _ (plan : Plan) (held : Held plan) (d k : ℕ) (h : d < devices plan) (l 
     going (suc t) b c quiet =
         let y = going t (omega arith) (omega arith) (λ i m. quiet i (omega arith)) in
         let stands = y .1 .timed in
-        let ticks = timer (at t) d k in
-        let fell = round-falls plan held (at t) (y .0) d k h l (ticks - 1) (omega arith) (runs-on plan held (at t) (y .0) d k h l (omega arith) (quiet t (omega arith))) in
+        let stood = timer (at t) d k in
+        let fell = round-falls plan held (at t) (y .0) d k h l (stood - 1) (omega arith) (runs-on plan held (at t) (y .0) d k h l (omega arith) (quiet t (omega arith))) in
         let z = calls-stay (round-sound plan held (at t) (y .0)) (fell .runs (omega arith)) (given .goes-on t (omega arith)) in
         (z .sound, record { holds = z .holds; timed = omega (arith, z .timed, fell .now) })
 

@@ -2,8 +2,9 @@
 use mathlib.Core.Path.{ap, _∙_}
 use borrow.Author.Needs.{needs}
 use Rattle.answers.proofs.Outcomes.{outcome-refused, outcome-done}
-use Rattle.calls.specs.Calls.{emptied, untimed}
+use Rattle.calls.specs.inner.Steps.{emptied, untimed}
 use Rattle.calls.proofs.Asked.{asked, ready}
+use Rattle.calls.proofs.Zeros.{reset-steps}
 use Rattle.calls.proofs.reset.Statement.{statement}
 use Rattle.calls.proofs.reset.Tie as tie
 
@@ -30,7 +31,8 @@ returns-2 c =
     (c .before .before .unclock .ensures
     ∙ ap (untimed _)
     (c .before .before .before .before .before .before .empty .ensures
-    ∙ ap (emptied _) (c .before .before .before .before .before .before .before .before .before .before .clear .ensures)))
+    ∙ ap (emptied _) (c .before .before .before .before .before .before .before .before .before .before .clear .ensures))
+    ∙ reset-steps _ _)
 
 refusal-requires : tie.Need-refusal-requires
 refusal-requires c κs = search needs

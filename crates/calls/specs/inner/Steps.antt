@@ -1,0 +1,41 @@
+-- What the three functions of a reset leave, one after the other: words that become 0.
+use mathlib.Core.Bool.{cond, not, _&&_}
+use Prim.Native.Nat.{ℕ, _/_}
+use lib.Dec.{eqb}
+use Rattle.state.specs.State.{State, word, portAt, register, timer, runningAt, counter, time, stateOf}
+
+-- the register and the timers of device d
+abbrev pub cleared : ℕ → State → State
+cleared d s =
+    stateOf
+    (record {
+      registers = λ e. cond (eqb e d) 0 (register s e);
+      timers = λ e k. cond (eqb e d) 0 (timer s e k);
+      ports = λ q i. word s (portAt q i);
+      counters = counter s;
+      times = time s;
+    })
+
+-- the waiting sets and next of its ports: all but the flags
+abbrev pub emptied : ℕ → State → State
+emptied d s =
+    stateOf
+    (record {
+      registers = register s;
+      timers = timer s;
+      ports = λ q i. cond (eqb (q / 8) d && not (eqb i runningAt)) 0 (word s (portAt q i));
+      counters = counter s;
+      times = time s;
+    })
+
+-- its counter, and what its ports have of Time-Codes
+abbrev pub untimed : ℕ → State → State
+untimed d s =
+    stateOf
+    (record {
+      registers = register s;
+      timers = timer s;
+      ports = λ q i. word s (portAt q i);
+      counters = λ e. cond (eqb e d) 0 (counter s e);
+      times = λ q. cond (eqb (q / 8) d) 0 (time s q);
+    })
