@@ -1,13 +1,14 @@
 -- Time is distributed, proved: what follows a tick that is taken is a run of the flood, with two rounds a crossing.
 use mathlib.Core.Path.{_≡_, refl, sym, ap, subst, _∙_}
 use mathlib.Core.Bool.{Bool, true, false, false≢true}
-use mathlib.Core.Logic.{_⊎_, inl, inr, _≢_}
+use mathlib.Core.Logic.{_⊎_, inl, inr, _≢_, dite}
 use Prim.Native.Nat.{ℕ, zero, suc, _+_, _-_, _*_, _/_, _%_, _≤_, _<_}
-use native.Mathlib.Decide.{ℕ-discrete}
+use native.Mathlib.Decide.{ℕ-discrete, decLt}
 use native.Mathlib.Nat.{le-refl}
 use native.Mathlib.Omega.{arith}
 use borrow.Author.Tests.{eq-eqb, ne-eqb}
 use Rattle.answers.proofs.Outcomes.{holds}
+use Rattle.lists.proofs.Loops.{keeps as Loops·keeps}
 use Rattle.device.specs.Reaction.{nextTime}
 use Rattle.plan.specs.Reading.{Held}
 use Rattle.plan.specs.declared.Plan.{Plan}
@@ -16,21 +17,24 @@ use Rattle.state.specs.State.{State, word, portsEnd, portAt, runningAt, running
 use Rattle.state.specs.Network.{devices, role, router, peer}
 use Rattle.state.specs.Sound.{Sound}
 use Rattle.state.specs.Start.{started}
+use Rattle.state.proofs.Words.{word-past}
 use Rattle.state.proofs.Plans.{few, far-end}
 use Rattle.state.proofs.Started.{start-behind, started-sound}
 use Rattle.calls.specs.Calls.{callAsks, tickAsks, advanced}
 use Rattle.calls.proofs.Called.{call-sound, tick-sound, tick-left, tick-counts, tick-counts-else, tick-only, tick-waits}
-use Rattle.bench.specs.Round.{ofTime, timeGoes, sentBytes, reached, afterSending, round}
-use Rattle.bench.proofs.Stepped.{goes-late}
-use Rattle.bench.proofs.RoundSound.{round-sound}
+use Rattle.bench.specs.Round.{ofTime, timeGoes, sentBytes, arrives as Round·arrives, reached, afterSending, round}
+use Rattle.bench.proofs.Stepped.{goes-waits, goes-late}
+use Rattle.bench.proofs.RoundSound.{arrives-any, arrives-sound, round-sound}
 use Rattle.laws.specs.Telling.{toldIn, toldBy}
-use Rattle.flood.specs.Flood.{Net, Sight, here, cross, Start, Step, Flooded}
+use Rattle.flood.specs.Flood.{Net, Sight, Relays, here, cross, Within, Start, Step, Flooded}
 use Rattle.flood.proofs.Spreads.{flooded}
-use Rattle.assurance.specs.Distribution.{Others, none, then, tick, carrying, timeCrossing, Crosses, InStep, Beat, Arrives, Beats, still, beat, EachArrives, Distributes, DistributesAll}
-use Rattle.assurance.proofs.Taking.{called-took}
+use Rattle.assurance.specs.Demand3.{Played}
+use Rattle.assurance.specs.Distribution.{Others, none, then, tick, carrying, timeCrossing, Crosses, SendsTime, InStep, Beat, Arrives, Beats, still, rest, beat, EachArrives, Distributes, DistributesAll}
+use Rattle.assurance.proofs.Taking.{took, called-took}
 use Rattle.assurance.proofs.Choices.{runs-there, runs-joined}
-use Rattle.assurance.proofs.Posted.{posts-early, posts-time-on, posts-counter}
-use Rattle.assurance.proofs.Timely.{Gets, gets-device, Timely, has, Goes, goes-inside, goes-only, p-waits, came-leads, came-gets, Going, going-keeps, going-count, going, gets-in}
+use Rattle.assurance.proofs.Posted.{posts-sound, posts-early, posts-time-on, posts-counter}
+use Rattle.assurance.proofs.Flags.{round-runs}
+use Rattle.assurance.proofs.Timely.{byte-goes, left-waiting, Gets, gets-device, Timely, has, Goes, goes-inside, goes-only, sent-value, came-leads, came-gets, Going, going-keeps, going-count, going, gets-in}
 
 -- ---- what hosts do meanwhile leaves every word behind the ports
 
@@ -62,8 +66,7 @@ others-beside plan held {s} x (then {t = t} kind d k number before g call) =
 
 -- ---- at the start all are in step
 
-pub start-in-step : (plan : Plan) → Held plan → (master D : ℕ)
-    → ((n e : ℕ) → Crosses plan master (started plan) n e → (m : ℕ) × (m ≤ D) × Crosses plan master (started plan) m e) → InStep plan master D (started plan)
+pub start-in-step : (plan : Plan) → Held plan → (master D : ℕ) → Within (carrying plan (started plan) master) D → InStep plan master D (started plan)
 start-in-step plan held master D within =
     record {
       sound = started-sound plan held;
@@ -71,6 +74,87 @@ start-in-step plan held master D within =
       equal = λ n e w. start-behind plan (counterAt e) (omega arith) ∙ sym (start-behind plan (counterAt master) (omega arith));
       within = within;
     }
+
+-- ---- in step all stay, while nobody ticks
+
+-- where links run as they did the same devices are as far away
+crosses-on : (plan : Plan) (master : ℕ) (a b : State) → ((q : ℕ) → q < 256 → running b q ≡ running a q) → (n e : ℕ) → Crosses plan master a n e → Crosses plan master b n e
+crosses-on plan master a b on zero e here = here
+crosses-on plan master a b on (suc n) e (cross q way relays leads) =
+    cross q (crosses-on plan master a b on n (q / 8) way) relays (leads .0, on q (leads .0) ∙ leads .1, leads .2)
+
+within-on : (plan : Plan) (master D : ℕ) (a b : State) → ((q : ℕ) → q < 256 → running b q ≡ running a q) → Within (carrying plan a master) D → Within (carrying plan b master) D
+within-on plan master D a b on w =
+    record {
+      shorter = λ {n} {d = e} way.
+          let near = w .shorter (crosses-on plan master b a (λ q h. sym (on q h)) n e way) in
+          (near .0, near .1, crosses-on plan master a b on (near .0) e (near .2));
+    }
+
+module _ (plan : Plan) (held : Held plan) (master D : ℕ) where
+  -- the master is one of 32, where a way leads to such a device
+  from-master : (s : State) (n e : ℕ) → Crosses plan master s n e → e < 32 → master < 32
+  from-master s zero e here h = h
+  from-master s (suc n) e (cross q way relays leads) h = from-master s n (q / 8) way (omega (arith, leads .0))
+
+  crosses-small : (s : State) → Sound plan s → (n e : ℕ) → Crosses plan master s n e → (e ≡ master) ⊎ (e < 32)
+  crosses-small s x zero e here = inl refl
+  crosses-small s x (suc n) e (cross q way relays leads) = inr (omega (arith, leads .2, runs-joined plan held x q (leads .0) (leads .1)))
+
+  -- links, counters and what waits of Time-Codes are as they were
+  in-step-on : (a b : State) → InStep plan master D a → Sound plan b → ((q : ℕ) → q < 256 → running b q ≡ running a q)
+      → ((e : ℕ) → e < 32 → counter b e ≡ counter a e) → ((q : ℕ) → q < 256 → timeWaits b q ≡ 0) → InStep plan master D b
+  in-step-on a b g sound runs count idle =
+      record {
+        sound = sound;
+        idle = idle;
+        equal = λ n e way.
+            let before = crosses-on plan master b a (λ q h. sym (runs q h)) n e way in
+            elim (crosses-small a (g .sound) n e before) [
+              | inl o ↦ ap (counter b) o
+              | inr h ↦ count e h ∙ g .equal n e before ∙ sym (count master (from-master a n e before h))
+            ];
+        within = within-on plan master D a b runs (g .within);
+      }
+
+  beside-in-step : {a b : State} → InStep plan master D a → Beside plan a b → InStep plan master D b
+  beside-in-step g y =
+      in-step-on _ _ g (y .sound) (y .runs) (λ e h. y .behind (counterAt e) (omega arith))
+      (λ q h. ap (λ n. n % 128) (y .behind (timeAt q) (omega arith)) ∙ g .idle q h)
+
+  module _ {a : State} (g : InStep plan master D a) where
+    none-goes : (q : ℕ) → timeGoes a q ≡ true → ⊥
+    none-goes q goes =
+        let some = goes-waits a q goes in
+        dite (decLt q 256) (λ h. omega (arith, some, g .idle q h))
+        (λ n. omega (arith, some, ap (λ w. w % 128) (word-past a (timeAt q) (omega (arith, g .sound .size)))))
+
+    -- so that what arrives changes no word behind the ports
+    round-behind : (i : ℕ) → portsEnd ≤ i → word (round plan a .next) i ≡ word (afterSending plan a .state) i
+    unfolding round reached
+    round-behind i h =
+        let n = few plan held in
+        Loops·keeps (Round·arrives plan (sentBytes plan a)) (λ w. Sound plan (w .state) × (word (w .state) i ≡ word (afterSending plan a .state) i)) (8 * devices plan)
+        (λ j w b y. (
+          arrives-sound plan held (sentBytes plan a) j (omega arith) w (y .0),
+          arrives-any plan (sentBytes plan a) j (omega arith) w (λ u. word (u .state) i ≡ word (afterSending plan a .state) i) (λ none big. y .1)
+              (λ value l e. absurd (none-goes (peer plan j) (byte-goes plan held a (peer plan j) (omega arith))))
+              (λ kind k f l e o. took plan kind k f l (j / 8) j (omega arith) (w .state) (y .0 .size) (router plan (j / 8)) .behind i h ∙ y .1),
+        ))
+        (afterSending plan a) (posts-sound plan held (g .sound), refl) .1
+
+    round-in-step : InStep plan master D (round plan a .next)
+    round-in-step =
+        in-step-on a _ g (round-sound plan held a (g .sound)) (λ q h. round-runs plan held q h a (g .sound))
+        (λ e h. round-behind (counterAt e) (omega arith) ∙ posts-counter plan held (g .sound) e h)
+        (λ q h. ap (λ n. n % 128) (round-behind (timeAt q) (omega arith)) ∙ elim (left-waiting plan held a (g .sound) q h) [ inl z ↦ z | inr o ↦ o .0 ∙ g .idle q h ])
+
+  -- after any number of rounds, with what hosts do between them
+  rests : {s : State} (last : ℕ) (at : ℕ → State) → InStep plan master D s → Played plan (Others plan) last s at → (t : ℕ) → t ≤ last → InStep plan master D (at t)
+  rests last at g played zero h = beside-in-step g (others-beside plan held (g .sound) (played .begins))
+  rests last at g played (suc t) h =
+      let y = round-in-step (rests last at g played t (omega arith)) in
+      beside-in-step y (others-beside plan held (y .sound) (played .goes-on t h))
 
 -- ---- from the tick on
 
@@ -171,7 +255,7 @@ module _ (plan : Plan) (held : Held plan) (master D : ℕ) (s : State) (last : �
           count = going-count plan held master there s x c c-small a f gone-on;
           only = λ q h. elim (gone-on .fresh q h) [
             | inr o ↦ inr (o .0, (o .3, inr (o .4)))
-            | inl same ↦ elim (p-waits plan held master there s x c c-small a f q h) [
+            | inl same ↦ elim (left-waiting plan held a (f .sound) q h) [
               | inl z ↦ inl (same ∙ z)
               | inr o ↦ elim (f .only q h) [ inl z ↦ inl (same ∙ o .0 ∙ z) | inr w ↦ inr (same ∙ o .0 ∙ w .0, w .1) ]
             ]
@@ -285,7 +369,7 @@ module _ (plan : Plan) (held : Held plan) (master D : ℕ) (s : State) (last : �
             | inr o ↦ inr (peer plan (o .1 .0), o .1 .1 .sender, came-leads plan held master there s x c c-small a f (o .1 .1))
           ];
           waiting = λ {q} z. elim (y .fresh q (z .0)) [
-            | inl same ↦ elim (p-waits plan held master there s x c c-small a f q (z .0)) [
+            | inl same ↦ elim (left-waiting plan held a (f .sound) q (z .0)) [
               | inl empty ↦ absurd (omega (arith, timed q, same, empty, z .1))
               | inr o ↦ inl ((z .0, sym (o .0) ∙ sym same ∙ sym (timed q) ∙ z .1), λ g. false≢true (sym (o .1) ∙ g))
             ]
@@ -306,10 +390,14 @@ module _ (plan : Plan) (held : Held plan) (master D : ℕ) (s : State) (last : �
     unfolding round toldIn
     told-in e get node = rw (counted e, ← posts-counter plan held (f .sound) e (small get)) (y .told e get node)
 
+    untold-in : (e n : ℕ) → e < 32 → n < 64 → (n ≡ v → Reached e → router plan e ≡ false → ⊥) → toldIn plan ofTime e n a ≡ 0
+    unfolding round toldIn
+    untold-in e n l m not = y .untold e n l m not
+
   spread : Flooded N timeCrossing last D (λ t. sight (at t)) (λ t q. timeGoes (at t) q ≡ true)
   spread =
       flooded N timeCrossing last (omega arith) (λ t. sight (at t)) (λ t q. timeGoes (at t) q ≡ true) (record { start = start; step = step }) D
-      (record { shorter = λ {n} {d} way. given .within n d way })
+      (given .within)
 
   -- ---- what hosts are told of it, in the first t rounds
 
@@ -319,12 +407,17 @@ module _ (plan : Plan) (held : Held plan) (master D : ℕ) (s : State) (last : �
   told-by e get node zero h = omega arith
   told-by e get node (suc t) h = omega (arith, told-by e get node t (omega arith), told-in t h e get node)
 
+  untold-by : (e n : ℕ) → e < 32 → n < 64 → (n ≡ v → Reached e → router plan e ≡ false → ⊥) → (t : ℕ) → t ≤ last → toldBy plan ofTime e n at t ≡ 0
+  unfolding toldBy
+  untold-by e n l m not zero h = refl
+  untold-by e n l m not (suc t) h = omega (arith, untold-by e n l m not t (omega arith), untold-in t h e n l m not)
+
   comes : (n e t : ℕ) → Crosses plan master s n e → timeCrossing * n ≤ t → t ≤ last → counter (at t) e ≡ v
   unfolding sight
   comes n e t w from to = spread .reached w t from to .1
 
   at-last : (n e : ℕ) → Crosses plan master s n e → counter (at last) e ≡ v
-  at-last n e w = let near = given .within n e w in comes (near .0) e last (near .2) (omega (arith, near .1, beaten .enough)) (le-refl _)
+  at-last n e w = let near = given .within .shorter w in comes (near .0) e last (near .2) (omega (arith, near .1, beaten .enough)) (le-refl _)
 
   first-value : counter (at 0) master ≡ v
   first-value = begins .behind (counterAt master) (omega arith) ∙ first-here
@@ -332,13 +425,52 @@ module _ (plan : Plan) (held : Held plan) (master D : ℕ) (s : State) (last : �
   first-other : (n e : ℕ) → Crosses plan master s n e → e ≢ master → counter (at 0) e ≡ c
   first-other n e w ne = begins .behind (counterAt e) (omega arith) ∙ first-else e (small (n, w)) ne ∙ given .equal n e w
 
+  -- ---- over which links it goes
+
+  -- in one of the first t rounds the link at port q carried it
+  Carried : ℕ → ℕ → Type 0
+  Carried q t = (u : ℕ) × (u < t) × ((timeGoes (at u) q ≡ true) ⊎ (timeGoes (at u) (peer plan q) ≡ true))
+
+  module _ (q : ℕ) (l : q < 256) (get : Reached (q / 8)) (on : Relays N (q / 8)) (runs : running s q ≡ 1) where
+    is-router : (t : ℕ) → t ≤ last → counter (at t) (q / 8) ≡ c → router plan (q / 8) ≡ true
+    is-router t h old = elim on [ inr r ↦ r | inl own ↦ absurd (omega (arith, old, ap (counter (at t)) own, comes 0 master t here (omega arith) h, c-small)) ]
+
+    -- its device does not have the value yet, or the Time-Code waits there, or it went
+    on-its-way : (t : ℕ) → t ≤ last → (counter (at t) (q / 8) ≡ c) ⊎ ((timeWaits (at t) q ≡ v + 1) ⊎ Carried q t)
+    unfolding round Carried
+    on-its-way zero h =
+        elim (ℕ-discrete (q / 8) master) [
+          | no ne ↦ inl (first-other (get .0) (q / 8) (get .1) ne)
+          | yes own ↦
+              let is : 8 * master + q % 8 ≡ q = omega arith in
+              inr (inl (ap (λ n. n % 128) (begins .behind (timeAt q) (omega arith)) ∙ rw is at (tick-waits master (q % 8) room (omega arith) s (x .size) (rw is runs))))
+        ]
+    on-its-way (suc t) h =
+        elim (on-its-way t (omega arith)) [
+          | inr o ↦ elim o [
+            | inr z ↦ inr (inr (z .0, omega (arith, z .1), z .2))
+            | inl w ↦ elim (served t h q l w) [ inl g ↦ inr (inr (t, le-refl _, inl g)) | inr a ↦ inr (inl (a .0)) ]
+          ]
+          | inl old ↦ elim (fine (suc t) h .count (q / 8) get) [
+            | inl yet ↦ inl yet
+            | inr now ↦ elim (y t h .relays q l (is-router t (omega arith) old) runs (sym (counted t h (q / 8)) ∙ now)) [
+              | inl had ↦ absurd (omega (arith, old, had, posts-counter plan held (f t h .sound) (q / 8) (small get)))
+              | inr o ↦ elim o [ inl w ↦ inr (inl (timed t h q ∙ w)) | inr g ↦ inr (inr (t, le-refl _, inr g)) ]
+            ]
+          ]
+        ]
+
+    carried : Carried q last
+    unfolding sight
+    carried =
+        elim (on-its-way last (le-refl _)) [
+          | inl old ↦ absurd (omega (arith, old, at-last (get .0) (q / 8) (get .1), c-small))
+          | inr o ↦ elim o [ inl w ↦ absurd (spread .done last (beaten .enough) (le-refl _) (l, w)) | inr z ↦ z ]
+        ]
+
   -- links run as they did, so that the same devices are as far away
   same : (q : ℕ) → q < 256 → running (at last) q ≡ running s q
   same = fine last (le-refl _) .runs
-
-  there-still : (a b : State) → ((q : ℕ) → q < 256 → running b q ≡ running a q) → (n e : ℕ) → Crosses plan master a n e → Crosses plan master b n e
-  there-still a b on zero e here = here
-  there-still a b on (suc n) e (cross q way relays leads) = cross q (there-still a b on n (q / 8) way) relays (leads .0, on q (leads .0) ∙ leads .1, leads .2)
 
   in-step : InStep plan master D (at last)
   unfolding sight
@@ -346,12 +478,9 @@ module _ (plan : Plan) (held : Held plan) (master D : ℕ) (s : State) (last : �
       record {
         sound = fine last (le-refl _) .sound;
         idle = λ q h. elim (fine last (le-refl _) .only q h) [ inl z ↦ z | inr o ↦ absurd (spread .done last (beaten .enough) (le-refl _) (h, o .0)) ];
-        equal = λ n e w. at-last n e (before n e w) ∙ sym (at-last 0 master here);
-        within = λ n e w. let near = given .within n e (before n e w) in (near .0, near .1, there-still s (at last) same (near .0) e (near .2));
+        equal = λ n e w. at-last n e (crosses-on plan master (at last) s (λ q h. sym (same q h)) n e w) ∙ sym (at-last 0 master here);
+        within = within-on plan master D s (at last) same (given .within);
       }
-    where
-      before : (n e : ℕ) → Crosses plan master (at last) n e → Crosses plan master s n e
-      before = there-still (at last) s (λ q h. sym (same q h))
 
   -- a counter that moved is that of a device that Time-Codes get to
   moved : (e t : ℕ) → e < 32 → t ≤ last → (counter (at t) e ≡ counter s e) ⊎ Reached e
@@ -382,23 +511,40 @@ module _ (plan : Plan) (held : Held plan) (master D : ℕ) (s : State) (last : �
         ]
       ]
 
+  master-untold : toldBy plan ofTime master v at last ≡ 0
+  master-untold =
+      let sum = told-by master reaches-itself is-node last (le-refl _) in
+      let end : has plan held master there s x c c-small (counter (at last) master) ≡ 1 = rw (at-last 0 master here, eq-eqb v v refl) in
+      let one : has plan held master there s x c c-small (counter (at 0) master) ≡ 1 = rw (first-value, eq-eqb v v refl) in
+      omega arith
+
+  sends-time : (t : ℕ) → t < last → (q : ℕ) → timeGoes (at t) q ≡ true → SendsTime plan (at t) q
+  sends-time t h q g = omega (arith, sent-value plan held master there s x c c-small (at t) (f t h) q g)
+
   arrives : Arrives plan master D s last at
-  unfolding sight
+  unfolding sight Carried
   arrives =
       record {
         comes = comes;
-        once = λ q t u lt to g k. spread .once t u lt to g k;
         only = only;
-        told = λ n e w node ne.
-            let sum = told-by e (n, w) node last (le-refl _) in
-            let end : has plan held master there s x c c-small (counter (at last) e) ≡ 1 = rw (at-last n e w, eq-eqb v v refl) in
-            let none : has plan held master there s x c c-small (counter (at 0) e) ≡ 0 = rw (first-other n e w ne, ne-eqb c v (omega arith)) in
+        keeps = λ e t h to is. counted t to e ∙ kept t to e h is;
+        carries = λ n q w on l runs.
+            let z = carried q l (n, w) on runs in
+            (z .0, z .1, elim (z .2) [ inl g ↦ inl (sends-time (z .0) (z .1) q g) | inr g ↦ inr (sends-time (z .0) (z .1) (peer plan q) g) ]);
+        once = λ q t u lt to g k. spread .once t u lt to (byte-goes plan held (at t) q g) (byte-goes plan held (at u) q k);
+        told = λ e hears.
+            let get = hears .0 in
+            let sum = told-by e get (hears .1) last (le-refl _) in
+            let end : has plan held master there s x c c-small (counter (at last) e) ≡ 1 = rw (at-last (get .0) e (get .1), eq-eqb v v refl) in
+            let none : has plan held master there s x c c-small (counter (at 0) e) ≡ 0 = rw (first-other (get .0) e (get .1) (hears .2), ne-eqb c v (omega arith)) in
             omega arith;
-        master-untold =
-            let sum = told-by master reaches-itself is-node last (le-refl _) in
-            let end : has plan held master there s x c c-small (counter (at last) master) ≡ 1 = rw (at-last 0 master here, eq-eqb v v refl) in
-            let one : has plan held master there s x c c-small (counter (at 0) master) ≡ 1 = rw (first-value, eq-eqb v v refl) in
-            omega arith;
+        untold = λ e n h l not. elim (ℕ-discrete e master) [
+          | no ne ↦ untold-by e n h l (λ is get node. not is (get, node, ne)) last (le-refl _)
+          | yes o ↦ elim (ℕ-discrete n v) [
+            | no ne ↦ untold-by e n h l (λ is get node. ne is) last (le-refl _)
+            | yes is ↦ rw (o, is) master-untold
+          ]
+        ];
         again = in-step;
       }
 
@@ -413,6 +559,9 @@ distributes-all plan held master D s u given beats = each u beats .0
   where
     each : (u : State) (beats : Beats plan master D s u) → EachArrives plan master D s u beats × InStep plan master D u
     each u still = (tt, given)
+    each u (rest {t} rounds at before resting) =
+        let past = each t before in
+        (past .0, rests plan held master D rounds at (past .1) resting rounds (le-refl _))
     each u (beat {t} rounds at before last) =
         let past = each t before in
         let now = arrives plan held master D t rounds at (past .1) last in

@@ -1,7 +1,7 @@
 -- To any device that Time-Codes get to there are fewer crossings than there are devices: a way with as many comes to a device twice, and can leave the loop out.
 use mathlib.Core.Path.{_≡_, refl, sym, subst}
 use mathlib.Core.Logic.{_⊎_, inl, inr}
-use Prim.Native.Nat.{ℕ, suc, _≤_, _<_}
+use Prim.Native.Nat.{ℕ, suc, _-_, _≤_, _<_}
 use native.Mathlib.Nat.{le-refl}
 use native.Mathlib.Decide.{ℕ-discrete}
 use native.Mathlib.Omega.{arith}
@@ -66,4 +66,8 @@ module _ (plan : Plan) (held : Held plan) (master : ℕ) (there : master < devic
 
 pub some-d : SomeD
 unfolding SomeD
-some-d plan held master there s sound n e w = short plan held master there s sound w
+some-d plan held master there s sound = (
+  devices plan - 1,
+  omega arith,
+  record { shorter = λ way. let p = short plan held master there s sound way in (p .0, omega (arith, p .1), p .2) },
+)

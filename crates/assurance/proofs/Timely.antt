@@ -34,6 +34,37 @@ use Rattle.assurance.proofs.Choices.{runs-there, runs-joined}
 use Rattle.assurance.proofs.Entering.{counts-turns}
 use Rattle.assurance.proofs.Posted.{posts-sound, posts-runs, posts-time-gone, posts-time-on, posts-counter}
 
+-- ---- of any state
+
+module _ (plan : Plan) (held : Held plan) (s : State) where
+  -- a byte of a Time-Code is one
+  pub byte-goes : (q : ℕ) → getD (sentBytes plan s) q nothing < 64 → timeGoes s q ≡ true
+  unfolding sentBytes
+  byte-goes q small =
+      let n = few plan held in
+      dite (decLt q (8 * devices plan)) (λ h. sends-time s q (omega (arith, sent-at {k = 0} (omega arith) plan held s q h)))
+      (λ n. dite (decLt q sentWords)
+      (λ h. let none : getD (sentBytes plan s) q nothing ≡ nothing = getD-table sentWords _ q nothing h ∙ rw (le-ltb q (8 * devices plan) (omega arith)) in absurd (omega arith))
+      (λ h. let none : getD (sentBytes plan s) q nothing ≡ nothing = List·getD-eq-default (sentBytes plan s) nothing (rw length-table (omega arith)) in absurd (omega arith)))
+
+  -- after sending what waited and did not go waits on, and nothing else
+  pub left-waiting : Sound plan s → (q : ℕ) → q < 256
+      → (timeWaits (afterSending plan s .state) q ≡ 0) ⊎ ((timeWaits (afterSending plan s .state) q ≡ timeWaits s q) × (timeGoes s q ≡ false))
+  left-waiting x q h =
+      dite (decLt q (8 * devices plan)) (λ i. by-test i (timeGoes s q) refl)
+      (λ n. inl (rw (posts-sound plan held x .clock .no-word q h (absent (omega arith) (exists plan q) refl))))
+    where
+      by-test : q < 8 * devices plan → (t : Bool) → timeGoes s q ≡ t
+          → (timeWaits (afterSending plan s .state) q ≡ 0) ⊎ ((timeWaits (afterSending plan s .state) q ≡ timeWaits s q) × (timeGoes s q ≡ false))
+      by-test i true g = inl (posts-time-gone plan held x q i g)
+      by-test i false g = inr (posts-time-on plan held x q i g, g)
+
+      absent : 8 * devices plan ≤ q → (b : Bool) → exists plan q ≡ b → exists plan q ≡ false
+      absent out false e = e
+      absent out true e = absurd (omega (arith, owned plan held q h e))
+
+-- ---- where one Time-Code is about
+
 -- s₀ : the state before the tick, whose running flags count. c : the counter there, v : the value of the tick
 module _ (plan : Plan) (held : Held plan) (master : ℕ) (there : master < devices plan) (s₀ : State) (x₀ : Sound plan s₀) (c : ℕ) (c-small : c < 64) where
   abbrev v : ℕ
@@ -91,33 +122,10 @@ module _ (plan : Plan) (held : Held plan) (master : ℕ) (there : master < devic
         elim (x .only q (omega (arith, goes-inside q g, few plan held))) [ inl z ↦ absurd (omega arith) | inr y ↦ y ]
 
     -- its byte is the value
-    sent-value : (q : ℕ) → Goes q → getD (sentBytes plan s) q nothing ≡ v
+    pub sent-value : (q : ℕ) → Goes q → getD (sentBytes plan s) q nothing ≡ v
     sent-value q g = sent-at {k = 0} (omega arith) plan held s q (goes-inside q g) ∙ post-time s q g ∙ omega (arith, goes-only q g .0)
 
-    -- and such a byte is no other
-    byte-goes : (q : ℕ) → getD (sentBytes plan s) q nothing < 64 → Goes q
-    unfolding sentBytes
-    byte-goes q small =
-        let n = few plan held in
-        dite (decLt q (8 * devices plan)) (λ h. sends-time s q (omega (arith, sent-at {k = 0} (omega arith) plan held s q h)))
-        (λ n. dite (decLt q sentWords)
-        (λ h. let none : getD (sentBytes plan s) q nothing ≡ nothing = getD-table sentWords _ q nothing h ∙ rw (le-ltb q (8 * devices plan) (omega arith)) in absurd (omega arith))
-        (λ h. let none : getD (sentBytes plan s) q nothing ≡ nothing = List·getD-eq-default (sentBytes plan s) nothing (rw length-table (omega arith)) in absurd (omega arith)))
-
     -- ---- after sending
-
-    pub p-waits : (q : ℕ) → q < 256 → (timeWaits p q ≡ 0) ⊎ ((timeWaits p q ≡ timeWaits s q) × (timeGoes s q ≡ false))
-    p-waits q h = by-test (timeGoes s q) refl
-      where
-        by-test : (t : Bool) → timeGoes s q ≡ t → (timeWaits p q ≡ 0) ⊎ ((timeWaits p q ≡ timeWaits s q) × (timeGoes s q ≡ false))
-        by-test true g = inl (posts-time-gone plan held (x .sound) q (goes-inside q g) g)
-        by-test false g =
-            dite (decLt q (8 * devices plan)) (λ i. inr (posts-time-on plan held (x .sound) q i g, g))
-            (λ n. inl (rw (posts-sound plan held (x .sound) .clock .no-word q h (absent (omega arith) (exists plan q) refl))))
-          where
-            absent : 8 * devices plan ≤ q → (b : Bool) → exists plan q ≡ b → exists plan q ≡ false
-            absent out false e = e
-            absent out true e = absurd (omega (arith, owned plan held q h e))
 
     p-runs : (q : ℕ) → q < 256 → running p q ≡ running s₀ q
     p-runs q h = posts-runs plan held (x .sound) q h ∙ x .runs q h
@@ -173,6 +181,8 @@ module _ (plan : Plan) (held : Held plan) (master : ℕ) (there : master < devic
           → (counter p (q / 8) ≡ v) ⊎ ((timeWaits (w .state) q ≡ v + 1) ⊎ Goes (peer plan q))
       -- the host of a node is told of it where its counter takes the value
       pub told : (e : ℕ) → Gets e → router plan e ≡ false → times (toldWord ofTime e v) (w .told) + has (counter p e) ≡ has (counter (w .state) e)
+      -- nobody else is told of it, and nobody of another
+      pub untold : (e n : ℕ) → e < 32 → n < 64 → (n ≡ v → Gets e → router plan e ≡ false → ⊥) → times (toldWord ofTime e n) (w .told) ≡ 0
 
     -- who has it keeps it
     pub going-keeps : {w : World} → Going w → (e : ℕ) → e < 32 → counter p e ≡ v → counter (w .state) e ≡ v
@@ -191,7 +201,7 @@ module _ (plan : Plan) (held : Held plan) (master : ℕ) (there : master < devic
 
     -- words behind the ports are as they were, and no word of a Time-Code is told
     going-same : {w u : World} → Going w → Sound plan (u .state) → ((q : ℕ) → q < 256 → running (u .state) q ≡ running (w .state) q)
-        → ((i : ℕ) → portsEnd ≤ i → word (u .state) i ≡ word (w .state) i) → ((e : ℕ) → times (toldWord ofTime e v) (u .told) ≡ times (toldWord ofTime e v) (w .told)) → Going u
+        → ((i : ℕ) → portsEnd ≤ i → word (u .state) i ≡ word (w .state) i) → ((e n : ℕ) → times (toldWord ofTime e n) (u .told) ≡ times (toldWord ofTime e n) (w .told)) → Going u
     going-same y sound runs same told =
         let counts : (e : ℕ) → counter _ e ≡ counter _ e = λ e. same (counterAt e) (omega arith) in
         let times : (q : ℕ) → time _ q ≡ time _ q = λ q. same (timeAt q) (omega arith) in
@@ -208,7 +218,8 @@ module _ (plan : Plan) (held : Held plan) (master : ℕ) (there : master < devic
             | inl o ↦ inl o
             | inr o ↦ inr (elim o [ inl a ↦ inl (ap (λ n. n % 128) (times q) ∙ a) | inr a ↦ inr a ])
           ];
-          told = λ e get node. rw (told e, counts e) (y .told e get node);
+          told = λ e get node. rw (told e v, counts e) (y .told e get node);
+          untold = λ e n h l not. told e n ∙ y .untold e n h l not;
         }
 
     module _ (j : ℕ) (i : j < 8 * devices plan) (w : World) (y : Going w) where
@@ -228,7 +239,7 @@ module _ (plan : Plan) (held : Held plan) (master : ℕ) (there : master < devic
       taken : (kind k : ℕ) → kind < 2 → k < 32 → Sound plan (takes plan kind k j (router plan d) w .state) → Going (takes plan kind k j (router plan d) w)
       taken kind k g l sound =
           going-same y sound (λ q h. took plan kind k g l d j room (w .state) (y .sound .size) (router plan d) .runs q)
-          (taken-behind kind k g l) (λ e. times-other (toldWord ofTime e v) (toldWord (ofInterrupt + kind) d k) (omega (arith, room)) (router plan d) (w .told))
+          (taken-behind kind k g l) (λ e n. times-other (toldWord ofTime e n) (toldWord (ofInterrupt + kind) d k) (omega (arith, room)) (router plan d) (w .told))
 
       -- the Time-Code: the counter takes its value
       abbrev t : State
@@ -345,8 +356,18 @@ module _ (plan : Plan) (held : Held plan) (master : ℕ) (there : master < devic
                   ]
                 ];
                 told = telling;
+                untold = λ e n h l not. tells-else hands role e n h l not ∙ y .untold e n h l not;
               }
             where
+              tells-else : (b : Bool) → router plan d ≡ b → (e n : ℕ) → e < 32 → n < 64 → (n ≡ v → Gets e → router plan e ≡ false → ⊥)
+                  → times (toldWord ofTime e n) (cond (not b) (w .told ++ (toldWord ofTime d v ∷ [])) (w .told)) ≡ times (toldWord ofTime e n) (w .told)
+              tells-else true r e n h l not = refl
+              tells-else false r e n h l not =
+                  times-other (toldWord ofTime e n) (toldWord ofTime d v)
+                  (λ same.
+                  let own : e ≡ d = omega (arith, same, room) in
+                  not (omega (arith, same, room)) (rw own (came-gets came)) (rw own r)) false (w .told)
+
               has-now : (e : ℕ) → e < 32 → counter (w .state) e ≡ v → counter (u .state) e ≡ v
               has-now e h o = elim (ℕ-discrete e d) [ yes own ↦ rw own u-here | no ne ↦ u-else e h ne ∙ o ]
 
@@ -394,7 +415,7 @@ module _ (plan : Plan) (held : Held plan) (master : ℕ) (there : master < devic
           let n = few plan held in
           arrives-any plan (sentBytes plan s) j room w (λ u. Sound plan (u .state) → Going u) (λ none big sound. y)
           (λ value h e sound.
-          let g = byte-goes (peer plan j) (omega arith) in
+          let g = byte-goes plan held s (peer plan j) (omega arith) in
           let is : value ≡ v = sym e ∙ sent-value (peer plan j) g in
           rw is (going-counts (record { inside = small; here = refl; sender = g }) (rw is at sound)))
           (λ kind k g l e o sound. taken kind k g l sound)
@@ -405,7 +426,7 @@ module _ (plan : Plan) (held : Held plan) (master : ℕ) (there : master < devic
       arrives-keeps e h is =
           arrives-any plan (sentBytes plan s) j room w (λ u. counter (u .state) e ≡ v) (λ none big. is)
           (λ value b o.
-          let g = byte-goes (peer plan j) (omega arith) in
+          let g = byte-goes plan held s (peer plan j) (omega arith) in
           let same : value ≡ v = sym o ∙ sent-value (peer plan j) g in
           rw same (by-test (isNew v j w && router plan d)))
           (λ kind k g l o m. taken-behind kind k g l (counterAt e) (omega arith) ∙ is)
@@ -426,8 +447,8 @@ module _ (plan : Plan) (held : Held plan) (master : ℕ) (there : master < devic
     -- ---- the round
 
     -- before the arrivals no host was told of a Time-Code
-    first-told : (e : ℕ) → e < 32 → times (toldWord ofTime e v) (afterTimers plan s .told) ≡ 0
-    first-told e h = falls-told plan held s (toldWord ofTime e v) (λ d j a b. omega arith)
+    first-told : (e n : ℕ) → times (toldWord ofTime e n) (afterTimers plan s .told) ≡ 0
+    first-told e n = falls-told plan held s (toldWord ofTime e n) (λ d j a b. omega arith)
 
     going-first : Going (afterSending plan s)
     going-first =
@@ -438,7 +459,8 @@ module _ (plan : Plan) (held : Held plan) (master : ℕ) (there : master < devic
           counted = λ e h. inl refl;
           fresh = λ q h. inl refl;
           relays = λ q h r on is. inl is;
-          told = λ e get node. omega (arith, first-told e (omega (arith, gets-device (get .1), few plan held)));
+          told = λ e get node. omega (arith, first-told e v);
+          untold = λ e n h l not. first-told e n;
         }
 
     pub going : Going (reached plan (sentBytes plan s) (afterSending plan s))

@@ -26,9 +26,9 @@ pub data Calls (plan : Plan) (k : ℕ) (s : State) : State → Type 0 where
   tick : {t u : State} (d number : ℕ) → Calls plan k s t → Ticks plan d t number u → Calls plan k s u
 
 -- so many rounds are played from s on, each with calls after it; `at t` is the state after t rounds and the calls after them
-pub record Played (plan : Plan) (Between : State → State → Type 0) (rounds : ℕ) (s : State) (at : ℕ → State) : Type 0 where
-  pub begins : Between s (at 0)
-  pub goes-on : (t : ℕ) → t < rounds → Between (round plan (at t) .next) (at (suc t))
+pub record Played (plan : Plan) (Calling : State → State → Type 0) (rounds : ℕ) (s : State) (at : ℕ → State) : Type 0 where
+  pub begins : Calling s (at 0)
+  pub goes-on : (t : ℕ) → t < rounds → Calling (round plan (at t) .next) (at (suc t))
 
 abbrev pub Course : Plan → ℕ → ℕ → State → (ℕ → State) → Type 0
 Course plan k = Played plan (Calls plan k)

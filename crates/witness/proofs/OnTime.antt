@@ -3,8 +3,9 @@
 use mathlib.Core.Path.{_≡_, refl, sym, _∙_}
 use mathlib.Core.Bool.{Bool, true, false, _&&_}
 use mathlib.Core.List.{[]}
-use mathlib.Core.Logic.{inl}
+use mathlib.Core.Logic.{inl, inr}
 use Prim.Native.Nat.{ℕ, zero, suc, _-_, _≤_, _<_}
+use native.Mathlib.Nat.{le-refl}
 use native.Mathlib.Omega.{arith}
 use lib.Dec.{eqb}
 use Rattle.answers.proofs.Outcomes.{passed}
@@ -23,18 +24,21 @@ use Rattle.state.specs.Mark.{mark}
 use Rattle.state.specs.Sound.{Sound}
 use Rattle.state.specs.Start.{started}
 use Rattle.state.proofs.Plans.{owned}
-use Rattle.state.proofs.Started.{started-sound}
+use Rattle.state.proofs.Started.{start-joined, started-sound}
 use Rattle.calls.specs.Calls.{tickAsks, called, advanced}
 use Rattle.calls.proofs.Called.{tick-sound, call-sound}
-use Rattle.bench.specs.Round.{fall, firstWaits, goes, timeGoes, stamped, chosen, sentWord, sends, unqueued, timed, forwarded, acted, arrived, fallen, sentBytes, posted, arrives, reached, round}
+use Rattle.bench.specs.Round.{ofTime, fall, firstWaits, goes, timeGoes, stamped, chosen, sentWord, sends, unqueued, timed, forwarded, acted, arrived, fallen, sentBytes, posted, arrives, reached, round}
+use Rattle.bench.specs.Settling.{rounds}
 use Rattle.bench.proofs.RoundSound.{rounds-sound}
-use Rattle.flood.specs.Flood.{here, cross}
-use Rattle.assurance.specs.Distribution.{none, timeCrossing, timeWindow, Crosses, InStep, Beat, Distributes}
+use Rattle.laws.specs.Telling.{toldBy}
+use Rattle.flood.specs.Flood.{here, cross, Within}
+use Rattle.assurance.specs.Distribution.{none, carrying, timeCrossing, timeWindow, Crosses, value, HearsTime, InStep, Beat, Distributes, SomeD}
 use Rattle.assurance.proofs.Timely.{gets-device}
-use Rattle.assurance.proofs.Distribution.{distributes}
-use Rattle.witness.specs.Line.{deaf, asked, again}
+use Rattle.assurance.proofs.Nearest.{some-d}
+use Rattle.assurance.proofs.Distribution.{start-in-step, distributes}
+use Rattle.witness.specs.Line.{line, deaf, asked, again}
 use Rattle.witness.specs.TimeRate.{Soon}
-use Rattle.witness.proofs.Accepted.{deaf-held}
+use Rattle.witness.proofs.Accepted.{line-held, deaf-held}
 
 -- the rounds of a crossing are enough
 pub soon : Soon timeCrossing
@@ -111,7 +115,7 @@ in-step =
       sound = asked-sound;
       idle = none-waits;
       equal = λ n e w. ready .count e (small w) ∙ sym (ready .count 0 (omega arith));
-      within = λ n e w. near e (small w);
+      within = record { shorter = λ {n} {d = e} w. near e (small w) };
     }
 
 pub ticks-again : Beat deaf 0 1 asked (timeWindow 1) again
@@ -130,3 +134,45 @@ pub two-needed : (W : ℕ) → W < timeCrossing → Soon W → ⊥
 unfolding Soon
 two-needed W h all =
     omega (arith, ready .late, ready .count 0 (omega arith), all deaf deaf-held 0 1 asked (timeWindow 1) again in-step ticks-again 1 1 (timeCrossing - 1) to-router (omega arith) (omega arith))
+
+-- ---- a host that hears of it: in the first plan node 0 ticks at the start, and node 2 is behind the router
+
+line-there : 0 < devices line
+unfolding line
+line-there = omega arith
+
+-- there is a D for it
+pub far : (D : ℕ) × (D < devices line) × Within (carrying line (started line) 0) D
+unfolding SomeD
+far = some-d line line-held 0 line-there (started line) (started-sound line line-held)
+
+-- rounds follow the tick, and nothing else does
+abbrev pub after : ℕ → State
+after t = rounds line t (advanced 0 (started line))
+
+runs-first : running (started line) 0 ≡ 1
+unfolding line
+runs-first = start-joined line 0 (omega arith) (omega arith)
+
+starts : InStep line 0 (far .0) (started line)
+starts = start-in-step line line-held 0 (far .0) (far .2)
+
+ticks-first : Beat line 0 (far .0) (started line) (timeWindow (far .0)) after
+unfolding line upTo
+ticks-first =
+    record {
+      taken = passed (tickAsks line 0 (started line)) [] 0 (line-held, (started-sound line line-held, (line-there, (refl, ((0, omega arith, runs-first), tt))))) refl;
+      enough = le-refl _;
+      passing = record { begins = none; goes-on = λ t h. none };
+    }
+
+hears : HearsTime line 0 (started line) 2
+unfolding line
+hears =
+    let way : Crosses line 0 (started line) 1 1 = cross 0 here (inl refl) (omega arith, runs-first, refl) in
+    ((2, cross 9 way (inr refl) (omega arith, start-joined line 9 (omega arith) (omega arith), refl)), refl, λ e. omega arith)
+
+-- it is told of the tick once
+pub told-once : toldBy line ofTime 2 (value 0 (started line)) after (timeWindow (far .0)) ≡ 1
+unfolding Distributes
+told-once = distributes line line-held 0 (far .0) (started line) (timeWindow (far .0)) after starts ticks-first .told 2 hears
