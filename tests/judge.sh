@@ -36,7 +36,7 @@ refused --cases 00
 refused --long --case 1
 refused --seed 1 --wrong
 
-# Under the emulator all networks take some 21 minutes, so that the gate tries a tenth of them there. JUDGE_TENTH=1 does
+# Under the emulator all networks take half an hour, so that the gate tries a tenth of them there. JUDGE_TENTH=1 does
 # the same on any machine.
 cases=2400
 if [ -n "$emulator" ] || [ "${JUDGE_TENTH-}" = 1 ]; then

@@ -58,7 +58,7 @@ u32 judge_acknowledge(const u8 *plan, size plan_length, u32 *state, size state_l
 }
 
 /* Running is the flag that is wanted: 0 stops the link, and any other number starts it. A stop clears what waits at both ends,
- * and beside the flags nothing else: registers and timers outlast it. */
+ * and whether a Time-Code was sent last there, and beside the flags nothing else: registers, timers and counters outlast it. */
 u32 judge_link(const u8 *plan, size plan_length, u32 *state, size state_length, size device, size port, u32 running) {
     struct network net;
     flag run = running != 0;

@@ -114,7 +114,7 @@ posts old q s = stamped (timeGoes old q) (chosen old q) q (unqueued old q s)
 
 -- ---- 3. codes arrive, and each device reacts
 
--- an accepted code loads its timer or stops it
+-- an accepted interrupt loads its timer, and an accepted acknowledge stops it
 unfoldable pub timed : (ℕ → ℕ) → ℕ → Code → State → State
 timed load d (Interrupt k) s = put s (timerAt d k) (load k)
 timed load d (Acknowledge k) s = put s (timerAt d k) 0

@@ -1,5 +1,5 @@
--- What a host is told in a round: a node's bit is what its host was told, a code is told that a port sent, and a timeout where a timer stood at 1; and what
--- a node accepts is what its host is told of.
+-- What a host is told in a round: a node's bit is what its host was told, a code is told that a port sent, and a timeout where a timer stood at 1; and the
+-- interrupts and acknowledges that a node accepts are those that its host is told of.
 use mathlib.Core.Path.{_≡_, refl, sym, ap, _∙_}
 use mathlib.Core.Bool.{Bool, true, false, cond}
 use mathlib.Core.List.{List, [], _∷_, _++_, List·Memᴰ, List·Memᴰ·head, List·Memᴰ·tail, Memᴰ·append-right, List·Memᴰ·append-cases, List·Memᴰ·eq-of-singleton, List·Memᴰ·not-nil}
@@ -254,7 +254,7 @@ module _ (plan : Plan) (held : Held plan) (s : State) (x : Sound plan s) (d k : 
       ] in
       elim (ℕ-discrete (toldIn plan ofTimeout d k s) 0) [ yes e ↦ e | no ne ↦ absurd (untold (some-told plan ofTimeout d k s (omega arith))) ]
 
--- ---- a node accepts what its host is told of, and nothing else
+-- ---- the interrupts and acknowledges that a node accepts are those that its host is told of
 
 module _ (plan : Plan) (held : Held plan) (s : State) (x : Sound plan s) (d k : ℕ) (h : d < devices plan) (l : k < 32) (kind : ℕ) (g : kind < 2) where
   abbrev word : ℕ
