@@ -193,9 +193,9 @@ static inline bench_u32 bench_code_write(bench_u32 kind, bench_u32 value, bench_
 
 /* One device gets a byte at a port: role 0 for a node, else a router; running 0 for no. Its register is updated where it
  * stands, at bits, and so is its counter, of which a number above 63 counts as its remainder by 64; null for either is a 0 that
- * nobody wants back. A Time-Code becomes the counter; where it is one above what that was, modulo 64, it is forwarded or told, and else
- * named. Returns what the device does; kind, top and value are those of the byte, as bench_code_read gives them, whatever is done
- * with it. */
+ * nobody wants back. A Time-Code becomes the counter; where it is one above what that was, modulo 64, it is forwarded or told, and
+ * else named. Returns what the device does; kind, top and value are those of the byte, as bench_code_read gives them, whatever is
+ * done with it. */
 static inline bench_u32 bench_react(bench_u32 role, bench_u32 running, bench_u32 permissions, bench_u32 *bits,
                                     bench_u32 *counter, bench_u8 byte, bench_u32 *kind, bench_u32 *top, bench_u32 *value) {
     bench_u32 held = 0, count = 0, of, high, given, action;

@@ -18,7 +18,7 @@ use Rattle.state.specs.Network.{devices, exists, router, peer}
 use Rattle.state.specs.Sound.{Sound}
 use Rattle.state.specs.Queue.{queueTimeAll}
 use Rattle.state.proofs.Words.{length-put, word-same, word-other, word-past, put-word}
-use Rattle.state.proofs.Plans.{FarEnd, few, owned, absent-loose, far-end}
+use Rattle.state.proofs.Plans.{FarEnd, few, owned, past-absent, absent-loose, far-end}
 use Rattle.state.proofs.Waits.{not-absent}
 use Rattle.state.proofs.Times.{queue-times-left, queue-times-cases, queue-times-waits}
 use Rattle.bench.specs.Round.{World, ofInterrupt, ofTime, toldWord, nothing, sentWords, timeGoes, sentBytes, arrives, reached, afterTimers, afterSending}
@@ -37,7 +37,7 @@ use Rattle.assurance.proofs.Posted.{posts-sound, posts-runs, posts-time
 -- ---- of any state
 
 module _ (plan : Plan) (held : Held plan) (s : State) where
-  -- a byte of a Time-Code is one
+  -- where the byte of a Time-Code is sent, one goes
   pub byte-goes : (q : ℕ) → getD (sentBytes plan s) q nothing < 64 → timeGoes s q ≡ true
   unfolding sentBytes
   byte-goes q small =
@@ -52,16 +52,12 @@ module _ (plan : Plan) (held : Held plan) (s : State) where
       → (timeWaits (afterSending plan s .state) q ≡ 0) ⊎ ((timeWaits (afterSending plan s .state) q ≡ timeWaits s q) × (timeGoes s q ≡ false))
   left-waiting x q h =
       dite (decLt q (8 * devices plan)) (λ i. by-test i (timeGoes s q) refl)
-      (λ n. inl (rw (posts-sound plan held x .clock .no-word q h (absent (omega arith) (exists plan q) refl))))
+      (λ n. inl (rw (posts-sound plan held x .clock .no-word q h (past-absent plan held q h (omega arith)))))
     where
       by-test : q < 8 * devices plan → (t : Bool) → timeGoes s q ≡ t
           → (timeWaits (afterSending plan s .state) q ≡ 0) ⊎ ((timeWaits (afterSending plan s .state) q ≡ timeWaits s q) × (timeGoes s q ≡ false))
       by-test i true g = inl (posts-time-gone plan held x q i g)
       by-test i false g = inr (posts-time-on plan held x q i g, g)
-
-      absent : 8 * devices plan ≤ q → (b : Bool) → exists plan q ≡ b → exists plan q ≡ false
-      absent out false e = e
-      absent out true e = absurd (omega (arith, owned plan held q h e))
 
 -- ---- where one Time-Code is about
 

@@ -1,6 +1,6 @@
 -- What a round passes over: it is so in every sound state of a held plan, and passing over it changes nothing.
 use mathlib.Core.Path.{_≡_, refl, sym, ap, subst, _∙_}
-use mathlib.Core.Bool.{Bool, true, false}
+use mathlib.Core.Bool.{Bool}
 use mathlib.Core.List.{List, []}
 use mathlib.Core.Logic.{dite}
 use Prim.Native.Nat.{ℕ, _+_, _*_, _/_, _%_, _≤_, _<_}
@@ -19,13 +19,13 @@ use Rattle.plan.specs.Reading.{Held}
 use Rattle.plan.specs.declared.Plan.{Plan}
 use Rattle.plan.proofs.BothWays.{held-few}
 use Rattle.state.specs.State.{State, words, word, put, deviceWords, portsAt, portsEnd, registerAt, timerAt, timer, counterAt, timeAt}
-use Rattle.state.specs.Network.{devices, portsOf, exists, peer}
+use Rattle.state.specs.Network.{devices, portsOf, peer}
 use Rattle.state.specs.Sound.{Sound}
 use Rattle.bench.specs.Round.{World, nothing, sentWords, fall, sentBytes, arrives, round}
 use Rattle.bench.specs.inner.Idle.{Rests, Unused, portsPast, Behind, Blank, Idles, Laid, Copies, Silent}
 use Rattle.bench.specs.inner.Shown.{Seen, seen, Follows}
 use Rattle.bench.proofs.Falls.{fall-other}
-use Rattle.state.proofs.Plans.{few, owned, absent-loose}
+use Rattle.state.proofs.Plans.{few, past-absent, absent-loose}
 use Rattle.state.proofs.Words.{word-past, length-put, word-same, word-other}
 use Rattle.state.proofs.Parts.{by-place, by-behind}
 use Rattle.bench.proofs.Stepped.{fall-idle, goes-not, chosen-none, post-nothing, arrives-nothing}
@@ -108,20 +108,12 @@ sound-blank plan h {s} x =
           by-place (λ i. registerAt (devices plan) ≤ i → (portsAt ≤ i → portsPast (devices plan) ≤ i) → Behind (devices plan) i → word s i ≡ 0)
           (λ d l a b c. ap (word s) {x = registerAt d} {y = deviceWords * d + 0} (omega arith) ∙ x .no-device d 0 (omega arith) l (omega arith))
           (λ d k l m a b c. ap (word s) {x = timerAt d k} {y = deviceWords * d + (1 + k)} (omega arith) ∙ x .no-device d (1 + k) (omega arith) l (omega arith))
-          (λ q i l m a b c. x .no-port q i l (absent q l (omega (arith, b (omega arith)))) m)
+          (λ q i l m a b c. x .no-port q i l (past-absent plan h q l (omega (arith, b (omega arith)))) m)
           (by-behind (λ i. registerAt (devices plan) ≤ i → (portsAt ≤ i → portsPast (devices plan) ≤ i) → Behind (devices plan) i → word s i ≡ 0)
           (λ d l a b c. x .clock .no-counter d (omega (arith, c .0 (omega arith))) l)
-          (λ q l a b c. x .clock .no-word q l (absent q l (omega (arith, c .1 (omega arith)))))
+          (λ q l a b c. x .clock .no-word q l (past-absent plan h q l (omega (arith, c .1 (omega arith)))))
           (λ i l a b c. word-past s i (omega (arith, x .size))));
     }
-  where
-    -- a port behind those of the devices does not exist
-    absent : (q : ℕ) → q < 256 → 8 * devices plan ≤ q → exists plan q ≡ false
-    absent q l a = by-test (exists plan q) refl
-      where
-        by-test : (t : Bool) → exists plan q ≡ t → exists plan q ≡ false
-        by-test false e = e
-        by-test true e = absurd (omega (arith, owned plan h q l e))
 
 pub zeros-blank : (n : ℕ) {s : State} → s ≡ table words (λ i. 0) → Blank n s
 unfolding word

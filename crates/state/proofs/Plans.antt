@@ -1,6 +1,6 @@
 -- What a held plan says, for the states of its network: how many devices, whose the ports and the masks are, where connections lead, and the loads.
 use mathlib.Core.Path.{_≡_, refl, ap}
-use mathlib.Core.Bool.{true, false, not, _&&_}
+use mathlib.Core.Bool.{Bool, true, false, not, _&&_}
 use mathlib.Core.Logic.{_≢_, dite}
 use Prim.Native.Nat.{ℕ, _+_, _*_, _/_, _%_, _≤_, _<_}
 use native.Mathlib.Decide.{decLt, ℕ-discrete}
@@ -78,6 +78,14 @@ module _ (plan : Plan) (held : Held plan) where
   owned q h e =
       dite (decLt (q / 8) (devices plan)) (λ l. l)
       (λ l. absurd (omega (arith, ltb-true (q % 8) (at (plan .core .ports) (q / 8)) e, right-absent (plan .core) (plan .peers) (q / 8) few (omega arith) (says .rows (q / 8) (omega arith)) .ports)))
+
+  -- a port behind those of the devices does not exist
+  pub past-absent : (q : ℕ) → q < 256 → 8 * devices plan ≤ q → exists plan q ≡ false
+  past-absent q h out = by-test (exists plan q) refl
+    where
+      by-test : (t : Bool) → exists plan q ≡ t → exists plan q ≡ false
+      by-test false e = e
+      by-test true e = absurd (omega (arith, owned q h e))
 
   -- an absent port is connected to nothing
   pub absent-loose : (q : ℕ) → q < 256 → exists plan q ≡ false → peer plan q ≡ nobody
