@@ -10,15 +10,19 @@
  *      that cannot be lent (see below)         10 the link is already so
  *    4 no such device or port                  11 an allowance above BENCH_ROUNDS
  *    5 an identifier or a value too great,     12 still waiting after the allowance
- *      or a code that nobody writes            14 a tick by another than the master
- *    6 no source or no handler of it           20 to 26 a plan file that is not accepted
- *    7 no port runs, or the port leads nowhere
+ *      or a code that nobody writes            13 an acknowledge of an event
+ *    6 no source or no handler of it           14 a tick by another than the master
+ *    7 no port runs, or the port leads         20 to 27 a plan file that is not accepted
+ *      nowhere
  *
  * What is wrong with the file: 20 its length; of a block 21 the check, 22 the kind or the number, 23 a field, 24 a byte that has
- * to be 0; 25 the number of blocks; 26 a connection. 1 is the number of a plan in memory that no file holds: no call answers it
- * here, where a plan is a file.
+ * to be 0; 25 the number of blocks; 26 a connection; 27 two sources of an identifier that is acknowledged. 1 is the number of a
+ * plan in memory that no file holds: no call answers it here, where a plan is a file.
  *
- * A refused call changes no area and gives 0 for a value, but for 12 (bench_settle) and 20 to 26 (bench_plan_read, which gives
+ * Bytes 6 to 9 of a plan's first block are the set of its events: identifiers that nobody acknowledges, and that may have several
+ * sources. Only a timer or a reset clears the bit of an event.
+ *
+ * A refused call changes no area and gives 0 for a value, but for 12 (bench_settle) and 20 to 27 (bench_plan_read, which gives
  * the block). docs/RULES.md has the rules, and "The C door" there the numbers below.
  *
  * A plan is the bytes of its file. An area is a pointer and its length, in words or bytes; the lengths have names below.
@@ -79,8 +83,9 @@ enum {
 
 bench_u32 bench_for_header_code_read_2(bench_u8 byte, bench_u32 *top, bench_u32 *value);
 bench_u32 bench_for_header_code_write(bench_u32 kind, bench_u32 value, bench_u32 *byte);
-bench_u32 bench_for_header_react_3(bench_u32 role, bench_u32 running, bench_u32 permissions, bench_u32 *bits,
-                                   bench_u32 *counter, bench_u8 byte, bench_u32 *kind, bench_u32 *top, bench_u32 *value);
+bench_u32 bench_for_header_react_4(bench_u32 role, bench_u32 running, bench_u32 permissions, bench_u32 events,
+                                   bench_u32 *bits, bench_u32 *counter, bench_u8 byte, bench_u32 *kind, bench_u32 *top,
+                                   bench_u32 *value);
 bench_u32 bench_for_header_plan_read(const bench_u8 *file, bench_size file_length, bench_u32 *block);
 bench_u32 bench_for_header_start(const bench_u8 *plan, bench_size plan_length, bench_u32 *state, bench_size state_length);
 bench_u32 bench_for_header_request(const bench_u8 *plan, bench_size plan_length, bench_u32 *state, bench_size state_length,
@@ -191,17 +196,18 @@ static inline bench_u32 bench_code_write(bench_u32 kind, bench_u32 value, bench_
     return number;
 }
 
-/* One device gets a byte at a port: role 0 for a node, else a router; running 0 for no. Its register is updated where it
- * stands, at bits, and so is its counter, of which a number above 63 counts as its remainder by 64; null for either is a 0 that
- * nobody wants back. A Time-Code becomes the counter; where it is one above what that was, modulo 64, it is forwarded or told, and
- * else named. Returns what the device does; kind, top and value are those of the byte, as bench_code_read gives them, whatever is
- * done with it. */
-static inline bench_u32 bench_react(bench_u32 role, bench_u32 running, bench_u32 permissions, bench_u32 *bits,
-                                    bench_u32 *counter, bench_u8 byte, bench_u32 *kind, bench_u32 *top, bench_u32 *value) {
+/* One device gets a byte at a port: role 0 for a node, else a router; running 0 for no. Of an identifier in the set events an
+ * acknowledge is ignored, where the port runs. The device's register is updated where it stands, at bits, and so is its counter,
+ * of which a number above 63 counts as its remainder by 64; null for either is a 0 that nobody wants back. A Time-Code becomes the
+ * counter; where it is one above what that was, modulo 64, it is forwarded or told, and else named. Returns what the device does;
+ * kind, top and value are those of the byte, as bench_code_read gives them, whatever is done with it. */
+static inline bench_u32 bench_react(bench_u32 role, bench_u32 running, bench_u32 permissions, bench_u32 events,
+                                    bench_u32 *bits, bench_u32 *counter, bench_u8 byte, bench_u32 *kind, bench_u32 *top,
+                                    bench_u32 *value) {
     bench_u32 held = 0, count = 0, of, high, given, action;
     bench_move(&held, bits);
     bench_move(&count, counter);
-    action = bench_for_header_react_3(role, running, permissions, &held, &count, byte, &of, &high, &given);
+    action = bench_for_header_react_4(role, running, permissions, events, &held, &count, byte, &of, &high, &given);
     bench_put(bits, held);
     bench_put(counter, count);
     bench_put(kind, of);
@@ -212,7 +218,7 @@ static inline bench_u32 bench_react(bench_u32 role, bench_u32 running, bench_u32
 
 /* ---- plans, and the calls between rounds */
 
-/* Is the file a plan? 3; 20 to 26, with the block; the block of an accepted file is 0. */
+/* Is the file a plan? 3; 20 to 27, with the block; the block of an accepted file is 0. */
 static inline bench_u32 bench_plan_read(const bench_u8 *file, bench_size file_length, bench_u32 *block) {
     const struct bench_lent all[] = {bench_bytes(file, file_length), bench_place(block)};
     bench_u32 given, number;
@@ -232,14 +238,14 @@ static inline int bench_two_apart(const bench_u8 *plan, bench_size plan_length, 
     return bench_apart(all, 2);
 }
 
-/* The start state. 20 to 26; 3. */
+/* The start state. 20 to 27; 3. */
 static inline bench_u32 bench_start(const bench_u8 *plan, bench_size plan_length, bench_u32 *state, bench_size state_length) {
     if (!bench_two_apart(plan, plan_length, state, state_length))
         return 3;
     return bench_for_header_start(plan, plan_length, state, state_length);
 }
 
-/* The host of a device requests identifier k, or acknowledges it. 20 to 26; 2; 4; 5; 6; 7; 8; 9. */
+/* The host of a device requests identifier k, or acknowledges it. 20 to 27; 2; 4; 5; 6; for an acknowledge 13; 7; 8; 9. */
 static inline bench_u32 bench_request(const bench_u8 *plan, bench_size plan_length, bench_u32 *state, bench_size state_length,
                                       bench_size device, bench_u32 k) {
     if (!bench_two_apart(plan, plan_length, state, state_length))
@@ -254,7 +260,7 @@ static inline bench_u32 bench_acknowledge(const bench_u8 *plan, bench_size plan_
     return bench_for_header_acknowledge(plan, plan_length, state, state_length, device, k);
 }
 
-/* The link at a port: running is what it is to be, 0 stops it and any other number starts it. 20 to 26; 2; 4; 7; 10 where it is
+/* The link at a port: running is what it is to be, 0 stops it and any other number starts it. 20 to 27; 2; 4; 7; 10 where it is
  * so already. A stop loses what waits at both ends, and makes their two Time-Code words 0; registers, timers, counters and
  * where searches begin stay. */
 static inline bench_u32 bench_link(const bench_u8 *plan, bench_size plan_length, bench_u32 *state, bench_size state_length,
@@ -265,7 +271,7 @@ static inline bench_u32 bench_link(const bench_u8 *plan, bench_size plan_length,
 }
 
 /* The host of the master ticks: its counter goes up by one, from 63 to 0, and the Time-Code is queued at all its ports that run.
- * 20 to 26; 2; 4; 14; 7. */
+ * 20 to 27; 2; 4; 14; 7. */
 static inline bench_u32 bench_tick(const bench_u8 *plan, bench_size plan_length, bench_u32 *state, bench_size state_length,
                                    bench_size device) {
     if (!bench_two_apart(plan, plan_length, state, state_length))
@@ -273,7 +279,7 @@ static inline bench_u32 bench_tick(const bench_u8 *plan, bench_size plan_length,
     return bench_for_header_tick(plan, plan_length, state, state_length, device);
 }
 
-/* A device is reset. 20 to 26; 2; 4. */
+/* A device is reset. 20 to 27; 2; 4. */
 static inline bench_u32 bench_reset(const bench_u8 *plan, bench_size plan_length, bench_u32 *state, bench_size state_length,
                                     bench_size device) {
     if (!bench_two_apart(plan, plan_length, state, state_length))
@@ -286,7 +292,7 @@ static inline bench_u32 bench_reset(const bench_u8 *plan, bench_size plan_length
 /* One round from an old state. The word of the bytes sent at 8 x device + port is the byte that the port sent, or
  * BENCH_NOTHING; a word told has the identifier in its low byte, the device in the next, and above them 1 for an interrupt, 2 for
  * an acknowledge or 3 for a timeout; or 4 for a Time-Code, with its value in the low byte. How many words were told goes to
- * *count, and behind them are zeros. 20 to 26; 2; 3. */
+ * *count, and behind them are zeros. 20 to 27; 2; 3. */
 static inline bench_u32 bench_round(const bench_u8 *plan, bench_size plan_length, const bench_u32 *old, bench_size old_length,
                                     bench_u32 *next, bench_size next_length, bench_u32 *sent, bench_size sent_length,
                                     bench_u32 *told, bench_size told_length, bench_u32 *count) {
@@ -304,7 +310,7 @@ static inline bench_u32 bench_round(const bench_u8 *plan, bench_size plan_length
     return number;
 }
 
-/* Rounds until nothing waits at any port, no Time-Code either; how many goes to *rounds. 20 to 26; 2; 11; 12: still waiting,
+/* Rounds until nothing waits at any port, no Time-Code either; how many goes to *rounds. 20 to 27; 2; 11; 12: still waiting,
  * *rounds is the allowance and the state is the one after it. */
 static inline bench_u32 bench_settle(const bench_u8 *plan, bench_size plan_length, bench_u32 *state, bench_size state_length,
                                      bench_u32 allowance, bench_u32 *rounds) {
@@ -320,7 +326,7 @@ static inline bench_u32 bench_settle(const bench_u8 *plan, bench_size plan_lengt
 }
 
 /* The devices that interrupts of k reach from a device: how many goes to *devices, and the set of them, bit d for device
- * d, to *set. 20 to 26; 2; 4; 5; 6. */
+ * d, to *set. 20 to 27; 2; 4; 5; 6. */
 static inline bench_u32 bench_reach(const bench_u8 *plan, bench_size plan_length, const bench_u32 *state,
                                     bench_size state_length, bench_size device, bench_u32 k, bench_u32 *devices,
                                     bench_u32 *set) {

@@ -10,10 +10,11 @@ use Rattle.lists.proofs.Loops.{keeps, hit}
 use Rattle.bits.specs.Set.{bit}
 use Rattle.bits.proofs.Sets.{bit-two}
 use Rattle.device.specs.Permissions.{maySend, mayReceive}
+use Rattle.device.specs.Reaction.{isUsed}
 use Rattle.plan.specs.Reading.{Held}
 use Rattle.plan.specs.declared.Plan.{Plan}
 use Rattle.state.specs.State.{State, register, waiting, running}
-use Rattle.state.specs.Network.{devices, router, peer, permissions, loadOf}
+use Rattle.state.specs.Network.{devices, router, peer, permissions, events, loadOf}
 use Rattle.state.specs.Sound.{Sound}
 use Rattle.state.proofs.Plans.{few}
 use Rattle.bench.specs.Round.{World, nothing, sentBytes, arrives, reached}
@@ -220,10 +221,10 @@ module _ (plan : Plan) (kind k : ℕ) (s₀ : State) (takers : ℕ → Type 0) (
             keeps (arrives plan (sentBytes plan s)) (λ v. Going u (w .state) (v .state)) (8 * devices plan) (λ j v i x. going-arrives j i v x) w
             (going-none (w .state) fit)
 
-        -- what is sent gets in
-        pub gets-in : (d j : ℕ) → j < 8 * devices plan → Came plan kind k s₀ s d j → bit (register (reached plan (sentBytes plan s) w .state) d) k ≡ 1 - kind
+        -- what is sent gets in, where such codes are in use
+        pub gets-in : isUsed (events plan) kind k ≡ true → (d j : ℕ) → j < 8 * devices plan → Came plan kind k s₀ s d j → bit (register (reached plan (sentBytes plan s) w .state) d) k ≡ 1 - kind
         unfolding reached
-        gets-in d j i c =
+        gets-in used d j i c =
             rw (← c .there)
             (hit (arrives plan (sentBytes plan s)) (λ v. Fit plan kind k s₀ takers u (v .state)) (8 * devices plan)
             (λ q v b x. going-arrives q b v (going-none (v .state) x) .fit) (λ v. bit (register (v .state) (j / 8)) k ≡ 1 - kind) j i mine
@@ -235,7 +236,7 @@ module _ (plan : Plan) (kind k : ℕ) (s₀ : State) (takers : ℕ → Type 0) (
                 let two = bit-two (register (v .state) (j / 8)) k in
                 arrives-meets plan j (omega arith) v k (λ t. bit (register t (j / 8)) k ≡ 1 - kind) (sentBytes plan s) l kind g (c .sender)
                 (λ shut. elim (ℕ-discrete (bit (register (v .state) (j / 8)) k) kind) [
-                  | yes o ↦ absurd (shut (record { runs = x .runs j (omega arith) ∙ c .runs; may = c .may; stood = o }))
+                  | yes o ↦ absurd (shut (record { runs = x .runs j (omega arith) ∙ c .runs; may = c .may; used = used; stood = o }))
                   | no ne ↦ omega arith
                 ])
                 (λ o. took plan kind k g l (j / 8) j (omega arith) (v .state) (x .sound .size) (router plan (j / 8)) .held)

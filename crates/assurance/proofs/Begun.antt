@@ -13,11 +13,12 @@ use Rattle.answers.proofs.Outcomes.{passed}
 use Rattle.lists.proofs.Tests.{both}
 use Rattle.bits.specs.Set.{bit}
 use Rattle.device.specs.Permissions.{maySend}
+use Rattle.device.specs.Reaction.{isUsed}
 use Rattle.plan.specs.Fields.{nobody}
 use Rattle.plan.specs.Reading.{Held}
 use Rattle.plan.specs.declared.Plan.{Plan}
 use Rattle.state.specs.State.{State, register, timer, waiting, running}
-use Rattle.state.specs.Network.{devices, permissions, loadOf}
+use Rattle.state.specs.Network.{devices, permissions, events, loadOf}
 use Rattle.state.specs.Sound.{Sound}
 use Rattle.state.proofs.Plans.{few}
 use Rattle.calls.specs.Calls.{owns, callAsks, called}
@@ -30,11 +31,12 @@ use Rattle.assurance.proofs.Fits.{Fit, fit-alike, fit-took}
 use Rattle.assurance.proofs.Taking.{New, Took, called-took}
 
 -- the identifier is the node's, its bit is as the call asks, and port p of the node runs and may send
-pub call-taken : (plan : Plan) → Held plan → (kind d k p : ℕ) (s : State) → Sound plan s → d < devices plan → k < 32 → bit (owns plan kind d) k ≡ 1 → p < 8
+pub call-taken : (plan : Plan) → Held plan → (kind d k p : ℕ) (s : State) → Sound plan s → d < devices plan → k < 32 → bit (owns plan kind d) k ≡ 1
+    → isUsed (events plan) kind k ≡ true → p < 8
     → running s (8 * d + p) ≡ 1 → maySend kind (permissions plan (8 * d + p)) ≡ true → bit (register s d) k ≡ kind → Ordered (callAsks plan kind d k s) 0
-call-taken plan held kind d k p s x here l own h runs may stands =
+call-taken plan held kind d k p s x here l own used h runs may stands =
     let sends = both (eqb (running s (8 * d + p)) 1) _ (eq-eqb (running s (8 * d + p)) 1 runs) may in
-    passed (callAsks plan kind d k s) [] 0 (held, (x, (here, (l, (own, ((p, h, runs), ((p, h, sends), (stands, tt)))))))) refl
+    passed (callAsks plan kind d k s) [] 0 (held, (x, (here, (l, (own, (used, ((p, h, runs), ((p, h, sends), (stands, tt))))))))) refl
 
 -- device d alone took code k in, and it waits at the ports of d that run and may send it, and nowhere else
 pub record Begun (plan : Plan) (kind k d : ℕ) (s t : State) : Type 0 where

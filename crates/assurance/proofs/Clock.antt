@@ -79,7 +79,7 @@ module _ {plan : Plan} {k from to d D D' turn wait : ℕ} {s : State} {at back :
 
   begins : Sooner plan k from to D' until s at back
   begins =
-      may-answer (w .request) (w .between) over (w .permits) (w .handles) (d, w .distance .there) (w .farthest) (w .course)
+      may-answer (w .request) (w .between) over (w .permits) (w .no-event) (w .handles) (d, w .distance .there) (w .farthest) (w .course)
       (λ e h. omega (arith, w .loads e h, told .1))
 
   in-time : FoundBack plan k from to s → InTime plan k from to d D D' turn wait s at back
@@ -95,6 +95,7 @@ module _ {plan : Plan} {k from to d D D' turn wait : ℕ} {s : State} {at back :
         is-cycle = record {
           request = w .request;
           permits = w .permits;
+          no-event = w .no-event;
           between = λ t a b. w .between t a (omega (arith, over));
           handles = w .handles;
           was-reached = (d, w .distance .there);

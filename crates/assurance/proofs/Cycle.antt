@@ -11,7 +11,7 @@ use Rattle.bits.proofs.Sets.{bit-two}
 use Rattle.plan.specs.Reading.{Held}
 use Rattle.plan.specs.declared.Plan.{Plan}
 use Rattle.state.specs.State.{State, register, running}
-use Rattle.state.specs.Network.{devices, router, handler, loadOf}
+use Rattle.state.specs.Network.{devices, router, handler, events, loadOf}
 use Rattle.state.specs.Sound.{Sound}
 use Rattle.calls.specs.Calls.{called}
 use Rattle.bench.specs.Round.{round}
@@ -105,6 +105,7 @@ module _ {plan : Plan} {k from to D' until : ℕ} {s : State} {at back : ℕ →
         place = place asks;
         there = inside;
         requests = requests asks;
+        no-event = c .no-event;
         holds = λ e w. holds-then e (gets-now e w);
         no-other = λ e h b. gets-then e (got-there e h b);
         idle = c .idle;
@@ -193,7 +194,7 @@ as-soon plan k from to D' until s at back c all = ends c all
 -- what holds in the window holds on until a later round
 module _ {plan : Plan} {k from D last : ℕ} {s : State} {at : ℕ → State} (given : Window plan k from D s at)
     (on : (t : ℕ) → window D ≤ t → t < last → Calls plan k (round plan (at t) .next) (at (suc t))) where
-  goes-longer : Course plan k last (called plan 0 from k s) at
+  pub goes-longer : Course plan k last (called plan 0 from k s) at
   goes-longer =
       record {
         begins = given .course .begins;
@@ -213,14 +214,15 @@ module _ {plan : Plan} {k from D last : ℕ} {s : State} {at : ℕ → State} (g
       (out given .gone (window D) (le-refl _) (le-refl _))
 
   -- so a handler that was reached may acknowledge
-  pub may-answer : window D ≤ last → Permits plan s → {to D' : ℕ} {back : ℕ → State} → bit (handler plan to) k ≡ 1 → Gets plan k from s to
+  pub may-answer : window D ≤ last → Permits plan s → bit (events plan) k ≡ 0 → {to D' : ℕ} {back : ℕ → State} → bit (handler plan to) k ≡ 1 → Gets plan k from s to
       → FarthestBack plan k from to s D' → Course plan k (window D') (called plan 1 to k (at last)) back
       → ((e : ℕ) → e < devices plan → last + window D' < loadOf plan e k) → Sooner plan k from to D' last s at back
-  may-answer over permits handles reached far course loads =
+  may-answer over permits no-event handles reached far course loads =
       record {
         held = given .held;
         at-rest = asked given .at-rest;
         permits = permits;
+        no-event = no-event;
         taken = given .taken;
         first = goes-longer;
         idle = longer-idle last over (le-refl _);
@@ -234,7 +236,7 @@ module _ {plan : Plan} {k from D last : ℕ} {s : State} {at : ℕ → State} (g
 pub sooner : {plan : Plan} {k from to D D' gap : ℕ} {s : State} {at back : ℕ → State} → Cycle plan k from to D D' gap s at back
     → Sooner plan k from to D' (window D + gap) s at back
 sooner c =
-    may-answer (c .request) (c .between) (omega arith) (c .permits) (c .handles) (c .was-reached) (c .farthest) (c .course)
+    may-answer (c .request) (c .between) (omega arith) (c .permits) (c .no-event) (c .handles) (c .was-reached) (c .farthest) (c .course)
     (λ e h. omega (arith, c .loads e h))
 
 pub one-cycle : OneCycle

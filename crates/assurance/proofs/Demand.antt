@@ -6,6 +6,7 @@ use native.Mathlib.Omega.{arith}
 use Rattle.answers.specs.Ordered.{Ordered}
 use Rattle.answers.proofs.Outcomes.{holds}
 use Rattle.bits.specs.Set.{bit}
+use Rattle.device.specs.Reaction.{isUsed}
 use Rattle.plan.specs.Reading.{Held}
 use Rattle.plan.specs.declared.Plan.{Plan}
 use Rattle.state.specs.State.{State}
@@ -49,6 +50,7 @@ module _ {plan : Plan} {k from : ℕ} {s : State} (a : Asked plan k from s) wher
     -- and no timer of k ends in them, or in some more
     module _ (spare : ℕ) (loads : (d : ℕ) → d < devices plan → last + spare < loadOf plan d k) where
       ready : Ready plan 0 k from last spare s
+      unfolding isUsed
       ready =
           record {
             held = a .held;
@@ -58,6 +60,7 @@ module _ {plan : Plan} {k from : ℕ} {s : State} (a : Asked plan k from s) wher
             sound = a .at-rest .sound;
             idle = a .at-rest .idle;
             stood = a .at-rest .unset from there;
+            used = refl;
             loads = λ z. loads;
             long = λ e h b. absurd (omega (arith, a .at-rest .unset e h));
           }

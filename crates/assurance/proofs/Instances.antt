@@ -60,7 +60,8 @@ module _ {l : List ℕ} {size bound : ℕ} (pos : 0 < bound) where
 -- a plan has the shape that its types give it
 abbrev pub shaped : Plan → Bool
 shaped plan =
-    fits 2 65536 (plan .core .loads)
+    ltb (plan .core .events) 4294967296
+    && fits 2 65536 (plan .core .loads)
     && fits 32 256 (plan .core .role)
     && fits 32 256 (plan .core .ports)
     && fits 32 4294967296 (plan .core .source)
@@ -74,7 +75,8 @@ tested-held plan e =
     let f = simp facts at e in
     let g = f .0 .0 .0 in
     right-held plan (record {
-      loads = numbers (omega arith) (g .0 .0 .0 .0);
+      events = g .0 .0 .0 .0 .0;
+      loads = numbers (omega arith) (g .0 .0 .0 .0 .1);
       role = numbers (omega arith) (g .0 .0 .0 .1);
       ports = numbers (omega arith) (g .0 .0 .1);
       source = numbers (omega arith) (g .0 .1);

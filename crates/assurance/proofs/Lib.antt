@@ -27,4 +27,5 @@ pub mod Quiet
 pub mod Return
 pub mod Cycle
 pub mod Clock
+pub mod Event
 pub mod Instances

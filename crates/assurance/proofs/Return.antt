@@ -1,18 +1,20 @@
 -- The return trip, proved: where all links grant everything, the acknowledge of a handler that was reached is a trip over the devices that hold
 -- the identifier, and each of them takes it in.
 use mathlib.Core.Path.{_≡_, sym, _∙_}
-use mathlib.Core.Bool.{false}
+use mathlib.Core.Bool.{true, false}
 use mathlib.Core.Logic.{_≢_}
 use Prim.Native.Nat.{ℕ, suc, _+_, _*_, _≤_, _<_}
 use native.Mathlib.Decide.{ℕ-discrete}
 use native.Mathlib.Nat.{le-refl}
 use native.Mathlib.Omega.{arith}
+use borrow.Author.Tests.{eq-eqb}
 use Rattle.answers.specs.Ordered.{Ordered}
 use Rattle.bits.specs.Set.{bit}
 use Rattle.bits.proofs.Sets.{bit-two}
+use Rattle.device.specs.Reaction.{isUsed}
 use Rattle.plan.specs.declared.Plan.{Plan}
 use Rattle.state.specs.State.{State, register}
-use Rattle.state.specs.Network.{devices, router}
+use Rattle.state.specs.Network.{devices, router, events}
 use Rattle.state.specs.Sound.{Sound}
 use Rattle.state.proofs.Plans.{few}
 use Rattle.calls.specs.Calls.{callAsks, called}
@@ -54,11 +56,15 @@ module _ {plan : Plan} {k from to D' : ℕ} {s : State} {at : ℕ → State} (gi
   inside : (e : ℕ) → Gets plan k from s e → e < devices plan
   inside e w = walk-device plan (given .held) s 0 k from (given .there) (w .1)
 
+  used : isUsed (events plan) 1 k ≡ true
+  unfolding isUsed
+  used = eq-eqb (bit (events plan) k) 0 (given .no-event)
+
   taken : Ordered (callAsks plan 1 to k s) 0
   taken =
       let p = pair .runs in
       let small : 8 * to + p .0 < 256 = omega (arith, p .1, there, few plan (given .held)) in
-      call-taken plan (given .held) 1 to k (p .0) s (given .sound) there (given .place) (given .handles) (p .1) (p .2)
+      call-taken plan (given .held) 1 to k (p .0) s (given .sound) there (given .place) (given .handles) used (p .1) (p .2)
       (given .permits 1 (8 * to + p .0) (omega arith) small (p .2) .0) (given .holds to (given .was-reached))
 
   first : Sound plan (called plan 1 to k s)
@@ -77,6 +83,7 @@ module _ {plan : Plan} {k from to D' : ℕ} {s : State} {at : ℕ → State} (gi
         sound = given .sound;
         idle = given .idle;
         stood = given .holds to (given .was-reached);
+        used = used;
         loads = λ z. absurd (omega arith);
         long = λ e h b. omega (arith, given .long e (given .no-other e h b));
       }

@@ -1,12 +1,14 @@
 -- Rounds with calls after each, from a call that is taken, are a run of the flood.
 use mathlib.Core.Path.{_≡_}
+use mathlib.Core.Bool.{true}
 use Prim.Native.Nat.{ℕ, zero, suc, _+_, _-_, _≤_, _<_}
 use native.Mathlib.Omega.{arith}
 use Rattle.bits.specs.Set.{bit}
+use Rattle.device.specs.Reaction.{isUsed}
 use Rattle.plan.specs.Reading.{Held}
 use Rattle.plan.specs.declared.Plan.{Plan}
 use Rattle.state.specs.State.{State, register, timer, waiting}
-use Rattle.state.specs.Network.{devices, loadOf}
+use Rattle.state.specs.Network.{devices, events, loadOf}
 use Rattle.state.specs.Sound.{Sound}
 use Rattle.calls.specs.Calls.{called}
 use Rattle.bench.specs.Round.{round}
@@ -28,6 +30,8 @@ pub record Ready (plan : Plan) (kind k d last spare : ℕ) (s : State) : Type 0 
   pub sound : Sound plan s
   pub idle : (c q : ℕ) → c < 2 → q < 256 → bit (waiting s c q) k ≡ 0
   pub stood : bit (register s d) k ≡ kind
+  -- and such codes are in use for it
+  pub used : isUsed (events plan) kind k ≡ true
   -- an interrupt loads timers
   pub loads : kind ≡ 0 → (e : ℕ) → e < devices plan → last + spare < loadOf plan e k
   pub long : (e : ℕ) → e < devices plan → bit (register s e) k ≡ 1 → last + spare < timer s e k
@@ -44,7 +48,7 @@ module _ {plan : Plan} {kind k d last spare : ℕ} {s : State} (r : Ready plan k
       (λ i b o. omega (arith, r .long i b o))
   fit (suc t) u m e =
       let z = later t (omega arith) in
-      fit-after plan (r .held) kind k (r .kinds) (r .place) s (takersOf kind k s) u (enough u (omega arith)) (fit t (suc u) (omega arith) (omega arith)) (z .like) (z .sound)
+      fit-after plan (r .held) kind k (r .kinds) (r .place) (r .used) s (takersOf kind k s) u (enough u (omega arith)) (fit t (suc u) (omega arith) (omega arith)) (z .like) (z .sound)
 
   pub run : Run (net plan kind k s (takersOf kind k s) d) crossing last (λ t. sight plan kind k s (takersOf kind k s) d (at t)) (λ t. sending plan kind k (at t))
   run =
@@ -52,6 +56,6 @@ module _ {plan : Plan} {kind k d last spare : ℕ} {s : State} (r : Ready plan k
         start = start plan (r .held) kind k (r .kinds) (r .place) d (r .there) (r .sound) (r .idle) (first .like) (r .stood);
         step = λ t b.
             let z = later t b in
-            step plan (r .held) kind k (r .kinds) (r .place) s (takersOf kind k s) (last + spare - suc t) (enough (last + spare - suc t) (omega arith))
+            step plan (r .held) kind k (r .kinds) (r .place) (r .used) s (takersOf kind k s) (last + spare - suc t) (enough (last + spare - suc t) (omega arith))
             (fit t (suc (last + spare - suc t)) (omega arith) (omega arith)) (z .like) (z .turns) d;
       }

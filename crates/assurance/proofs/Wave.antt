@@ -6,10 +6,11 @@ use Prim.Native.Nat.{ℕ, suc, _-_, _*_, _/_, _<_}
 use native.Mathlib.Omega.{arith}
 use Rattle.bits.specs.Set.{bit}
 use Rattle.bits.specs.First.{after}
+use Rattle.device.specs.Reaction.{isUsed}
 use Rattle.plan.specs.Reading.{Held}
 use Rattle.plan.specs.declared.Plan.{Plan}
 use Rattle.state.specs.State.{State, register, waiting, running}
-use Rattle.state.specs.Network.{devices, exists, peer, loadOf}
+use Rattle.state.specs.Network.{devices, exists, peer, events, loadOf}
 use Rattle.state.specs.Sound.{Sound}
 use Rattle.state.proofs.Plans.{FarEnd, few, owned, far-end}
 use Rattle.bench.specs.Round.{round, afterSending}
@@ -25,7 +26,7 @@ use Rattle.assurance.proofs.Posted.{posts-late, posts-early, posts-next
 use Rattle.assurance.proofs.Turns.{SameTurn}
 use Rattle.assurance.proofs.Arrivals.{Came, Going, all-going, gets-in}
 
-module _ (plan : Plan) (held : Held plan) (kind k : ℕ) (g : kind < 2) (l : k < 32) (s₀ : State) (takers : ℕ → Type 0) where
+module _ (plan : Plan) (held : Held plan) (kind k : ℕ) (g : kind < 2) (l : k < 32) (used : isUsed (events plan) kind k ≡ true) (s₀ : State) (takers : ℕ → Type 0) where
   module _ (u : ℕ) (loads : kind ≡ 0 → (d : ℕ) → d < devices plan → u < loadOf plan d k) {s : State} (f : Fit plan kind k s₀ takers (suc u) s) where
     -- after the timers and the sending
     abbrev posts : State
@@ -84,7 +85,7 @@ module _ (plan : Plan) (held : Held plan) (kind k : ℕ) (g : kind < 2) (l : k <
         let flag : running s₀ j ≡ 1 =
         sym (f .runs j (m .joined)) ∙ sym (f .sound .ports q h there .both-ends (m .joined)) ∙ f .runs q h ∙ m .runs in (
           rw (m .there) o,
-          gets-in plan kind k s₀ takers s held g l u f loads (afterSending plan s) fits e j (omega arith)
+          gets-in plan kind k s₀ takers s held g l u f loads (afterSending plan s) fits used e j (omega arith)
               (record { inside = m .joined; there = sym (m .there); sender = rw (end .back) x; runs = flag; may = m .receives }),
         )
 

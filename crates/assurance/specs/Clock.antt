@@ -5,7 +5,7 @@ use Prim.Native.Nat.{ℕ, suc, _+_, _-_, _*_, _≤_, _<_}
 use Rattle.bits.specs.Set.{bit}
 use Rattle.plan.specs.declared.Plan.{Plan}
 use Rattle.state.specs.State.{State, waiting, running}
-use Rattle.state.specs.Network.{devices, handler, loadOf}
+use Rattle.state.specs.Network.{devices, handler, events, loadOf}
 use Rattle.calls.specs.Calls.{called}
 use Rattle.bench.specs.Round.{ofInterrupt, ofAcknowledge, toldWord, round}
 use Rattle.reach.specs.Away.{Away}
@@ -23,9 +23,10 @@ HearsIn plan kind d k at turn = (t : ℕ) × (turn ≡ suc t) × List·Memᴰ (t
 -- node `to`, d crossings away from the source, is told in round `turn`, and acknowledges `wait` rounds later
 module _ (plan : Plan) (k from to d D D' turn wait : ℕ) (s : State) (at back : ℕ → State) where
   pub record Waits : Type 0 where
-    -- demand 3's conditions, on links that grant everything
+    -- demand 3's conditions, on links that grant everything, for an identifier that is no event
     pub request : Window plan k from D s at
     pub permits : Permits plan s
+    pub no-event : bit (events plan) k ≡ 0
     -- a handler of k, d crossings away, is told
     pub handles : bit (handler plan to) k ≡ 1
     pub distance : Away plan s 0 k from d to

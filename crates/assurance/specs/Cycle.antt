@@ -9,7 +9,7 @@ use Rattle.bits.specs.Set.{bit}
 use Rattle.plan.specs.Reading.{Held}
 use Rattle.plan.specs.declared.Plan.{Plan}
 use Rattle.state.specs.State.{State, register, waiting, running}
-use Rattle.state.specs.Network.{devices, router, handler, loadOf}
+use Rattle.state.specs.Network.{devices, router, handler, events, loadOf}
 use Rattle.state.specs.Sound.{Sound}
 use Rattle.calls.specs.Calls.{callAsks, called}
 use Rattle.bench.specs.Round.{round}
@@ -24,6 +24,8 @@ pub record Cycle (plan : Plan) (k from to D D' gap : ℕ) (s : State) (at back :
   pub request : Window plan k from D s at
   -- both ends of each link that runs grant all four permissions
   pub permits : Permits plan s
+  -- k is no event: it is acknowledged
+  pub no-event : bit (events plan) k ≡ 0
   -- between the two windows the same holds as in them
   pub between : (t : ℕ) → window D ≤ t → t < window D + gap → Calls plan k (round plan (at t) .next) (at (suc t))
   -- then a handler of k that was reached acknowledges
@@ -89,7 +91,7 @@ pub record AtRest (plan : Plan) (k : ℕ) (s : State) : Type 0 where
   pub unset : (d : ℕ) → d < devices plan → bit (register s d) k ≡ 0
   pub idle : (kind q : ℕ) → kind < 2 → q < 256 → bit (waiting s kind q) k ≡ 0
 
--- a list of cycles of k, which leads from s on; each has its own source, handler, gap and other traffic
+-- a list of cycles of k, which leads from s on; each has its own handler, gap and other traffic, and all begin at the one source of k
 pub data Cycles (plan : Plan) (k : ℕ) (s : State) : State → Type 0 where
   none : Cycles plan k s s
   -- so many rounds pass in which nobody requests or acknowledges k
@@ -118,6 +120,7 @@ pub record Sooner (plan : Plan) (k from to D' until : ℕ) (s : State) (at back 
   pub held : Held plan
   pub at-rest : AtRest plan k s
   pub permits : Permits plan s
+  pub no-event : bit (events plan) k ≡ 0
   -- a source's request is taken, and for `until` rounds nobody requests or acknowledges k
   pub taken : Ordered (callAsks plan 0 from k s) 0
   pub first : Course plan k until (called plan 0 from k s) at

@@ -9,7 +9,7 @@ use Rattle.device.specs.Permissions.{maySend, mayReceive}
 use Rattle.plan.specs.Reading.{Held}
 use Rattle.plan.specs.declared.Plan.{Plan}
 use Rattle.state.specs.State.{State, register, timer, waiting, running}
-use Rattle.state.specs.Network.{devices, router, peer, permissions, source, handler}
+use Rattle.state.specs.Network.{devices, router, peer, permissions, source, handler, events}
 use Rattle.state.specs.Sound.{Sound}
 use Rattle.calls.specs.Calls.{callAsks, called}
 use Rattle.bench.specs.Round.{ofInterrupt, ofAcknowledge, ofTimeout}
@@ -61,6 +61,8 @@ module _ (plan : Plan) (k from to D' : ℕ) (s : State) (at : ℕ → State) whe
     pub place : k < 32
     pub there : from < devices plan
     pub requests : bit (source plan from) k ≡ 1
+    -- k is no event: it is acknowledged
+    pub no-event : bit (events plan) k ≡ 0
     pub holds : (e : ℕ) → Gets plan k from s e → bit (register s e) k ≡ 1
     pub no-other : (e : ℕ) → e < devices plan → bit (register s e) k ≡ 1 → Gets plan k from s e
     pub idle : (kind q : ℕ) → kind < 2 → q < 256 → bit (waiting s kind q) k ≡ 0

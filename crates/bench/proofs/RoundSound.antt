@@ -15,7 +15,7 @@ use Rattle.codes.specs.declared.Code.{Code}
 use Rattle.codes.specs.declared.Code.the-variants.{Time, Interrupt, Acknowledge, Reserved}
 use Rattle.codes.proofs.BothWays.{Stands, stands, time, interrupt, acknowledge, reserved, reserved-apart}
 use Rattle.device.specs.Permissions.{mayReceive}
-use Rattle.device.specs.Reaction.{nextTime, marked, ruled, counted as Reaction·counted, reactsTo, reacts}
+use Rattle.device.specs.Reaction.{nextTime, isUsed, marked, ruled, counted as Reaction·counted, reactsTo, reacts}
 use Rattle.device.specs.declared.Action.the-variants.{Named, Forwarded, Told}
 use Rattle.device.specs.declared.Reaction.{Reaction}
 use Rattle.device.specs.declared.Side.{Side}
@@ -23,7 +23,7 @@ use Rattle.device.proofs.Rule.{Accepts, ruled-cases}
 use Rattle.plan.specs.Reading.{Held}
 use Rattle.plan.specs.declared.Plan.{Plan}
 use Rattle.state.specs.State.{State, word, put, portsEnd, registerAt, register, running, counterAt, counter}
-use Rattle.state.specs.Network.{devices, router, peer, permissions, loadOf}
+use Rattle.state.specs.Network.{devices, router, peer, permissions, events, loadOf}
 use Rattle.state.specs.Sound.{Sound}
 use Rattle.state.specs.Queue.{queueAll, queueTimeAll}
 use Rattle.state.specs.Mark.{mark}
@@ -45,10 +45,11 @@ after plan q w r =
     acted (loadOf plan (q / 8)) (plan .core .permissions) q (r .action)
     (record { state = put (put (w .state) (counterAt (q / 8)) (r .counter)) (registerAt (q / 8)) (r .register); told = w .told })
 
--- port q takes codes of a kind, and identifier k is new to its device
+-- port q takes codes of a kind, they are in use for identifier k, and this one is new to its device
 pub record Opens (plan : Plan) (kind k q : ℕ) (s : State) : Type 0 where
   pub runs : running s q ≡ 1
   pub may : mayReceive kind (permissions plan q) ≡ true
+  pub used : isUsed (events plan) kind k ≡ true
   pub stood : bit (register s (q / 8)) k ≡ kind
 
 -- device d takes a code in: it marks it, and if it hands it on, queues it at its ports but one
@@ -99,7 +100,7 @@ module _ (plan : Plan) (sent : List ℕ) (q : ℕ) (small : q / 8 < 32) (w : Wor
   count = counter (w .state) (q / 8)
 
   abbrev side : Side
-  side = sideAt (router plan (q / 8)) (plan .core .permissions) q (w .state)
+  side = sideAt (router plan (q / 8)) (plan .core .permissions) (events plan) q (w .state)
 
   -- register and counter are put back as they were
   unchanged : P w → P (record { state = put (put (w .state) (counterAt (q / 8)) count) (registerAt (q / 8)) bits; told = w .told })
@@ -123,14 +124,14 @@ module _ (plan : Plan) (sent : List ℕ) (q : ℕ) (small : q / 8 < 32) (w : Wor
         (λ c j f m o y.
         let a : kind ≡ c = omega arith in
         let b : k ≡ j = omega arith in
-        n (rw (a, b) (record { runs = eq-eqb (running (w .state) q) 1 (y .runs); may = y .may; stood = y .stood })))
+        n (rw (a, b) (record { runs = eq-eqb (running (w .state) q) 1 (y .runs); may = y .may; used = y .used; stood = y .stood })))
         (omega arith))
 
     ruled-taken : P (after plan q w (ruled side bits count kind k code))
     unfolding acted
     ruled-taken =
         ruled-cases (λ r. P (after plan q w r)) side bits count kind k code refused refused
-        (λ o. by-role (router plan (q / 8)) (taken kind k g l e (record { runs = eqb-true (running (w .state) q) 1 (o .runs); may = o .may; stood = o .stood })))
+        (λ o. by-role (router plan (q / 8)) (taken kind k g l e (record { runs = eqb-true (running (w .state) q) 1 (o .runs); may = o .may; used = o .used; stood = o .stood })))
 
   -- a Time-Code: the register is put back as it was
   time-taken : (v : ℕ) (new hands : Bool) → P (counts new hands v q w)

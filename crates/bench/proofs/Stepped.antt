@@ -241,12 +241,12 @@ module _ (load : ℕ → ℕ) (permissions : List ℕ) (q : ℕ) (s : State) whe
   unfolding acted
   acted-tells code t told e = rw e
 
-  pub arrived-acts : (isRouter : Bool) (byte : ℕ) (r : Reaction) (told : List ℕ)
-      → r ≡ reacts (sideAt isRouter permissions q s) (register s (q / 8)) (counter s (q / 8)) byte
-      → arrived load permissions q isRouter byte (world s told)
+  pub arrived-acts : (isRouter : Bool) (events byte : ℕ) (r : Reaction) (told : List ℕ)
+      → r ≡ reacts (sideAt isRouter permissions events q s) (register s (q / 8)) (counter s (q / 8)) byte
+      → arrived load permissions q isRouter events byte (world s told)
       ≡ acted load permissions q (r .action) (world (put (put s (counterAt (q / 8)) (r .counter)) (registerAt (q / 8)) (r .register)) told)
   unfolding arrived
-  arrived-acts isRouter byte r told e =
+  arrived-acts isRouter events byte r told e =
       ap (λ (x : Reaction). acted load permissions q (x .action) (world (put (put s (counterAt (q / 8)) (x .counter)) (registerAt (q / 8)) (x .register)) told)) (sym e)
 
 module _ (plan : Plan) (sent : List ℕ) (q byte : ℕ) (e : byte ≡ getD sent (peer plan q) nothing) (w : World) where
@@ -254,6 +254,6 @@ module _ (plan : Plan) (sent : List ℕ) (q byte : ℕ) (e : byte ≡ getD sent 
   unfolding arrives
   arrives-nothing h = rw (← e, le-ltb byte nothing h, arrives)
 
-  pub arrives-byte : byte < nothing → arrives plan sent q w ≡ arrived (loadOf plan (q / 8)) (plan .core .permissions) q (router plan (q / 8)) byte w
+  pub arrives-byte : byte < nothing → arrives plan sent q w ≡ arrived (loadOf plan (q / 8)) (plan .core .permissions) q (router plan (q / 8)) (plan .core .events) byte w
   unfolding arrives
   arrives-byte h = rw (← e, lt-ltb byte nothing h, arrives)

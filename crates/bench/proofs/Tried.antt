@@ -14,6 +14,7 @@ use Rattle.answers.proofs.Outcomes.{Holds, holds}
 use Rattle.lists.specs.Table.{table}
 use Rattle.bits.specs.Set.{bit}
 use Rattle.bits.proofs.Sets.{bit-two}
+use Rattle.device.specs.Reaction.{isUsed}
 use Rattle.plan.specs.Reading.{Held}
 use Rattle.plan.specs.declared.Plan.{Plan}
 use Rattle.state.specs.State.{State, words, register}
@@ -80,8 +81,9 @@ module _ (plan : Plan) (held : Held plan) (d k : ℕ) where
 
     module _ {s : State} {number : ℕ} (fresh : s ≡ started plan) (a : Ordered (ask 4 (d < 32) ∷ sendAsks (plan .core .permissions) 0 d k s) number) where
       answered : Answered plan d k number
+      unfolding isUsed
       answered =
-          call-answered plan d (started plan) 0 k (begins (mine .0)) refl (mine .1) refl
+          call-answered plan d (started plan) 0 k (begins (mine .0)) refl (mine .1) refl refl
           (subst (λ (x : State). Ordered (ask 4 (d < 32) ∷ sendAsks (plan .core .permissions) 0 d k x) number) fresh a)
 
       pub is-refused : (number ≡ 0 → ⊥) → Tries plan d k number 0 0

@@ -20,7 +20,7 @@ use Rattle.device.specs.declared.Action.the-variants.{Named, LinkError, Ignored
 use Rattle.device.specs.declared.Side.{Side}
 use Rattle.plan.specs.declared.Plan.{Plan}
 use Rattle.state.specs.State.{State, put, registerAt, timerAt, portAt, register, timer, waiting, nextAt, next, running, counterAt, counter, timeAt, timeWaits, lately}
-use Rattle.state.specs.Network.{devices, router, peer, loadOf}
+use Rattle.state.specs.Network.{devices, router, peer, events, loadOf}
 use Rattle.state.specs.Queue.{queueAllAt, queueTimeAll}
 
 -- a state, and the words told so far
@@ -136,8 +136,8 @@ tells d (Time v) = toldWord ofTime d v ∷ []
 tells d (Reserved top low) = []
 
 -- port q's side of a reaction
-abbrev pub sideAt : Bool → List ℕ → ℕ → State → Side
-sideAt isRouter permissions q s = record { router = isRouter; running = eqb (running s q) 1; permissions = getD permissions q 0 }
+abbrev pub sideAt : Bool → List ℕ → ℕ → ℕ → State → Side
+sideAt isRouter permissions events q s = record { router = isRouter; running = eqb (running s q) 1; permissions = getD permissions q 0; events = events }
 
 module _ (load : ℕ → ℕ) (permissions : List ℕ) (q : ℕ) where
   -- what becomes of the code
@@ -149,9 +149,9 @@ module _ (load : ℕ → ℕ) (permissions : List ℕ) (q : ℕ) where
   acted (Ignored code) w = w
 
   -- a byte arrives at port q, and its device reacts
-  unfoldable pub arrived : Bool → ℕ → World → World
-  arrived isRouter byte w =
-      let r = reacts (sideAt isRouter permissions q (w .state)) (register (w .state) (q / 8)) (counter (w .state) (q / 8)) byte in
+  unfoldable pub arrived : Bool → ℕ → ℕ → World → World
+  arrived isRouter events byte w =
+      let r = reacts (sideAt isRouter permissions events q (w .state)) (register (w .state) (q / 8)) (counter (w .state) (q / 8)) byte in
       acted (r .action) (record { state = put (put (w .state) (counterAt (q / 8)) (r .counter)) (registerAt (q / 8)) (r .register); told = w .told })
 
 -- ---- the round of a plan
@@ -184,7 +184,7 @@ module _ (plan : Plan) where
   unfoldable pub arrives : List ℕ → ℕ → World → World
   arrives sent q w =
       let byte = getD sent (peer plan q) nothing in
-      cond (ltb byte nothing) (arrived (loadOf plan (q / 8)) (plan .core .permissions) q (router plan (q / 8)) byte w) w
+      cond (ltb byte nothing) (arrived (loadOf plan (q / 8)) (plan .core .permissions) q (router plan (q / 8)) (events plan) byte w) w
 
   -- by receiving device, then port
   unfoldable pub reached : List ℕ → World → World

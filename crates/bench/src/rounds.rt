@@ -274,6 +274,7 @@ fn act(
 fn arrive_one(
     loads: [u16; 2],
     role: u8,
+    events: u32,
     permissions: &[u8; 256],
     q: usize,
     byte: u8,
@@ -282,7 +283,7 @@ fn arrive_one(
     count: usize,
 ) -> usize
     requires { ⌜ (length (now state) ≡ words) × (q < 256) × (count < 4096) ⌝ }
-    ensures { λ r. ⌜ Follows (arrived (loadFor loads role) (now (permissions .entry)) q (eqb role 1) byte) (seen (now (state .entry)) (now (told .entry)) count) (seen (now (state .exit)) (now (told .exit)) r) × (r ≤ count + 1) ⌝ }
+    ensures { λ r. ⌜ Follows (arrived (loadFor loads role) (now (permissions .entry)) q (eqb role 1) events byte) (seen (now (state .entry)) (now (told .entry)) count) (seen (now (state .exit)) (now (told .exit)) r) × (r ≤ count + 1) ⌝ }
 {
     let home = DEVICE * (q / 8);
     let running = state[PORTS + PORT * q + RUNNING] == 1;
@@ -290,6 +291,7 @@ fn arrive_one(
         router: role == 1,
         running: running,
         permissions: areas::word(permissions[q]),
+        events: events,
     };
     let reaction = device::react(side, state[home], state[COUNTERS + q / 8], byte);
     state[COUNTERS + q / 8] = reaction.counter;
@@ -333,6 +335,7 @@ fn arrive_all(
                 count = arrive_one(
                     core.loads,
                     role,
+                    core.events,
                     &core.permissions,
                     q,
                     byte as u8,

@@ -1,6 +1,6 @@
 -- What a call knows once its tests are passed, and what it answers where one of the first is not.
-use mathlib.Core.Path.{_≡_, refl, subst}
-use mathlib.Core.Bool.{Bool, true, false, cond, _&&_}
+use mathlib.Core.Path.{_≡_, refl, sym, subst, _∙_}
+use mathlib.Core.Bool.{Bool, true, false, cond, _&&_, false≢true}
 use mathlib.Core.List.{List, _∷_, _++_}
 use mathlib.Core.Logic.{inl, inr}
 use Prim.Native.Nat.{ℕ, _+_, _*_, _<_}
@@ -10,12 +10,13 @@ use lib.ListN.{length}
 use borrow.Author.Tests.{eq-eqb, eqb-true, lt-ltb, ltb-true}
 use Rattle.answers.specs.Ordered.{Condition, ask, Ordered}
 use Rattle.answers.proofs.Outcomes.{Holds, holds, passed, stopped}
+use Rattle.device.specs.Reaction.{isUsed}
 use Rattle.plan.specs.Fields.{nobody}
 use Rattle.plan.specs.declared.Plan.{Plan}
 use Rattle.plan.proofs.BothWays.{held-devices, held-few}
 use Rattle.state.specs.State.{State, words}
-use Rattle.state.specs.Network.{portsOf, peer}
-use Rattle.calls.specs.Calls.{deviceAsks, ownAsks, sendAsks, owns, callAsks, linkAsks, tickAsks, called, calledIn}
+use Rattle.state.specs.Network.{portsOf, peer, events}
+use Rattle.calls.specs.Calls.{deviceAsks, ownAsks, profileAsks, sendAsks, owns, callAsks, linkAsks, tickAsks, called, calledIn}
 
 -- a device that a state has room for
 pub has-room : (more : List Condition) {d n : ℕ} → d < 32 → Ordered (ask 4 (d < 32) ∷ more) n → Ordered more n
@@ -47,6 +48,9 @@ module _ (plan : Plan) (d : ℕ) (s : State) where
       abbrev own : List Condition
       own = ownAsks (owns plan kind d) k
 
+      abbrev used : List Condition
+      used = profileAsks (events plan) kind k
+
       abbrev send : List Condition
       send = sendAsks (plan .core .permissions) kind d k s
 
@@ -54,10 +58,15 @@ module _ (plan : Plan) (d : ℕ) (s : State) where
       by-mask = subst (λ m. Ordered (ownAsks m k) n) e o
 
       pub call-foreign : (n ≡ 0 → ⊥) → Ordered (callAsks plan kind d k s) n
-      call-foreign z = call-passed (own ++ send) h (stopped own send by-mask z)
+      call-foreign z = call-passed (own ++ (used ++ send)) h (stopped own (used ++ send) by-mask z)
 
-      pub call-answered : n ≡ 0 → {m : ℕ} → Ordered (ask 4 (d < 32) ∷ send) m → Ordered (callAsks plan kind d k s) m
-      call-answered z {m} a = call-passed (own ++ send) h (passed own send m (holds own refl by-mask z) (has-room send (ready h .1) a))
+      -- it is the mask's: by the profile of the identifier
+      module _ (z : n ≡ 0) where
+        pub call-unused : isUsed (events plan) kind k ≡ false → Ordered (callAsks plan kind d k s) 13
+        call-unused u = call-passed (own ++ (used ++ send)) h (passed own (used ++ send) 13 (holds own refl by-mask z) (inl (λ v. false≢true (sym u ∙ v), refl)))
+
+        pub call-answered : isUsed (events plan) kind k ≡ true → {m : ℕ} → Ordered (ask 4 (d < 32) ∷ send) m → Ordered (callAsks plan kind d k s) m
+        call-answered u {m} a = call-passed (own ++ (used ++ send)) h (passed own (used ++ send) m (holds own refl by-mask z) (inr (u, has-room send (ready h .1) a)))
 
     pub call-ready : {n : ℕ} → Ordered (callAsks plan kind d k s) n → n ≡ 0 → (length s ≡ words) × (d < 32) × (k < 32)
     call-ready o z = known (holds (callAsks plan kind d k s) refl o z)

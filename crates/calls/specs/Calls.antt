@@ -8,11 +8,11 @@ use lib.Dec.{eqb, ltb}
 use lib.ListN.{length, getD}
 use Rattle.answers.specs.Ordered.{Condition, ask, Outcome}
 use Rattle.bits.specs.Set.{bit}
-use Rattle.device.specs.Reaction.{nextTime}
+use Rattle.device.specs.Reaction.{nextTime, isUsed}
 use Rattle.plan.specs.Fields.{nobody}
 use Rattle.plan.specs.declared.Plan.{Plan}
 use Rattle.state.specs.State.{State, words, word, put, portAt, register, timer, runningAt, running, counterAt, counter, timeAt, time, stateOf}
-use Rattle.state.specs.Network.{devices, portsOf, peer, source, handler}
+use Rattle.state.specs.Network.{devices, portsOf, peer, source, handler, events}
 use Rattle.state.specs.Sound.{stateAsks}
 use Rattle.state.specs.Queue.{sendsAt, queueAll, queueTimeAll}
 use Rattle.state.specs.Mark.{mark}
@@ -36,6 +36,10 @@ flagged flag q far s = put (put s (portAt q runningAt) flag) (portAt far running
 -- by the mask that the kind goes by
 abbrev pub ownAsks : ℕ → ℕ → List Condition
 ownAsks mask k = ask 5 (k < 32) ∷ ask 6 (bit mask k ≡ 1) ∷ []
+
+-- by the profile of the identifier: an event is not acknowledged
+abbrev pub profileAsks : ℕ → ℕ → ℕ → List Condition
+profileAsks events kind k = ask 13 (isUsed events kind k ≡ true) ∷ []
 
 -- some port of device d runs
 abbrev pub SomeRuns : ℕ → State → Type 0
@@ -65,7 +69,7 @@ module _ (plan : Plan) where
   owns kind d = cond (eqb kind 0) (source plan d) (handler plan d)
 
   abbrev pub callAsks : ℕ → ℕ → ℕ → State → List Condition
-  callAsks kind d k s = deviceAsks d s ++ ownAsks (owns kind d) k ++ sendAsks (plan .core .permissions) kind d k s
+  callAsks kind d k s = deviceAsks d s ++ ownAsks (owns kind d) k ++ profileAsks (events plan) kind k ++ sendAsks (plan .core .permissions) kind d k s
 
   -- the identifier is marked, and the code is queued at every port
   unfoldable pub called : ℕ → ℕ → ℕ → State → State

@@ -164,6 +164,9 @@ fn call_refusal(plan: Plan, kind: u8, state: &[u32], device: usize, k: u32) -> u
     if own != 0 {
         return own;
     }
+    if !device::is_used(core.events, kind, k) {
+        return 13;
+    }
     send_refusal(state, &core.permissions, device, kind, k)
 }
 

@@ -42,7 +42,7 @@ unfolding OutAndIn flagOf goes upTo LinkStops
 out-and-in plan d k total s held x taken = known (holds (callAsks plan 0 d k s) refl taken refl)
   where
     known : Holds (callAsks plan 0 d k s) → Pulled plan d k total s
-    known (_, (_, (there, (place, (_, ((p, low, on), _)))))) =
+    known (_, (_, (there, (place, (_, (_, ((p, low, on), _))))))) =
         let small : d < 32 = omega (arith, few plan held) in
         let q = 8 * d + p in
         let device : q / 8 ≡ d = omega arith in

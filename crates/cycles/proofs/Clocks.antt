@@ -4,7 +4,7 @@ use Prim.Native.Nat.{ℕ, _+_, _-_, _*_, _≤_}
 use native.Mathlib.Omega.{arith}
 use Rattle.bits.specs.Set.{bit}
 use Rattle.state.specs.State.{State}
-use Rattle.state.specs.Network.{source, handler}
+use Rattle.state.specs.Network.{source, handler, events}
 use Rattle.state.specs.Start.{started}
 use Rattle.calls.specs.Calls.{called}
 use Rattle.bench.specs.Round.{ofInterrupt, ofAcknowledge}
@@ -27,9 +27,9 @@ abbrev at : ℕ → State
 at t = rounds star t first
 
 -- node 1 is a source of 31, and node 3 a handler of it
-roles : (bit (source star 1) 31 ≡ 1) × (bit (handler star 3) 31 ≡ 1)
+roles : (bit (source star 1) 31 ≡ 1) × (bit (handler star 3) 31 ≡ 1) × (bit (events star) 31 ≡ 0)
 unfolding star bit
-roles = (refl, refl)
+roles = (refl, refl, refl)
 
 links : Links star (started star)
 links = usual-start star-is .links
@@ -63,6 +63,7 @@ waits =
     record {
       request = request;
       permits = permits star-is (started star) links;
+      no-event = roles .2;
       handles = roles .1;
       distance = there;
       told = told .3;

@@ -12,7 +12,7 @@ use Rattle.bits.specs.Set.{bit, join, leave}
 use Rattle.bits.specs.First.{searched, firstFrom, following}
 use Rattle.codes.specs.Codes.{reads}
 use Rattle.device.specs.Permissions.{maySend, mayReceive}
-use Rattle.device.specs.Reaction.{marked, ruled, counted, reactsTo, reacts}
+use Rattle.device.specs.Reaction.{marked, isUsed, ruled, counted, reactsTo, reacts}
 use Rattle.state.specs.State.{State, word, put, register, stateOf}
 use Rattle.state.specs.Network.{loadFor}
 use Rattle.state.specs.Queue.{queueAt, queueAllAt}
@@ -47,7 +47,7 @@ abbrev comesTo : State → Bool
 comesTo s = resting star 1 s && (let w = hears 2 (called star 0 1 1 s) in again w && idles star 1 (hear star ofInterrupt 3 1 w .state))
 
 computed : comesTo before ≡ true
-unfolding before star hear heard times every upTo table joined bit join leave searched firstFrom following reads maySend mayReceive marked ruled counted reactsTo reacts word put stateOf loadFor queueAt queueAllAt called mark fall firstWaits goes timeGoes stamped chosen sentWord sends unqueued timed forwarded tells acted arrived fallen sentBytes posted arrives reached round
+unfolding before star hear heard times every upTo table joined bit join leave searched firstFrom following reads maySend mayReceive marked isUsed ruled counted reactsTo reacts word put stateOf loadFor queueAt queueAllAt called mark fall firstWaits goes timeGoes stamped chosen sentWord sends unqueued timed forwarded tells acted arrived fallen sentBytes posted arrives reached round
 computed = refl
 
 abbrev two : Heard
@@ -85,14 +85,14 @@ unfolding spreading answered
 says = simp facts at (simp heard-is at (found .0))
 
 pub told-again : Early star 1 1 3 2 2 2 before spreading (answered 2)
-unfolding star bit answered
+unfolding star bit isUsed answered
 told-again =
     record {
       request = request;
       early = omega arith;
       handles = refl;
       told = says .0 .0;
-      taken = asked star-is 1 (omega arith) 2 (omega arith) (spreading 2) (usual-at 2 .links) 1 (omega arith) (usual-at 2 .sound) refl (says .0 .1);
+      taken = asked star-is 1 (omega arith) 2 (omega arith) (spreading 2) (usual-at 2 .links) 1 (omega arith) (usual-at 2 .sound) refl refl (says .0 .1);
       course = played none 2;
       again = says .1;
     }
@@ -112,6 +112,7 @@ a-round-later =
       held = star-is .held;
       at-rest = rests;
       permits = permits star-is before links;
+      no-event = refl;
       taken = request .taken;
       first = played none 3;
       idle = idles-says star 1 (spreading 3) (star-is .held) (usual-at 3 .sound) quiet;

@@ -7,5 +7,6 @@ pub mod Heard
 pub mod Early
 pub mod LateBack
 pub mod Twice
+pub mod TwoEvents
 pub mod Clocks
 pub mod Cable

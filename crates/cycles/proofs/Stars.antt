@@ -7,7 +7,7 @@ use lib.Dec.{eqb, ltb, leb}
 use borrow.Author.Tests.{eq-eqb}
 use Rattle.lists.specs.Table.{every, table, joined}
 use Rattle.lists.proofs.Facts.{facts}
-use Rattle.plan.specs.Fields.{nobody, devicesFit, loadsFit, masterFits, portsFit, masksFit, masterIsNode, joins}
+use Rattle.plan.specs.Fields.{nobody, devicesFit, loadsFit, masterFits, portsFit, masksFit, masterIsNode, joins, sourcesFit, shareEvents}
 use Rattle.plan.specs.Reading.{Held}
 use Rattle.plan.specs.declared.Plan.{Plan}
 use Rattle.plan.specs.inner.Memory.{portRight, deviceRight, rowRight, right}
@@ -76,9 +76,9 @@ module _ (plan : Plan) where
       }
 
 pub star-is : Star star 4
-unfolding star every table joined word stateOf loadFor right rowRight deviceRight portRight devicesFit loadsFit masterFits portsFit masksFit masterIsNode joins
+unfolding star every table joined word stateOf loadFor right rowRight deviceRight portRight devicesFit loadsFit masterFits portsFit masksFit masterIsNode joins sourcesFit shareEvents
 star-is = tested-star star 4 refl refl refl
 
 pub small-is : Star small 2
-unfolding small every table joined word stateOf loadFor right rowRight deviceRight portRight devicesFit loadsFit masterFits portsFit masksFit masterIsNode joins
+unfolding small every table joined word stateOf loadFor right rowRight deviceRight portRight devicesFit loadsFit masterFits portsFit masksFit masterIsNode joins sourcesFit shareEvents
 small-is = tested-star small 2 refl refl refl

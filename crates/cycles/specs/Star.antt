@@ -10,9 +10,11 @@ use Rattle.state.specs.Start.{started}
 use Rattle.calls.specs.Calls.{called}
 use Rattle.bench.specs.Settling.{rounds}
 use Rattle.assurance.specs.Demand3.{window}
+use Rattle.assurance.specs.Event.{lasting}
 use Rattle.assurance.specs.Ticking.{ticking}
 
--- router 0, with four nodes at it and one link from itself to itself: nodes 1 and 2 are sources of every identifier, nodes 3 and 4 handlers
+-- router 0, with four nodes at it and one link from itself to itself: node 2 is the source of 30, node 1 of every other identifier, and nodes 3 and 4
+-- are handlers of all. Identifier 29 is an event, of which node 2 is a source too
 unfoldable pub star : Plan
 star =
     record {
@@ -20,10 +22,11 @@ star =
           record {
             devices = 5;
             master = 0;
+            events = 2 ^ 29;
             loads = 900 ∷ 800 ∷ [];
             role = 1 ∷ replicate 31 0;
             ports = 6 ∷ 1 ∷ 1 ∷ 1 ∷ 1 ∷ replicate 27 0;
-            source = 0 ∷ (2 ^ 32 - 1) ∷ (2 ^ 32 - 1) ∷ replicate 29 0;
+            source = 0 ∷ (2 ^ 32 - 1 - 2 ^ 30) ∷ (2 ^ 30 + 2 ^ 29) ∷ replicate 29 0;
             handler = 0 ∷ 0 ∷ 0 ∷ (2 ^ 32 - 1) ∷ (2 ^ 32 - 1) ∷ replicate 27 0;
             permissions =
                 (15 ∷ 15 ∷ 15 ∷ 15 ∷ 15 ∷ 15 ∷ replicate 2 0) ++ (15 ∷ replicate 7 0) ++ (15 ∷ replicate 7 0) ++ (15 ∷ replicate 7 0) ++ (15 ∷ replicate 223 0);
@@ -45,6 +48,7 @@ small =
           record {
             devices = 3;
             master = 3;
+            events = 0;
             loads = 900 ∷ 800 ∷ [];
             role = 1 ∷ replicate 31 0;
             ports = 4 ∷ 1 ∷ 1 ∷ replicate 29 0;
@@ -69,12 +73,21 @@ backFrom to gap u t = rounds star t (called star 1 to 31 (rounds star (window 2 
 unfoldable pub first : State
 first = called star 0 2 30 (called star 0 1 31 (started star))
 
--- node 3 acknowledges 31 when the window ends, and five rounds after the second window node 2 requests 31
+-- node 3 acknowledges 31 when the window ends, and five rounds after the second window node 1 requests 31 again
 unfoldable pub between : State
 between = rounds star 5 (backFrom 3 0 first (window 2))
 
 unfoldable pub second : State
-second = called star 0 2 31 between
+second = called star 0 1 31 between
+
+-- ---- two events, of 29
+
+-- in the first state node 1 requests it, and in the second node 2; then rounds are played
+unfoldable pub firstEvent : ℕ → State
+firstEvent t = rounds star t (called star 0 1 29 (started star))
+
+unfoldable pub secondEvent : ℕ → State
+secondEvent t = rounds star t (called star 0 2 29 (firstEvent (lasting star 29 1 2)))
 
 -- ---- an acknowledge too soon
 

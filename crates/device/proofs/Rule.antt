@@ -7,7 +7,7 @@ use borrow.Author.Tests.{eq-eqb, ne-eqb, eqb-true, eqb-false}
 use Rattle.bits.specs.Set.{bit}
 use Rattle.codes.specs.declared.Code.{Code}
 use Rattle.device.specs.Permissions.{mayReceive}
-use Rattle.device.specs.Reaction.{marked, kept, passedOn, accepted, ruled}
+use Rattle.device.specs.Reaction.{marked, kept, passedOn, isUsed, accepted, ruled}
 use Rattle.device.specs.declared.Action.{Action}
 use Rattle.device.specs.declared.Action.the-variants.{LinkError, Ignored}
 use Rattle.device.specs.declared.Reaction.{Reaction}
@@ -17,6 +17,7 @@ use Rattle.device.specs.declared.Side.{Side}
 pub record Accepts (side : Side) (register kind k : ℕ) : Type 0 where
   pub runs : side .running ≡ true
   pub may : mayReceive kind (side .permissions) ≡ true
+  pub used : isUsed (side .events) kind k ≡ true
   pub stood : bit register k ≡ kind
 
 module _ (side : Side) (register counter kind k : ℕ) (code : Code) where
@@ -28,15 +29,20 @@ module _ (side : Side) (register counter kind k : ℕ) (code : Code) where
   unfolding ruled
   forbidden s m = simp (s, m)
 
-  pub opposite : side .running ≡ true → mayReceive kind (side .permissions) ≡ true → (bit register k ≡ kind → ⊥)
+  pub unused : side .running ≡ true → mayReceive kind (side .permissions) ≡ true → isUsed (side .events) kind k ≡ false
       → kept register counter (Ignored code) ≡ ruled side register counter kind k code
   unfolding ruled
-  opposite s m b = simp (s, m, ne-eqb _ _ b)
+  unused s m u = simp (s, m, u)
+
+  pub opposite : side .running ≡ true → mayReceive kind (side .permissions) ≡ true → isUsed (side .events) kind k ≡ true → (bit register k ≡ kind → ⊥)
+      → kept register counter (Ignored code) ≡ ruled side register counter kind k code
+  unfolding ruled
+  opposite s m u b = simp (s, m, u, ne-eqb _ _ b)
 
   pub taken : (next : ℕ) (action : Action) → Accepts side register kind k → next ≡ marked kind register k
       → action ≡ passedOn (side .router) code → record { register = next; counter = counter; action = action } ≡ ruled side register counter kind k code
   unfolding ruled
-  taken next action o e a = simp (o .runs, o .may, eq-eqb _ _ (o .stood)) (λ i. record { register = e i; counter = counter; action = a i })
+  taken next action o e a = simp (o .runs, o .may, o .used, eq-eqb _ _ (o .stood)) (λ i. record { register = e i; counter = counter; action = a i })
 
 -- two registers that agree on the bit: the rule ends the same way for both, and what is so of each way is so of the rule
 pub ruled-both : (R : Reaction → Reaction → Type 0) (side : Side) (a b m n kind k : ℕ) (code : Code) → bit a k ≡ bit b k
@@ -46,15 +52,16 @@ pub ruled-both : (R : Reaction → Reaction → Type 0) (side : Side) (a b m n k
     → R (ruled side a m kind k code) (ruled side b n kind k code)
 unfolding ruled
 ruled-both R side a b m n kind k code e stopped ignored taken =
-    rw (← e) (by-tests (side .running) (mayReceive kind (side .permissions)) (eqb (bit a k) kind) refl refl refl)
+    rw (← e) (by-tests (side .running) (mayReceive kind (side .permissions)) (isUsed (side .events) kind k) (eqb (bit a k) kind) refl refl refl refl)
   where
-    by-tests : (x y z : Bool) → side .running ≡ x → mayReceive kind (side .permissions) ≡ y → eqb (bit a k) kind ≡ z
-        → R (cond x (cond y (cond z (accepted side a m kind k code) (kept a m (Ignored code))) (kept a m (Ignored code))) (kept a m (LinkError code)))
-        (cond x (cond y (cond z (accepted side b n kind k code) (kept b n (Ignored code))) (kept b n (Ignored code))) (kept b n (LinkError code)))
-    by-tests false y z s o t = stopped (λ w. false≢true (sym s ∙ w .runs))
-    by-tests true false z s o t = ignored (λ w. false≢true (sym o ∙ w .may))
-    by-tests true true false s o t = ignored (λ w. eqb-false (bit a k) kind t (w .stood))
-    by-tests true true true s o t = taken (record { runs = s; may = o; stood = eqb-true (bit a k) kind t })
+    by-tests : (x y u z : Bool) → side .running ≡ x → mayReceive kind (side .permissions) ≡ y → isUsed (side .events) kind k ≡ u → eqb (bit a k) kind ≡ z
+        → R (cond x (cond y (cond u (cond z (accepted side a m kind k code) (kept a m (Ignored code))) (kept a m (Ignored code))) (kept a m (Ignored code))) (kept a m (LinkError code)))
+        (cond x (cond y (cond u (cond z (accepted side b n kind k code) (kept b n (Ignored code))) (kept b n (Ignored code))) (kept b n (Ignored code))) (kept b n (LinkError code)))
+    by-tests false y u z s o v t = stopped (λ w. false≢true (sym s ∙ w .runs))
+    by-tests true false u z s o v t = ignored (λ w. false≢true (sym o ∙ w .may))
+    by-tests true true false z s o v t = ignored (λ w. false≢true (sym v ∙ w .used))
+    by-tests true true true false s o v t = ignored (λ w. eqb-false (bit a k) kind t (w .stood))
+    by-tests true true true true s o v t = taken (record { runs = s; may = o; used = v; stood = eqb-true (bit a k) kind t })
 
 -- one register
 pub ruled-cases : (P : Reaction → Type 0) (side : Side) (register counter kind k : ℕ) (code : Code)

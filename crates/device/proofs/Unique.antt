@@ -3,7 +3,7 @@ use mathlib.Core.Path.{_≡_, sym, _∙_}
 use mathlib.Core.Bool.{Bool}
 use Prim.Native.Nat.{ℕ}
 use Rattle.device.specs.Permissions.{maySend, mayReceive}
-use Rattle.device.specs.Reaction.{marked, nextTime, reacts}
+use Rattle.device.specs.Reaction.{marked, nextTime, isUsed, reacts}
 use Rattle.device.specs.declared.Reaction.{Reaction}
 use Rattle.device.specs.declared.Side.{Side}
 
@@ -18,6 +18,9 @@ marked-unique kind register k r s p q = p ∙ sym q
 
 pub next-time-unique : (counter r s : ℕ) → r ≡ nextTime counter → s ≡ nextTime counter → r ≡ s
 next-time-unique counter r s p q = p ∙ sym q
+
+pub is-used-unique : (events kind k : ℕ) (r s : Bool) → r ≡ isUsed events kind k → s ≡ isUsed events kind k → r ≡ s
+is-used-unique events kind k r s p q = p ∙ sym q
 
 pub react-unique : (side : Side) (register counter byte : ℕ) (r s : Reaction) → r ≡ reacts side register counter byte → s ≡ reacts side register counter byte → r ≡ s
 react-unique side register counter byte r s p q = p ∙ sym q

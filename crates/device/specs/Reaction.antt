@@ -1,5 +1,5 @@
--- RULES, "One device": the reaction to a byte (000, 2.2 o and w, 2.3.2 d and e, 2.3.3 e and f).
-use mathlib.Core.Bool.{Bool, cond}
+-- RULES, "One device": the reaction to a byte (000, 2.2 l, o and w, 2.3.2 d and e, 2.3.3 e and f).
+use mathlib.Core.Bool.{Bool, cond, _||_}
 use Prim.Native.Nat.{ℕ, _+_, _%_}
 use lib.Dec.{eqb}
 use Rattle.bits.specs.Set.{bit, join, leave}
@@ -28,18 +28,25 @@ nextTime counter = (counter + 1) % 64
 abbrev pub passedOn : Bool → Code → Action
 passedOn isRouter code = cond isRouter (Forwarded code) (Told code)
 
--- a port's side: whether its device is a router, whether it runs, its permissions
+-- an interrupt (kind 0) is there for every identifier, an acknowledge for those that are no events
+unfoldable pub isUsed : ℕ → ℕ → ℕ → Bool
+isUsed events kind k = eqb kind 0 || eqb (bit events k) 0
+
+-- a port's side: whether its device is a router, whether it runs, its permissions, and the events
 module _ (side : Side) (register counter : ℕ) where
   -- accepted: the bit changes, and the code is passed on
   abbrev pub accepted : ℕ → ℕ → Code → Reaction
   accepted kind k code = record { register = marked kind register k; counter = counter; action = passedOn (side .router) code }
 
-  -- a code of a kind: a port not running, no permission, then the bit, which an interrupt finds 0 and an acknowledge 1
+  -- a code of a kind: a port not running, no permission, no such code for the identifier, then the bit, which an interrupt finds 0 and an
+  -- acknowledge 1
   unfoldable pub ruled : ℕ → ℕ → Code → Reaction
   ruled kind k code =
       cond (side .running)
       (cond (mayReceive kind (side .permissions))
+      (cond (isUsed (side .events) kind k)
       (cond (eqb (bit register k) kind) (accepted kind k code) (kept register counter (Ignored code)))
+      (kept register counter (Ignored code)))
       (kept register counter (Ignored code)))
       (kept register counter (LinkError code))
 

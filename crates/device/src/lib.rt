@@ -2,7 +2,7 @@
 // An Interrupt-Code and an acknowledge go by one rule, over the kind: 0 interrupt, 1 acknowledge.
 ghost use mathlib.Core.Path.{_≡_};
 ghost use Rattle.device.specs.Permissions.{maySend, mayReceive};
-ghost use Rattle.device.specs.Reaction.{marked as Reaction·marked, nextTime, passedOn, ruled as Reaction·ruled, counted as Reaction·counted, reacts};
+ghost use Rattle.device.specs.Reaction.{marked as Reaction·marked, nextTime, passedOn, isUsed, ruled as Reaction·ruled, counted as Reaction·counted, reacts};
 use codes::Code;
 
 // What becomes of the code.
@@ -14,11 +14,13 @@ pub enum Action {
     Told(Code),
 }
 
-// The port's side of a reaction: whether its device is a router, whether it runs, its permissions.
+// The port's side of a reaction: whether its device is a router, whether it runs, its permissions, and
+// which identifiers are events, that nobody acknowledges.
 pub struct Side {
     pub router: bool,
     pub running: bool,
     pub permissions: u32,
+    pub events: u32,
 }
 
 // The register and the counter afterwards, and what becomes of the code.
@@ -122,6 +124,16 @@ fn counted(side: Side, register: u32, counter: u32, v: u8) -> Reaction
     outcome(register, v as u32, passed_on(side.router, code))
 }
 
+// Does the profile of an identifier know codes of the kind? An event has no acknowledge (000, 2.4).
+pub fn is_used(events: u32, kind: u8, k: u32) -> bool
+    ensures { λ r. ⌜ r ≡ isUsed events kind k ⌝ }
+{
+    if kind == 0 {
+        return true;
+    }
+    bits::get(events, k) == 0
+}
+
 // The rule for a code of a kind with its identifier. The bit has to stand as the kind's own number:
 // 0 before an interrupt, 1 before an acknowledge.
 fn ruled(side: Side, register: u32, counter: u32, kind: u8, k: u8, code: Code) -> Reaction
@@ -131,6 +143,9 @@ fn ruled(side: Side, register: u32, counter: u32, kind: u8, k: u8, code: Code) -
         return outcome(register, counter, Action::LinkError(code));
     }
     if !may_receive(kind, side.permissions) {
+        return outcome(register, counter, Action::Ignored(code));
+    }
+    if !is_used(side.events, kind, k as u32) {
         return outcome(register, counter, Action::Ignored(code));
     }
     if bits::get(register, k as u32) != kind as u32 {

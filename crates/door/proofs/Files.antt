@@ -1,4 +1,4 @@
--- A call over a file: how it shows its promise, and which numbers it answers. It is refused by one of 20 to 26 exactly where the file
+-- A call over a file: how it shows its promise, and which numbers it answers. It is refused by one of 20 to 27 exactly where the file
 -- is not accepted, and by 1 never.
 use mathlib.Core.Path.{_≡_, refl, sym, ap, _∙_}
 use mathlib.Core.Bool.{Bool, true, _&&_}

@@ -13,8 +13,8 @@ abbrev pub nonzero : ℕ → Bool
 nonzero n = not (eqb n 0)
 
 -- the port's side of a reaction
-abbrev pub sideOf : ℕ → ℕ → ℕ → Side
-sideOf role running permissions = record { router = nonzero role; running = nonzero running; permissions = permissions }
+abbrev pub sideOf : ℕ → ℕ → ℕ → ℕ → Side
+sideOf role running permissions events = record { router = nonzero role; running = nonzero running; permissions = permissions; events = events }
 
 -- numbers for what is done, for the register and the counter afterwards, and for the code that is handed on
 abbrev pub Reacts : Reaction → ℕ → ℕ → ℕ → ℕ → ℕ → ℕ → Type 0

@@ -128,10 +128,11 @@ pub extern "C" fn bench_for_header_code_write(kind: u32, value: u32, byte: &mut 
 // What a device does with a byte that arrives, and the code that it hands on; its register and its
 // counter are updated.
 #[no_mangle]
-pub extern "C" fn bench_for_header_react_3(
+pub extern "C" fn bench_for_header_react_4(
     role: u32,
     running: u32,
     permissions: u32,
+    events: u32,
     bits: &mut u32,
     counter: &mut u32,
     byte: u8,
@@ -139,12 +140,13 @@ pub extern "C" fn bench_for_header_react_3(
     top: &mut u32,
     value: &mut u32,
 ) -> u32
-    ensures { λ r. ⌜ Reacts (reacts (sideOf role running permissions) (now (bits .entry)) (now (counter .entry)) byte) r (now (bits .exit)) (now (counter .exit)) (now (kind .exit)) (now (top .exit)) (now (value .exit)) ⌝ }
+    ensures { λ r. ⌜ Reacts (reacts (sideOf role running permissions events) (now (bits .entry)) (now (counter .entry)) byte) r (now (bits .exit)) (now (counter .exit)) (now (kind .exit)) (now (top .exit)) (now (value .exit)) ⌝ }
 {
     let side = Side {
         router: role != 0,
         running: running != 0,
         permissions: permissions,
+        events: events,
     };
     let reaction = device::react(side, *bits, *counter, byte);
     *bits = reaction.register;

@@ -20,7 +20,7 @@ use Rattle.device.specs.declared.Side.{Side}
 use Rattle.device.proofs.Rule.{Accepts, ruled-cases}
 use Rattle.plan.specs.declared.Plan.{Plan}
 use Rattle.state.specs.State.{words, put, registerAt, timerAt, register, timer, running, counterAt, counter}
-use Rattle.state.specs.Network.{router, peer, loadOf}
+use Rattle.state.specs.Network.{router, peer, events, loadOf}
 use Rattle.state.proofs.Words.{length-put, word-same, word-other, put-word}
 use Rattle.state.proofs.Waits.{queue-all-left}
 use Rattle.bench.specs.Round.{World, nothing, timed, forwarded, acted, arrived, sideAt, arrives}
@@ -81,7 +81,7 @@ module _ (plan : Plan) (sent : List ℕ) (q : ℕ) (w : World) where
   byte = getD sent (peer plan q) nothing
 
   abbrev side : Side
-  side = sideAt (router plan (q / 8)) (plan .core .permissions) q (w .state)
+  side = sideAt (router plan (q / 8)) (plan .core .permissions) (events plan) q (w .state)
 
   abbrev bits : ℕ
   bits = register (w .state) (q / 8)
@@ -112,7 +112,7 @@ module _ (plan : Plan) (sent : List ℕ) (q : ℕ) (w : World) where
   unfolding arrives arrived reacts
   arrives-left small e = by-test (ltb byte nothing)
     where
-      by-test : (t : Bool) → Beside w (cond t (arrived (loadOf plan (q / 8)) (plan .core .permissions) q (router plan (q / 8)) byte w) w)
+      by-test : (t : Bool) → Beside w (cond t (arrived (loadOf plan (q / 8)) (plan .core .permissions) q (router plan (q / 8)) (events plan) byte w) w)
       by-test false = beside-same w
       by-test true =
           rw (acts-not (reacts side bits count byte .action) _ e, bits-left side bits count (reads byte) e)
@@ -123,7 +123,7 @@ module _ (plan : Plan) (sent : List ℕ) (q : ℕ) (w : World) where
   unfolding reacts
   arrives-opens kind k g l e a =
       let o = opened side bits count byte kind k e g l (reads byte) (stands byte) a in
-      record { runs = eqb-true (running (w .state) q) 1 (o .runs); may = o .may; stood = o .stood }
+      record { runs = eqb-true (running (w .state) q) 1 (o .runs); may = o .may; used = o .used; stood = o .stood }
 
   -- an accepted interrupt
   module _ (k : ℕ) (l : k < 32) (e : byte ≡ byteOf 0 k) (a : accepts (action plan q byte (w .state)) ≡ true) where

@@ -29,7 +29,7 @@ use Rattle.plan.specs.Fields.{nobody}
 use Rattle.plan.specs.Reading.{Held}
 use Rattle.plan.specs.declared.Plan.{Plan}
 use Rattle.state.specs.State.{State, words, word, put, registerAt, timerAt, portAt, register, timer, waiting, nextAt, next, portsEnd, counterAt, counter}
-use Rattle.state.specs.Network.{devices, router, peer, permissions, loadOf}
+use Rattle.state.specs.Network.{devices, router, peer, permissions, events, loadOf}
 use Rattle.state.specs.Sound.{Sound}
 use Rattle.state.specs.Queue.{sendsAt, queueAt, queueBut, queueAllAt}
 use Rattle.state.specs.Mark.{loaded, mark}
@@ -334,7 +334,7 @@ module _ {k : ℕ} (l : k < 32) (plan : Plan) (q : ℕ) (h : q < 256) where
     arrives-both sent other kind g x y =
         let byte = byteOf kind k in
         rw (x, y, lt-ltb byte nothing (omega arith), p .like .runs q h)
-        (reacts-both (sideAt (router plan (q / 8)) (plan .core .permissions) q (v .state)) byte kind g refl (reads byte) (stands byte))
+        (reacts-both (sideAt (router plan (q / 8)) (plan .core .permissions) (events plan) q (v .state)) byte kind g refl (reads byte) (stands byte))
 
   -- no code of k arrives
   pub arrives-aside : (sent : List ℕ) (w : World) {t : State} → Both k (w .state) t → ((kind : ℕ) → kind < 2 → getD sent (peer plan q) nothing ≢ byteOf kind k)

@@ -183,6 +183,14 @@ module _ (plan : Plan) (sent : List ℕ) (q : ℕ) (w : World) (small : q / 8 < 
       (λ u b m. beside-came b (toldWord ofTimeout d k) (omega arith) m) (λ kind j g l b m. m)
       (λ kind j g l b m. elim (List·Memᴰ·append-cases (w .told) m) [ inl a ↦ a | inr c ↦ let e = List·Memᴰ·eq-of-singleton c in absurd (omega arith) ])
 
+-- a code that is taken in loads its timer or stops it
+mark-timer : (plan : Plan) (kind d k : ℕ) → kind < 2 → (s : State) → length s ≡ words → d < 32 → k < 32
+    → (timer (mark plan kind d k s) d k ≡ 0) ⊎ (timer (mark plan kind d k s) d k ≡ loadOf plan d k)
+unfolding mark
+mark-timer plan zero d k g s size h l = inr (word-same _ (timerAt d k) _ (omega (arith, length-put s (registerAt d) (marked 0 (register s d) k))))
+mark-timer plan (suc zero) d k g s size h l = inl (word-same _ (timerAt d k) _ (omega (arith, length-put s (registerAt d) (marked 1 (register s d) k))))
+mark-timer plan (suc (suc kind)) d k g s size h l = absurd (omega arith)
+
 -- what is not sent is not accepted
 pub unsent : (plan : Plan) (s : State) (d k : ℕ) → Unsent plan s d k → Unaccepted plan s d k
 unsent plan s d k none = (λ p h a. none p 0 h (omega arith) (a .0), λ p h a. none p 1 h (omega arith) (a .0))
@@ -325,6 +333,40 @@ module _ (plan : Plan) (held : Held plan) (s : State) (x : Sound plan s) (d k : 
         tells = λ z node. reached-more plan held w d k (sentBytes plan s) (f .tells z node);
         only = λ m. f .only (reached-came plan held w d k (omega (arith, few plan held)) l (sentBytes plan s) m);
       }
+
+  -- any timer, one that does not run too, is then one lower
+  pub round-lowers : Unaccepted plan s d k → timer (round plan s .next) d k ≡ timer s d k - 1
+  unfolding round
+  round-lowers none = arrivals-still plan held s x d k h l none ∙ fallen-timer plan held d k h l (record { state = s; told = [] }) x
+
+  -- whatever arrives, it is one lower, or stopped, or loaded
+  abbrev Stands : World → Type 0
+  Stands w = (timer (w .state) d k ≡ timer s d k - 1) ⊎ (timer (w .state) d k ≡ 0) ⊎ (timer (w .state) d k ≡ loadOf plan d k)
+
+  arrives-stands : (q : ℕ) (w : World) → q < 8 * devices plan → Sound plan (w .state) → Stands w → Stands (arrives plan (sentBytes plan s) q w)
+  arrives-stands q w b y o =
+      let n = few plan held in
+      let marks : (kind j : ℕ) → kind < 2 → j < 32 → Stands (record { state = mark plan kind (q / 8) j (w .state); told = w .told }) =
+      λ kind j g m. elim (ℕ-discrete (timerAt (q / 8) j) (timerAt d k)) [
+        | yes is ↦
+            let device : q / 8 ≡ d = omega arith in
+            let place : j ≡ k = omega arith in
+            rw (device, place) (inr (mark-timer plan kind d k g (w .state) (y .size) (omega arith) l))
+        | no ne ↦ let same = mark-other plan kind (q / 8) j (timerAt d k) (w .state) (omega arith) (λ e. ne (sym e)) in rw same o
+      ] in
+      arrives-cases plan (sentBytes plan s) q (omega arith) w Stands (λ v c. rw (c .front (timerAt d k) (omega arith)) o)
+      (λ kind j g m c. rw (queue-all-left kind j (timerAt d k) g (omega arith) (plan .core .permissions) (q / 8) q (omega arith) (mark plan kind (q / 8) j (w .state))) (marks kind j g m))
+      (λ kind j g m c. marks kind j g m)
+
+  pub round-stands : (timer (round plan s .next) d k ≡ timer s d k - 1) ⊎ (timer (round plan s .next) d k ≡ 0) ⊎ (timer (round plan s .next) d k ≡ loadOf plan d k)
+  unfolding round reached
+  round-stands =
+      let falls = fallen-timer plan held d k h l (record { state = s; told = [] }) x in
+      keeps (arrives plan (sentBytes plan s)) (λ v. Sound plan (v .state) × Stands v) (8 * devices plan)
+      (λ q v b y. (arrives-sound plan held (sentBytes plan s) q (omega arith) v (y .0), arrives-stands q v b (y .0) (y .1))) (afterSending plan s) (
+        posted-sound plan held s x (afterTimers plan s .state) (fallen-sound plan held (record { state = s; told = [] }) x),
+        inl (sending-still plan held s x d k h l ∙ falls),
+      ) .1
 
   -- a node's timer that stands at 1 ends in the round, whatever arrives, and its host is told
   pub timeout-told : router plan d ≡ false → timer s d k ≡ 1 → List·Memᴰ (toldWord ofTimeout d k) (round plan s .told)

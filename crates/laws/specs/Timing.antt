@@ -13,7 +13,7 @@ use Rattle.device.specs.declared.Action.{Action}
 use Rattle.device.specs.declared.Action.the-variants.{Named, LinkError, Ignored, Forwarded, Told}
 use Rattle.plan.specs.declared.Plan.{Plan}
 use Rattle.state.specs.State.{State, register, timer, counter}
-use Rattle.state.specs.Network.{router, peer}
+use Rattle.state.specs.Network.{router, peer, events}
 use Rattle.bench.specs.Round.{World, ofTimeout, toldWord, nothing, sideAt, sentBytes, arrives, afterSending}
 use Rattle.bench.specs.Settling.{rounds}
 
@@ -27,7 +27,7 @@ accepts (Ignored code) = false
 
 -- what becomes of a byte that arrives at port q
 abbrev pub action : Plan → ℕ → ℕ → State → Action
-action plan q byte s = reacts (sideAt (router plan (q / 8)) (plan .core .permissions) q s) (register s (q / 8)) (counter s (q / 8)) byte .action
+action plan q byte s = reacts (sideAt (router plan (q / 8)) (plan .core .permissions) (events plan) q s) (register s (q / 8)) (counter s (q / 8)) byte .action
 
 -- ---- in the round from s
 

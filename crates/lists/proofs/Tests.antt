@@ -33,6 +33,12 @@ pub or-right : (a b : Bool) → b ≡ true → (a || b) ≡ true
 or-right true b e = refl
 or-right false b e = e
 
+-- two tests of which each is passed where the other is
+pub same-truth : (a b : Bool) → (a ≡ true → b ≡ true) → (b ≡ true → a ≡ true) → a ≡ b
+same-truth true b p q = sym (p refl)
+same-truth false true p q = q refl
+same-truth false false p q = refl
+
 pub every-at : (n : ℕ) (f : ℕ → Bool) → every n f ≡ true → (i : ℕ) → i < n → f i ≡ true
 unfolding every
 every-at zero f e i h = absurd (omega arith)

@@ -63,6 +63,7 @@ module _ (file : List ℕ) (small : Bytes file) where
       let head = block-bytes file 0 small in
       let row : (d : ℕ) → Bytes (deviceBlock file d) = λ d. block-bytes file (1 + d) small in
       record {
+        events = number-small (block file 0) 6 4 head;
         loads = numbers-two _ _ 65536 (number-small (block file 0) 4 2 head) (number-small (block file 0) 2 2 head);
         role = numbers-column _ _ 256 (omega arith) (λ d. row d 2);
         ports = numbers-column _ _ 256 (omega arith) (λ d. row d 3);

@@ -10,6 +10,7 @@ use lib.Dec.{eqb, leb, ltb}
 use lib.ListN.{length, getD, List·getD-eq-default}
 use borrow.Author.Tests.{ltb-true, lt-ltb, eqb-true, eq-eqb, ne-eqb}
 use Rattle.answers.proofs.Unique.{ordered-once}
+use Rattle.bits.specs.Set.{bit}
 use Rattle.lists.proofs.Facts.{facts}
 use Rattle.lists.proofs.Tests.{and-left, and-right}
 use Rattle.plan.specs.Fields.{portsFit, masksFit, masterIsNode, nobody}
@@ -24,6 +25,7 @@ use Rattle.plan.specs.inner.Memory.{portRight, deviceRight, rowRight, ri
 use Rattle.plan.specs.inner.File.{fileOf}
 use Rattle.plan.proofs.Firsts.{fails}
 use Rattle.plan.proofs.Shape.{Shaped}
+use Rattle.plan.proofs.Shared.{one-source}
 use Rattle.plan.proofs.Good.{devices-fit, header-says, master-fits, zero-accepts}
 pub use Rattle.plan.proofs.There.{length-file}
 use Rattle.plan.proofs.There.{right-says, right-good}
@@ -94,6 +96,11 @@ module _ (plan : Plan) where
       let there : d < plan .core .devices = omega (arith, held-master h) in
       let row = simp facts at (rw (lt-ltb d (plan .core .devices) there) at (right-says plan (held-right h) .rows d (omega (arith, held-devices h)))) in
       (there, node-master (plan .core .master) d _ e (row .0 .1))
+
+  -- an identifier that is no event has one source at most
+  pub held-one-source : Held plan → (k : ℕ) → bit (plan .core .events) k ≡ 0 → (d e : ℕ) → d < plan .core .devices → e < plan .core .devices
+      → bit (getD (plan .core .source) d 0) k ≡ 1 → bit (getD (plan .core .source) e 0) k ≡ 1 → d ≡ e
+  held-one-source h = one-source (plan .core .events) (plan .core .devices) _ (right-says plan (held-right h) .sources)
 
 -- a device is a node or a router, and has few ports; a node has two at most
 pub few-ports : (role ports : ℕ) → portsFit role ports ≡ true → (role < 2) × (ports ≤ 8) × (role ≡ 0 → ports ≤ 2)

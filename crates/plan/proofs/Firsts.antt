@@ -47,7 +47,7 @@ passes-or-stops (t ∷ ts) = by-test (t .passes) refl (passes-or-stops ts)
 
 -- the numbers of the reader's refusals
 abbrev pub Refusal : ℕ → Type 0
-Refusal n = (20 ≤ n) × (n ≤ 26)
+Refusal n = (20 ≤ n) × (n ≤ 27)
 
 -- every test is refused with one of them
 abbrev pub Numbered : List Test → Type 0

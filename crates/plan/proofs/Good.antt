@@ -1,16 +1,16 @@
 -- What it is that a file is accepted: the fact of each test, by name.
 use mathlib.Core.Path.{_≡_, ap}
 use mathlib.Core.Bool.{true}
-use mathlib.Core.List.{List, _++_}
+use mathlib.Core.List.{List, [], _∷_, _++_}
 use mathlib.Core.Logic.{inl, inr}
 use Prim.Native.Nat.{ℕ, _+_, _*_, _≤_, _<_}
 use native.Mathlib.Omega.{arith}
 use lib.ListN.{length, getD}
 use Rattle.lists.specs.Table.{joined}
 use Rattle.plan.specs.Block.{block, numberIn, restZero, checked, kindField}
-use Rattle.plan.specs.Fields.{devicesFit, loadsFit, masterFits, numberField, deviceFields, roleIn, portsIn, sourceIn, handlerIn, portsFit, masksFit, masterIsNode, entryFits, deviceFits, joins}
+use Rattle.plan.specs.Fields.{devicesFit, loadsFit, masterFits, numberField, deviceFields, roleIn, portsIn, sourceIn, handlerIn, portsFit, masksFit, masterIsNode, entryFits, deviceFits, joins, sourcesFit}
 use Rattle.plan.specs.Header.{headerFields, headerIn, headerFits}
-use Rattle.plan.specs.Refusals.{Test, test, accepts, lengthFits, headerTests, deviceTests, joinTests, deviceBlock, countIn, masterIn, portsOf, peerOf, tests, verdict}
+use Rattle.plan.specs.Refusals.{Test, test, accepts, lengthFits, headerTests, deviceTests, joinTests, deviceBlock, countIn, masterIn, eventsIn, sourceOf, portsOf, peerOf, tests, verdict}
 use Rattle.plan.specs.declared.Header.{Header}
 use Rattle.lists.proofs.Facts.{facts}
 use Rattle.plan.proofs.Firsts.{AllPass, Refusal, Numbered, stops-numbered, passes-or-stops, first-accepts, accepts-all, all-append, all-front, all-back, all-joined, all-at, all-table, all-table-at, numbered-append, numbered-joined, numbered-table}
@@ -38,6 +38,7 @@ pub record Good (file : List ℕ) : Type 0 where
   pub header : GoodHeader (block file 0)
   pub device : (d : ℕ) → d < countIn file → GoodDevice (countIn file) (masterIn file) d (deviceBlock file d)
   pub joined : (d : ℕ) → d < countIn file → (p : ℕ) → p < 8 → joins (portsOf file) (peerOf file) d p ≡ true
+  pub sources : sourcesFit (eventsIn file) (sourceOf file) (countIn file) ≡ true
 
 -- 1 to 32 devices
 pub devices-fit : (n : ℕ) → devicesFit n ≡ true → (1 ≤ n) × (n ≤ 32)
@@ -85,12 +86,16 @@ module _ (s : List ℕ) where
 -- ---- the tests of a file
 
 module _ (file : List ℕ) where
-  -- the tests of the devices' blocks and those of their connections, which follow the six of the length, of block 0 and of the count
+  -- the tests of the devices' blocks, those of their connections and that of the sources, which follow the six of the length, of block 0 and
+  -- of the count
   abbrev blocks : List Test
   blocks = joined (countIn file) (λ d. deviceTests (countIn file) (masterIn file) d (deviceBlock file d))
 
   abbrev connections : List Test
   connections = joined (countIn file) (joinTests (portsOf file) (peerOf file))
+
+  abbrev sources : List Test
+  sources = test 27 0 (sourcesFit (eventsIn file) (sourceOf file) (countIn file)) ∷ []
 
   numbered : Numbered (tests file)
   unfolding tests headerTests deviceTests joinTests
@@ -100,9 +105,10 @@ module _ (file : List ℕ) where
       (numbered-joined (λ d. deviceTests (countIn file) (masterIn file) d (deviceBlock file d)) (countIn file) (λ d. omega arith))
       (numbered-joined (joinTests (portsOf file) (peerOf file)) (countIn file)
       (λ d. numbered-table 8 (λ p. test 26 (1 + d) (joins (portsOf file) (peerOf file) d p)) (λ p. omega arith))) in
-      (omega arith, (omega arith, (omega arith, (omega arith, (omega arith, (omega arith, devices))))))
+      let rest : Numbered (blocks ++ connections ++ sources) = numbered-append (blocks ++ connections) sources devices (omega arith, tt) in
+      (omega arith, (omega arith, (omega arith, (omega arith, (omega arith, (omega arith, rest))))))
 
-  -- a file is refused with a number of 20 to 26
+  -- a file is refused with a number of 20 to 27
   pub refusal-numbered : (verdict file .number ≡ 0 → ⊥) → Refusal (verdict file .number)
   unfolding verdict
   refusal-numbered h =
@@ -121,12 +127,14 @@ module _ (file : List ℕ) where
   good e =
       let p : AllPass (tests file) = accepts-all (tests file) numbered (ap (λ v. v .number) e) in
       let f = simp facts at p in
-      let r : AllPass (blocks ++ connections) = p .1 .1 .1 .1 .1 .1 in
+      let r : AllPass (blocks ++ connections ++ sources) = p .1 .1 .1 .1 .1 .1 in
+      let c : AllPass (blocks ++ connections) = all-front (blocks ++ connections) sources r in
       record {
         long = f .1 .1 .1 .1 .1 .0;
         header = record { check = f .1 .0; mark = f .1 .1 .0; fits = p .1 .1 .1 .0; zeros = f .1 .1 .1 .1 .0 };
-        device = λ d h. device-good (deviceBlock file d) (countIn file) (masterIn file) d (all-at _ (countIn file) (all-front blocks connections r) d h);
-        joined = λ d h. all-table-at 8 _ (all-at _ (countIn file) (all-back blocks connections r) d h);
+        device = λ d h. device-good (deviceBlock file d) (countIn file) (masterIn file) d (all-at _ (countIn file) (all-front blocks connections c) d h);
+        joined = λ d h. all-table-at 8 _ (all-at _ (countIn file) (all-back blocks connections c) d h);
+        sources = all-back (blocks ++ connections) sources r .0;
       }
 
   pub accepted : Good file → verdict file ≡ accepts
@@ -136,9 +144,10 @@ module _ (file : List ℕ) where
       all-append blocks connections
       (all-joined _ (countIn file) (λ d h. good-device (deviceBlock file d) (countIn file) (masterIn file) d (g .device d h)))
       (all-joined _ (countIn file) (λ d h. all-table 8 _ (g .joined d h))) in
+      let rest : AllPass (blocks ++ connections ++ sources) = all-append (blocks ++ connections) sources devices (g .sources, tt) in
       let h : GoodHeader (block file 0) = g .header in
       first-accepts (tests file)
       (simp facts (
         fitting file (countIn file) (devices-fit (countIn file) (header-says (headerIn (block file 0)) (h .fits) .0) .1) (g .long),
-        (h .check, (h .mark, (simp facts at (h .fits), (h .zeros, (g .long, devices))))),
+        (h .check, (h .mark, (simp facts at (h .fits), (h .zeros, (g .long, rest))))),
       ))

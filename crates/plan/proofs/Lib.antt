@@ -12,5 +12,6 @@ pub mod Peers
 pub mod Rows
 pub mod Runs
 pub mod Shape
+pub mod Shared
 pub mod There
 pub mod Unique

@@ -12,8 +12,8 @@ use borrow.Author.Tests.{lt-ltb, le-ltb}
 use Rattle.lists.specs.Table.{table, joined}
 use Rattle.lists.proofs.Tables.{getD-table, is-table, same-joined}
 use Rattle.plan.specs.Block.{block}
-use Rattle.plan.specs.Fields.{roleIn, portsIn, sourceIn, handlerIn, entry, nobody, peerNumber, joins}
-use Rattle.plan.specs.Refusals.{deviceBlock, countIn, masterIn, portsOf, peerOf}
+use Rattle.plan.specs.Fields.{roleIn, portsIn, sourceIn, handlerIn, entry, nobody, peerNumber, joins, sourcesFit}
+use Rattle.plan.specs.Refusals.{deviceBlock, countIn, masterIn, eventsIn, sourceOf, portsOf, peerOf}
 use Rattle.plan.specs.Header.{headerIn, headerOf, headerFits, coreWith}
 use Rattle.plan.specs.Reading.{column, planOf}
 use Rattle.plan.specs.declared.Header.{Header}
@@ -25,6 +25,7 @@ use Rattle.plan.proofs.Shape.{Shaped}
 use Rattle.plan.proofs.Good.{Good, GoodDevice, devices-fit, header-says}
 use Rattle.plan.proofs.Rows.{Says, Row, absent-right, row-right, read-header, read-device}
 use Rattle.plan.proofs.Entries.{entry-port, port-range}
+use Rattle.plan.proofs.Shared.{sources-same}
 use Rattle.plan.proofs.Runs.{whole-file, length-block, block-bytes}
 
 -- one value for a device below n, and another for an absent one
@@ -64,7 +65,7 @@ match-of file =
           record {
             role = column-at (countIn file) (λ e. roleIn (deviceBlock file e)) d h;
             ports = column-at (countIn file) (portsOf file) d h;
-            source = column-at (countIn file) (λ e. sourceIn (deviceBlock file e)) d h;
+            source = column-at (countIn file) (sourceOf file) d h;
             handler = column-at (countIn file) (λ e. handlerIn (deviceBlock file e)) d h;
             peer = peers-at (countIn file) (peerOf file) d h;
             permissions = permissions-at (countIn file) (λ e q. entry (deviceBlock file e) q 2) d h;
@@ -101,6 +102,9 @@ module _ (plan : Plan) (file : List ℕ) (m : Match plan file) where
   same-master : master ≡ masterIn file
   same-master = ap (λ (h : Header). h .master) (m .header)
 
+  same-events : plan .core .events ≡ eventsIn file
+  same-events = ap (λ (h : Header). h .events) (m .header)
+
   is-permissions : length (plan .core .permissions) ≡ 256
       → plan .core .permissions ≡ table 256 (λ q. ofDevice (countIn file) (q / 8) (entry (deviceBlock file (q / 8)) (q % 8) 2) 0)
   is-permissions e =
@@ -135,6 +139,10 @@ module _ (plan : Plan) (file : List ℕ) (m : Match plan file) where
         (λ e k. sym (match-row e k .ports)) (λ e k q j. sym (match-row e k .peer q j)) d h p l
         (port-range (entry-port devices few (deviceBlock file d) p (good d h .entries p l)))
 
+    -- and so are its sources
+    pub match-sources : sourcesFit (eventsIn file) (sourceOf file) devices ≡ sourcesFit (plan .core .events) (at (plan .core .source)) devices
+    match-sources = ap (λ k. sourcesFit k (sourceOf file) devices) (sym same-events) ∙ sources-same (plan .core .events) devices _ _ (λ d h. sym (match-row d h .source))
+
   -- ---- if all is good in the file
 
   module _ (g : Good file) where
@@ -155,8 +163,11 @@ module _ (plan : Plan) (file : List ℕ) (m : Match plan file) where
     unfolding right
     match-right =
         simp facts (
-          (simp facts at (subst (λ (h : Header). headerFits h ≡ true) (sym (m .header)) (g .header .fits)), row-good),
-          λ d h p l. sym (match-joins few-devices device-good d h p l) ∙ g .joined d (omega (arith, same-count)) p l,
+          (
+            (simp facts at (subst (λ (h : Header). headerFits h ≡ true) (sym (m .header)) (g .header .fits)), row-good),
+            λ d h p l. sym (match-joins few-devices device-good d h p l) ∙ g .joined d (omega (arith, same-count)) p l,
+          ),
+          sym (match-sources few-devices) ∙ ap (sourcesFit (eventsIn file) (sourceOf file)) same-count ∙ g .sources,
         )
 
     -- and the file is the one that is written of it

@@ -45,12 +45,13 @@ owned plan vs is =
     let peers = subst (λ (xss : List (List ℕ)). Is (F .row) xss v) (all-as-is (plan .peers)) (parts .1 .0) in
     let long : length (plan .peers) ≡ 32 = peers .1 .0 .1 in
     record {
-      loads = field w16 2 (c .loads) _ (core .1 .1 .0);
-      role = field w8 32 (c .role) _ (core .1 .1 .1 .0);
-      ports = field w8 32 (c .ports) _ (core .1 .1 .1 .1 .0);
-      source = field w32 32 (c .source) _ (core .1 .1 .1 .1 .1 .0);
-      handler = field w32 32 (c .handler) _ (core .1 .1 .1 .1 .1 .1 .0);
-      permissions = field w8 256 (c .permissions) _ (core .1 .1 .1 .1 .1 .1 .1 .0);
+      events = core .1 .1 .0 .1;
+      loads = field w16 2 (c .loads) _ (core .1 .1 .1 .0);
+      role = field w8 32 (c .role) _ (core .1 .1 .1 .1 .0);
+      ports = field w8 32 (c .ports) _ (core .1 .1 .1 .1 .1 .0);
+      source = field w32 32 (c .source) _ (core .1 .1 .1 .1 .1 .1 .0);
+      handler = field w32 32 (c .handler) _ (core .1 .1 .1 .1 .1 .1 .1 .0);
+      permissions = field w8 256 (c .permissions) _ (core .1 .1 .1 .1 .1 .1 .1 .1 .0);
       rows = long;
       row = λ d l. row (plan .peers) (peers .0) (peers .1 .1) d (omega arith);
     }

@@ -33,7 +33,7 @@ two-loads l e = is-table 2 (at l) l 0 e (λ i h. refl)
 
 module _ (core : Core) where
   -- the block that is written of the plan
-  module _ (loads : Numbers (core .loads) 2 65536) (fits : headerFits (headerOf core) ≡ true) (s : List ℕ) (e : s ≡ blockOf (headerHoldings (headerOf core))) where
+  module _ (events : core .events < 4294967296) (loads : Numbers (core .loads) 2 65536) (fits : headerFits (headerOf core) ≡ true) (s : List ℕ) (e : s ≡ blockOf (headerHoldings (headerOf core))) where
     header-fit : Fit (headerHoldings (headerOf core))
     unfolding devicesFit masterFits
     header-fit = let f = simp facts at fits in omega (arith, loads .small 0, loads .small 1)

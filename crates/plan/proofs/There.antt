@@ -12,9 +12,9 @@ use Rattle.lists.specs.Table.{joined}
 use Rattle.lists.proofs.Tables.{length-joined}
 use Rattle.lists.proofs.Tests.{and-left}
 use Rattle.plan.specs.Block.{block}
-use Rattle.plan.specs.Fields.{loadsFit, joins}
+use Rattle.plan.specs.Fields.{loadsFit, joins, sourcesFit}
 use Rattle.plan.specs.Header.{headerIn, headerOf, headerFits}
-use Rattle.plan.specs.Refusals.{deviceBlock, countIn, masterIn}
+use Rattle.plan.specs.Refusals.{deviceBlock, countIn, masterIn, eventsIn, sourceOf}
 use Rattle.plan.specs.Reading.{Accepted}
 use Rattle.plan.specs.declared.Header.{Header}
 use Rattle.plan.specs.declared.Plan.{Plan}
@@ -27,7 +27,7 @@ use Rattle.plan.proofs.Bytes.{Bytes, bytes-append, bytes-joined}
 use Rattle.plan.proofs.Holdings.{length-made, made-bytes}
 use Rattle.plan.proofs.Runs.{run-joined, first-block, later-block}
 use Rattle.plan.proofs.Rows.{written-header, good-header, written-row, written-device, right-absent}
-use Rattle.plan.proofs.Match.{Match, is-plan, match-joins}
+use Rattle.plan.proofs.Match.{Match, is-plan, match-joins, match-sources}
 
 -- what `right` says
 pub record Right (plan : Plan) : Type 0 where
@@ -35,13 +35,14 @@ pub record Right (plan : Plan) : Type 0 where
   pub loads : loadsFit (at (plan .core .loads) 1) (at (plan .core .loads) 0) ≡ true
   pub rows : (d : ℕ) → d < 32 → rowRight (plan .core) (plan .peers) d ≡ true
   pub joined : (d : ℕ) → d < plan .core .devices → (p : ℕ) → p < 8 → joins (at (plan .core .ports)) (peerAt (plan .peers)) d p ≡ true
+  pub sources : sourcesFit (plan .core .events) (at (plan .core .source)) (plan .core .devices) ≡ true
 
 pub right-says : (plan : Plan) → right plan ≡ true → Right plan
 unfolding right
 right-says plan e =
-    let header : headerFits (headerOf (plan .core)) ≡ true = and-left _ _ (and-left _ _ e) in
+    let header : headerFits (headerOf (plan .core)) ≡ true = and-left _ _ (and-left _ _ (and-left _ _ e)) in
     let f = simp facts at e in
-    record { header = header; loads = header-says (headerOf (plan .core)) header .1; rows = f .0 .1; joined = f .1 }
+    record { header = header; loads = header-says (headerOf (plan .core)) header .1; rows = f .0 .0 .1; joined = f .0 .1; sources = f .1 }
 
 -- ---- the blocks of the file
 
@@ -87,7 +88,7 @@ module _ (plan : Plan) where
     small d = (s .role .small d, s .ports .small d, s .source .small d, s .handler .small d)
 
     header-read : headerOf (plan .core) ≡ headerIn (block (fileOf plan) 0)
-    header-read = written-header (plan .core) (s .loads) (r .header) (block (fileOf plan) 0) head-block
+    header-read = written-header (plan .core) (s .events) (s .loads) (r .header) (block (fileOf plan) 0) head-block
 
     count : plan .core .devices ≡ countIn (fileOf plan)
     count = ap (λ (h : Header). h .devices) header-read
@@ -111,9 +112,10 @@ module _ (plan : Plan) where
     good-file =
         record {
           long = rw (← count) length-file;
-          header = good-header (plan .core) (s .loads) (r .header) (block (fileOf plan) 0) head-block;
+          header = good-header (plan .core) (s .events) (s .loads) (r .header) (block (fileOf plan) 0) head-block;
           device = rw (← count, ← same-master) devices-good;
           joined = rw (← count) (λ d h p l. match-joins plan (fileOf plan) matches few devices-good d h p l ∙ r .joined d h p l);
+          sources = rw (← count) (match-sources plan (fileOf plan) matches few ∙ r .sources);
         }
 
     pub right-good : Accepted (fileOf plan) plan

@@ -5,7 +5,7 @@ use mathlib.Core.List.{List, []}
 use Prim.Native.Nat.{ℕ, min}
 use lib.ListN.{getD}
 use Rattle.lists.specs.Table.{joined}
-use Rattle.plan.specs.Fields.{devicesFit, loadsFit, portsFit, masksFit, masterIsNode}
+use Rattle.plan.specs.Fields.{devicesFit, loadsFit, portsFit, masksFit, masterIsNode, sourcesFit}
 use Rattle.plan.specs.Refusals.{first, joinTests}
 use Rattle.answers.specs.Decides.{Decides}
 use Rattle.answers.proofs.Unique.{decides-once}
@@ -58,6 +58,10 @@ module _ (n : ℕ) (ports : List ℕ) (peers : List (List ℕ)) where
 
   pub bad-block-unique : (r s : ℕ) → r ≡ found → s ≡ found → r ≡ s
   bad-block-unique r s p q = p ∙ sym q
+
+pub sources-fit-unique : (events : ℕ) (source : List ℕ) (n : ℕ) (r s : Bool)
+    → r ≡ sourcesFit events (λ d. getD source d 0) (min n 32) → s ≡ sourcesFit events (λ d. getD source d 0) (min n 32) → r ≡ s
+sources-fit-unique events source n r s p q = p ∙ sym q
 
 pub is-held-unique : (plan : Plan) (r s : Bool) → Decides (Held plan) r → Decides (Held plan) s → r ≡ s
 is-held-unique plan r s p q = decides-once r s p q

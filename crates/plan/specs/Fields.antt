@@ -99,6 +99,16 @@ deviceFits n master d s =
     && masterIsNode master d (roleIn s)
     && every 8 (entryFits n s)
 
+-- ---- sources
+
+-- of two devices with these masks: each identifier that both have is an event
+unfoldable pub shareEvents : ℕ → ℕ → ℕ → Bool
+shareEvents events a b = eqb (bitAnd (bitAnd a b) events) (bitAnd a b)
+
+-- so it is of any two of n devices: no identifier but an event has two sources
+unfoldable pub sourcesFit : ℕ → (ℕ → ℕ) → ℕ → Bool
+sourcesFit events source n = every n (λ e. every e (λ d. shareEvents events (source d) (source e)))
+
 -- ---- connections
 
 -- the number for no peer

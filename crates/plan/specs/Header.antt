@@ -20,12 +20,15 @@ routerLoadField = field 2 2
 abbrev pub nodeLoadField : Field
 nodeLoadField = field 4 2
 
+abbrev pub eventsField : Field
+eventsField = field 6 4
+
 abbrev pub masterField : Field
 masterField = field 10 1
 
 -- all of them, by place
 abbrev pub headerFields : List Field
-headerFields = kindField ∷ devicesField ∷ routerLoadField ∷ nodeLoadField ∷ masterField ∷ []
+headerFields = kindField ∷ devicesField ∷ routerLoadField ∷ nodeLoadField ∷ eventsField ∷ masterField ∷ []
 
 -- ---- what they hold: in block 0, and in a plan; the node's load stands first
 
@@ -34,25 +37,26 @@ headerIn s =
     record {
       devices = numberIn s devicesField;
       master = numberIn s masterField;
+      events = numberIn s eventsField;
       loads = numberIn s nodeLoadField ∷ numberIn s routerLoadField ∷ [];
     }
 
 abbrev pub headerOf : Core → Header
-headerOf core = record { devices = core .devices; master = core .master; loads = core .loads }
+headerOf core = record { devices = core .devices; master = core .master; events = core .events; loads = core .loads }
 
 abbrev pub noHeader : Header
-noHeader = record { devices = 0; master = 0; loads = replicate 2 0 }
+noHeader = record { devices = 0; master = 0; events = 0; loads = replicate 2 0 }
 
 -- two that say the same in each field
 abbrev pub SameHeader : Header → Header → Type 0
-SameHeader a b = (a .devices ≡ b .devices) × (a .master ≡ b .master) × (a .loads ≡ b .loads)
+SameHeader a b = (a .devices ≡ b .devices) × (a .master ≡ b .master) × (a .events ≡ b .events) × (a .loads ≡ b .loads)
 
 pub same-header : {a b : Header} → SameHeader a b → a ≡ b
-same-header e = λ i. record { devices = e .0 i; master = e .1 i; loads = e .2 i }
+same-header e = λ i. record { devices = e .0 i; master = e .1 i; events = e .2 i; loads = e .3 i }
 
 -- the number of each field, by place; a header is of kind 1
 abbrev pub headerNumbers : Header → List ℕ
-headerNumbers h = 1 ∷ h .devices ∷ getD (h .loads) 1 0 ∷ getD (h .loads) 0 0 ∷ h .master ∷ []
+headerNumbers h = 1 ∷ h .devices ∷ getD (h .loads) 1 0 ∷ getD (h .loads) 0 0 ∷ h .events ∷ h .master ∷ []
 
 -- ---- what they may hold
 
@@ -66,6 +70,7 @@ coreWith h role ports source handler permissions =
     record {
       devices = h .devices;
       master = h .master;
+      events = h .events;
       loads = h .loads;
       role = role;
       ports = ports;

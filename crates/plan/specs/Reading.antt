@@ -7,9 +7,9 @@ use lib.Dec.{eqb, ltb}
 use lib.ListN.{getD, replicate}
 use Rattle.lists.specs.Table.{table}
 use Rattle.plan.specs.Block.{block}
-use Rattle.plan.specs.Fields.{roleIn, sourceIn, handlerIn, entry, nobody}
+use Rattle.plan.specs.Fields.{roleIn, handlerIn, entry, nobody}
 use Rattle.plan.specs.Header.{headerIn, noHeader, coreWith}
-use Rattle.plan.specs.Refusals.{accepts, verdict, countIn, deviceBlock, portsOf, peerOf}
+use Rattle.plan.specs.Refusals.{accepts, verdict, countIn, deviceBlock, sourceOf, portsOf, peerOf}
 use Rattle.plan.specs.declared.Plan.{Plan}
 use Rattle.plan.specs.declared.Read.{Read}
 
@@ -28,7 +28,7 @@ planOf file =
           coreWith (headerIn (block file 0))
           (column n (λ d. roleIn (deviceBlock file d)))
           (column n (portsOf file))
-          (column n (λ d. sourceIn (deviceBlock file d)))
+          (column n (sourceOf file))
           (column n (λ d. handlerIn (deviceBlock file d)))
           (table 256 (λ q. cond (ltb (q / 8) n) (entry (deviceBlock file (q / 8)) (q % 8) 2) 0));
       peers = table 32 (λ d. table 8 (λ p. cond (ltb d n) (peerOf file d p) nobody));

@@ -6,8 +6,8 @@ use lib.Dec.{eqb, leb}
 use lib.ListN.{length}
 use Rattle.lists.specs.Table.{table, joined}
 use Rattle.plan.specs.Block.{block, numberIn, restZero, checked, kindField}
-use Rattle.plan.specs.Fields.{numberField, deviceFields, portsIn, deviceFits, peerNumber, joins}
-use Rattle.plan.specs.Header.{devicesField, masterField, headerFields, headerIn, headerFits}
+use Rattle.plan.specs.Fields.{numberField, deviceFields, portsIn, sourceIn, deviceFits, peerNumber, joins, sourcesFit}
+use Rattle.plan.specs.Header.{devicesField, masterField, eventsField, headerFields, headerIn, headerFits}
 use Rattle.plan.specs.declared.Verdict.{Verdict}
 
 -- a test: the number and the block that it is refused with, and whether the file passes
@@ -65,6 +65,12 @@ module _ (file : List ℕ) where
   abbrev pub masterIn : ℕ
   masterIn = numberIn (block file 0) masterField
 
+  abbrev pub eventsIn : ℕ
+  eventsIn = numberIn (block file 0) eventsField
+
+  abbrev pub sourceOf : ℕ → ℕ
+  sourceOf d = sourceIn (deviceBlock d)
+
   abbrev pub portsOf : ℕ → ℕ
   portsOf d = portsIn (deviceBlock d)
 
@@ -78,6 +84,7 @@ module _ (file : List ℕ) where
       ++ (test 25 0 (eqb (length file) (512 * (1 + countIn))) ∷ [])
       ++ joined countIn (λ d. deviceTests countIn masterIn d (deviceBlock d))
       ++ joined countIn (joinTests portsOf peerOf)
+      ++ (test 27 0 (sourcesFit eventsIn sourceOf countIn) ∷ [])
 
   unfoldable pub verdict : Verdict
   verdict = first tests

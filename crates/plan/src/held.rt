@@ -11,6 +11,7 @@ use crate::Core;
 use crate::Plan;
 use crate::fields;
 use crate::joins;
+use crate::sources;
 
 // Is some accepted file's plan this one?
 pub fn is_held(plan: Plan) -> bool
@@ -25,7 +26,11 @@ pub fn is_held(plan: Plan) -> bool
         return false;
     }
     let ports = core.ports;
-    joins::bad_block(core.devices, ports, peers) == 0
+    if joins::bad_block(core.devices, ports, peers) != 0 {
+        return false;
+    }
+    let source = core.source;
+    sources::sources_fit(core.events, source, core.devices)
 }
 
 // Are the numbers and the ports of all 32 devices right, those of absent ones too?

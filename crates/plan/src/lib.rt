@@ -6,6 +6,7 @@ ghost use Rattle.plan.specs.Reading.{zeros};
 mod fields;
 mod held;
 mod joins;
+mod sources;
 
 pub use fields::devices_fit;
 pub use fields::loads_fit;
@@ -14,13 +15,15 @@ pub use fields::master_is_node;
 pub use fields::ports_fit;
 pub use held::is_held;
 pub use joins::bad_block;
+pub use sources::sources_fit;
 
-// The numbers and flat arrays of a plan. The master is a node's number plus 1, or 0 for none. Loads
-// stand by role, the node's first. Permissions stand by port, 8 x device + port. Absent devices and
-// ports have 0 everywhere.
+// The numbers and flat arrays of a plan. The master is a node's number plus 1, or 0 for none. Events
+// are the identifiers that nobody acknowledges. Loads stand by role, the node's first. Permissions
+// stand by port, 8 x device + port. Absent devices and ports have 0 everywhere.
 pub struct Core {
     pub devices: usize,
     pub master: u8,
+    pub events: u32,
     pub loads: [u16; 2],
     pub role: [u8; 32],
     pub ports: [u8; 32],
@@ -33,6 +36,7 @@ pub struct Core {
 pub struct Header {
     pub devices: usize,
     pub master: u8,
+    pub events: u32,
     pub loads: [u16; 2],
 }
 
@@ -86,6 +90,7 @@ pub fn header_of(core: Core) -> Header
     Header {
         devices: core.devices,
         master: core.master,
+        events: core.events,
         loads: loads,
     }
 }
@@ -104,6 +109,7 @@ pub fn core_with(
     Core {
         devices: header.devices,
         master: header.master,
+        events: header.events,
         loads: loads,
         role: role,
         ports: ports,
@@ -120,6 +126,7 @@ pub fn blank() -> Plan
     let header = Header {
         devices: 0,
         master: 0,
+        events: 0,
         loads: [0; 2],
     };
     let core = core_with(header, [0; 32], [0; 32], [0; 32], [0; 32], [0; 256]);

@@ -9,7 +9,7 @@ use native.Mathlib.Omega.{arith}
 use lib.Dec.{ltb, leb}
 use borrow.Author.Tests.{lt-ltb, le-ltb, lt-leb, le-leb}
 use Rattle.lists.proofs.Facts.{facts}
-use Rattle.lists.proofs.Tests.{and-left, and-right, both}
+use Rattle.lists.proofs.Tests.{and-left, and-right, both, same-truth}
 use Rattle.plan.specs.Block.{byte, Field, lies, liesIn, restZero}
 use Rattle.plan.proofs.Holdings.{ascends, Ascends, ascending, in-block, before-all, or-false, rest-at, rest-all}
 use Rattle.planfile.specs.inner.Zeros.{zerosIn}
@@ -83,8 +83,3 @@ module _ (s : List ℕ) where
       same-truth (gapsZero 0 fields s) (restZero fields s)
       (λ z. rest-all fields s (λ i l. gaps-rest 0 fields o z i (omega arith) l))
       (λ z. rest-gaps 0 fields o (λ i a. rest-at fields s z i))
-    where
-      same-truth : (a b : Bool) → (a ≡ true → b ≡ true) → (b ≡ true → a ≡ true) → a ≡ b
-      same-truth true b p q = sym (p refl)
-      same-truth false true p q = q refl
-      same-truth false false p q = refl

@@ -1,4 +1,4 @@
--- The connections of a file in which nothing else is wrong are those of its plan.
+-- The connections and the sources of a file in which nothing else is wrong are those of its plan.
 use mathlib.Core.Path.{_≡_, refl, sym, ap, _∙_}
 use mathlib.Core.Bool.{Bool, true, false, cond, _&&_, _||_}
 use mathlib.Core.List.{List, []}
@@ -13,7 +13,7 @@ use Rattle.lists.specs.Table.{joined}
 use Rattle.lists.proofs.Tables.{getD-table, same-table, same-joined}
 use Rattle.lists.proofs.Tests.{and-left, and-right, or-cases}
 use Rattle.plan.specs.Fields.{entry, portsIn, peerNumber, nobody, unconnected, connected, entryFits, joins}
-use Rattle.plan.specs.Refusals.{test, joinTests, countIn, portsOf, peerOf}
+use Rattle.plan.specs.Refusals.{test, joinTests, countIn, eventsIn, sourceOf, portsOf, peerOf}
 use Rattle.plan.specs.Reading.{column, planOf}
 
 -- ---- a test of the connections asks the first n devices only
@@ -83,10 +83,18 @@ pub devices-held : (file : List ℕ) → planOf file .core .devices ≡ countIn 
 unfolding planOf
 devices-held file = refl
 
+pub events-held : (file : List ℕ) → planOf file .core .events ≡ eventsIn file
+unfolding planOf
+events-held file = refl
+
 module _ (file : List ℕ) (few : countIn file ≤ 32) (d : ℕ) (h : d < countIn file) where
   pub ports-held : portsOf file d ≡ getD (planOf file .core .ports) d 0
   unfolding planOf column
   ports-held = sym (getD-table 32 _ d 0 (omega arith) ∙ simp (lt-ltb d (countIn file) h))
+
+  pub source-held : sourceOf file d ≡ getD (planOf file .core .source) d 0
+  unfolding planOf column
+  source-held = sym (getD-table 32 _ d 0 (omega arith) ∙ simp (lt-ltb d (countIn file) h))
 
   pub peer-held : (p : ℕ) → p < 8 → peerOf file d p ≡ getD (getD (planOf file .peers) d []) p 0
   unfolding planOf

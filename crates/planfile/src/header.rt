@@ -5,18 +5,18 @@ ghost use lib.ListN.{length};
 ghost use Rattle.plan.specs.Block.{restZero};
 ghost use Rattle.plan.specs.Header.{headerFields, headerIn, SameHeader, headerFits};
 ghost use Rattle.plan.specs.Refusals.{first, headerTests};
-ghost use Rattle.plan.specs.inner.File.{blockOf, headerHoldings};
+ghost use Rattle.plan.specs.inner.File.{filled, blockOf, headerHoldings};
 use crate::block;
 use plan::Header;
 
-// Where its fields stand, where those at the front end, and where the last one ends.
+// Where its fields stand, and where the last one ends.
 pub(crate) const DEVICES: usize = 1;
 
 const ROUTER_LOAD: usize = 2;
 
 const NODE_LOAD: usize = 4;
 
-const FRONT_END: usize = 6;
+const EVENTS: usize = 6;
 
 pub(crate) const MASTER: usize = 10;
 
@@ -32,6 +32,7 @@ pub(crate) fn read(block: &[u8]) -> Header
     Header {
         devices: devices,
         master: block[MASTER],
+        events: block::four(block, EVENTS),
         loads: [node as u16, router as u16],
     }
 }
@@ -48,9 +49,6 @@ fn rest_zero(block: &[u8]) -> bool
     requires { ⌜ length (now block) ≡ 512 ⌝ }
     ensures { λ r. ⌜ r ≡ restZero headerFields (now (block .entry)) ⌝ }
 {
-    if !block::zeros(FRONT_END, MASTER, block) {
-        return false;
-    }
     block::zeros(END, block::CHECK, block)
 }
 
@@ -74,18 +72,27 @@ pub(crate) fn refusal(block: &[u8]) -> u32
     0
 }
 
-pub(crate) fn put(header: Header, block: &mut [u8])
+// Puts the numbers that it holds.
+fn put_fields(header: Header, block: &mut [u8])
     requires { ⌜ (header .devices ≤ 32) × (length (now block) ≡ 512) ⌝ }
-    ensures { λ _. ⌜ now (block .exit) ≡ blockOf (headerHoldings header) ⌝ }
+    ensures { λ _. ⌜ now (block .exit) ≡ filled (now (block .entry)) (headerHoldings header) ⌝ }
 {
     let loads = header.loads;
     let router = loads[1] as u32;
     let node = loads[0] as u32;
-    block::clear(block);
     block::put(block, block::KIND, 1, 1);
     block::put(block, DEVICES, 1, header.devices as u32);
     block::put(block, ROUTER_LOAD, 2, router);
     block::put(block, NODE_LOAD, 2, node);
+    block::put(block, EVENTS, 4, header.events);
     block::put(block, MASTER, 1, header.master as u32);
+}
+
+pub(crate) fn put(header: Header, block: &mut [u8])
+    requires { ⌜ (header .devices ≤ 32) × (length (now block) ≡ 512) ⌝ }
+    ensures { λ _. ⌜ now (block .exit) ≡ blockOf (headerHoldings header) ⌝ }
+{
+    block::clear(block);
+    put_fields(header, block);
     block::seal(block);
 }

@@ -3,7 +3,7 @@ ghost use mathlib.Core.Path.{_≡_};
 ghost use Prim.Native.Nat.{_+_, _*_, _≤_};
 ghost use lib.ListN.{length};
 ghost use Rattle.plan.specs.Refusals.{lengthFits, countIn};
-ghost use Rattle.plan.specs.Reading.{reads};
+ghost use Rattle.plan.specs.Reading.{zeros, reads};
 ghost use Rattle.planfile.specs.inner.Scan.{refusalIn, scanned, deviceScan};
 use crate::block;
 use crate::build;
@@ -87,7 +87,7 @@ fn scan_devices(file: &[u8], n: usize) -> Verdict
     Verdict { number: 0, at: 0 }
 }
 
-// The first refusal of all but the connections, which are searched in the plan.
+// The first refusal of all but the connections and the sources, which are searched in the plan.
 fn scan(file: &[u8]) -> Verdict
     ensures { λ r. ⌜ r ≡ scanned (now (file .entry)) ⌝ }
 {
@@ -108,30 +108,37 @@ fn scan(file: &[u8]) -> Verdict
     scan_devices(file, n)
 }
 
+// What a file is refused with, beside the plan of zeros.
+fn refused(number: u32, block: u32) -> Read
+    ensures { λ r. ⌜ r ≡ record { number = number; block = block; plan = zeros } ⌝ }
+{
+    let plan = plan::blank();
+    Read {
+        number: number,
+        block: block,
+        plan: plan,
+    }
+}
+
 // Reads a plan file, of any length and any bytes.
 pub fn read(file: &[u8]) -> Read
     ensures { λ r. ⌜ r ≡ reads (now (file .entry)) ⌝ }
 {
     let verdict = scan(file);
     if verdict.number != 0 {
-        let plan = plan::blank();
-        return Read {
-            number: verdict.number,
-            block: verdict.at,
-            plan: plan,
-        };
+        return refused(verdict.number, verdict.at);
     }
     let core = build::core_of(file);
     let peers = build::peers_of(file);
     let ports = core.ports;
     let bad = plan::bad_block(core.devices, ports, peers);
+    let source = core.source;
+    let fits = plan::sources_fit(core.events, source, core.devices);
     if bad != 0 {
-        let plan = plan::blank();
-        return Read {
-            number: 26,
-            block: bad,
-            plan: plan,
-        };
+        return refused(26, bad);
+    }
+    if !fits {
+        return refused(27, 0);
     }
     let plan = plan::whole(core, peers);
     Read {

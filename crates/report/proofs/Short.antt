@@ -1,5 +1,5 @@
 -- How long lines are, and the lines of one place more.
-use mathlib.Core.Path.{_≡_, subst}
+use mathlib.Core.Path.{_≡_, refl, subst}
 use mathlib.Core.Logic.{inl, inr}
 use mathlib.Core.List.{List, [], _++_, append-nil}
 use Prim.Native.Nat.{ℕ, _+_, _/_, _%_, _≤_, _<_}
@@ -9,6 +9,7 @@ use lib.ListN.{length, length-append}
 use Rattle.areas.specs.Put.{Puts}
 use Rattle.areas.proofs.Puts.{joined, same-size, next-place}
 use Rattle.bits.specs.Set.{bit}
+use Rattle.device.specs.Reaction.{isUsed}
 use Rattle.plan.specs.Reading.{Held}
 use Rattle.plan.specs.declared.Plan.{Plan}
 use Rattle.plan.proofs.BothWays.{held-devices}
@@ -22,17 +23,19 @@ use Rattle.report.specs.Report.{field, line, none, pass, more}
 use Rattle.report.specs.inner.Pieces.{longestLine, longestLines, PutsPlace, PutsLines}
 use Rattle.report.proofs.Parts.{puts-nothing, field-refused}
 
--- no request is refused by a number above 9
+-- no request is refused by a number above 9: 13 is for acknowledges
 number-few : (plan : Plan) (d k : ℕ) {n : ℕ} → Answered plan d k n → n ≤ 9
+unfolding isUsed
 number-few plan d k (inl p) = omega (arith, p .1)
 number-few plan d k (inr (_, inl p)) = omega (arith, p .1)
 number-few plan d k (inr (_, inr (_, inl p))) = omega (arith, p .1)
 number-few plan d k (inr (_, inr (_, inr (_, inl p)))) = omega (arith, p .1)
 number-few plan d k (inr (_, inr (_, inr (_, inr (_, inl p))))) = omega (arith, p .1)
-number-few plan d k (inr (_, inr (_, inr (_, inr (_, inr (_, inl p)))))) = omega (arith, p .1)
+number-few plan d k (inr (_, inr (_, inr (_, inr (_, inr (_, inl p)))))) = absurd (p .0 refl)
 number-few plan d k (inr (_, inr (_, inr (_, inr (_, inr (_, inr (_, inl p))))))) = omega (arith, p .1)
 number-few plan d k (inr (_, inr (_, inr (_, inr (_, inr (_, inr (_, inr (_, inl p)))))))) = omega (arith, p .1)
-number-few plan d k (inr (_, inr (_, inr (_, inr (_, inr (_, inr (_, inr (_, inr p)))))))) = omega (arith, p .1)
+number-few plan d k (inr (_, inr (_, inr (_, inr (_, inr (_, inr (_, inr (_, inr (_, inl p))))))))) = omega (arith, p .1)
+number-few plan d k (inr (_, inr (_, inr (_, inr (_, inr (_, inr (_, inr (_, inr (_, inr p))))))))) = omega (arith, p .1)
 
 module _ (plan : Plan) (held : Held plan) (d k : ℕ) where
   field-short : {number n count : ℕ} → Tries plan d k number n count → (length (field number n) ≤ 4) × (count ≤ 32)

@@ -118,3 +118,13 @@ module _ (plan : Plan) (held : Held plan) where
         | yes e ↦ rw e (omega (arith, small 0))
         | no ne ↦ let e : role plan d ≡ 1 = omega (arith, device-says d h .0) in rw e (omega (arith, small 1))
       ]
+
+  -- no device loads it with more than a node does
+  pub load-most : (d e k : ℕ) → d < devices plan → role plan e ≡ 0 → loadOf plan d k ≤ loadOf plan e k
+  unfolding loadFor loadsFit
+  load-most d e k h node =
+      let loads = simp facts at (says .loads) in
+      elim (ℕ-discrete (role plan d) 0) [
+        | yes z ↦ rw (z, node) (omega arith)
+        | no ne ↦ let z : role plan d ≡ 1 = omega (arith, device-says d h .0) in rw (z, node) (omega arith)
+      ]

@@ -44,5 +44,9 @@ module _ (plan : Plan) where
   abbrev pub handler : ℕ → ℕ
   handler d = getD (plan .core .handler) d 0
 
+  -- the identifiers that nobody acknowledges
+  abbrev pub events : ℕ
+  events = plan .core .events
+
   abbrev pub loadOf : ℕ → ℕ → ℕ
   loadOf d k = loadFor (plan .core .loads) (role d) k

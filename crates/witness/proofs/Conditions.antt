@@ -13,6 +13,7 @@ use Rattle.lists.specs.Table.{every}
 use Rattle.lists.proofs.Tests.{both, every-at}
 use Rattle.bits.specs.Set.{bit}
 use Rattle.device.specs.Permissions.{maySend, mayReceive}
+use Rattle.device.specs.Reaction.{isUsed}
 use Rattle.state.specs.State.{State, register, timer, waiting, next, running, lately}
 use Rattle.plan.specs.Fields.{nobody}
 use Rattle.plan.specs.Reading.{Held}
@@ -48,8 +49,9 @@ module _ (plan : Plan) (held : Held plan) (here : 0 < devices plan) where
   module _ (own : every 32 (λ j. eqb (bit (source plan 0) j) 1) ≡ true) (joined : peer plan 0 < nobody) (may : maySend 0 (permissions plan 0) ≡ true) where
     -- a request for j by its host is taken
     asked : (j : ℕ) (s : State) → Sound plan s → j < 32 → running s 0 ≡ 1 → bit (register s 0) j ≡ 0 → Ordered (callAsks plan 0 0 j s) 0
+    unfolding isUsed
     asked j s x l runs unset =
-        call-taken plan held 0 0 j 0 s x here l (eqb-true (bit (source plan 0) j) 1 (every-at 32 (λ j. eqb (bit (source plan 0) j) 1) own j l)) (omega arith) runs may unset
+        call-taken plan held 0 0 j 0 s x here l (eqb-true (bit (source plan 0) j) 1 (every-at 32 (λ j. eqb (bit (source plan 0) j) 1) own j l)) refl (omega arith) runs may unset
 
     runs-first : running (busy plan) 0 ≡ 1
     runs-first = busy-runs plan held here 0 (omega arith) joined
@@ -113,12 +115,12 @@ module _ (plan : Plan) (held : Held plan) (here : 0 < devices plan) where
         let old = busy-turn plan held here in
         (two .turns 0 ∙ one .turns 0 ∙ old .0, took-late two 0 ∙ took-late one 0 ∙ old .1)
 
-    ticks-on : plan .core .master ≡ 1 → (n : ℕ) → Course plan 31 n (called plan 0 0 31 (busy plan)) (course plan)
+    pub ticks-on : plan .core .master ≡ 1 → (n : ℕ) → Course plan 31 n (called plan 0 0 31 (busy plan)) (course plan)
     unfolding course
     ticks-on master = ticked plan held 0 0 here master (omega arith) 31 then-30 full-sound full-runs
 
     -- a round before the end of a crossing 31 waits on at that port, and nobody else holds it
-    slowly : router plan 0 ≡ false → every 7 (λ p. eqb (peer plan (suc p)) nobody) ≡ true → 65 ≤ loadOf plan 0 31 → (e : ℕ) → e < devices plan → e ≢ 0
+    pub slowly : router plan 0 ≡ false → every 7 (λ p. eqb (peer plan (suc p)) nobody) ≡ true → 65 ≤ loadOf plan 0 31 → (e : ℕ) → e < devices plan → e ≢ 0
         → (bit (waiting (course plan (crossing - 1)) 0 0) 31 ≡ 1) × (bit (register (course plan (crossing - 1)) e) 31 ≡ 0)
     unfolding course
     slowly node single loads e h ne =
@@ -152,7 +154,7 @@ module _ (plan : Plan) (held : Held plan) (here : 0 < devices plan) where
 
     -- all that is asked
 
-    meets : plan .core .master ≡ 1 → (D : ℕ) → Farthest plan (busy plan) 0 31 0 D → ((e : ℕ) → e < devices plan → window D < loadOf plan e 31) → Given plan 31 0 D (busy plan) (course plan)
+    pub meets : plan .core .master ≡ 1 → (D : ℕ) → Farthest plan (busy plan) 0 31 0 D → ((e : ℕ) → e < devices plan → window D < loadOf plan e 31) → Given plan 31 0 D (busy plan) (course plan)
     meets master D farthest loads =
         record {
           held = held;

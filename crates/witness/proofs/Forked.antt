@@ -17,8 +17,8 @@ use Rattle.bits.specs.First.{searched, firstFrom, following}
 use Rattle.bits.proofs.Sets.{bit-two}
 use Rattle.codes.specs.Codes.{reads}
 use Rattle.device.specs.Permissions.{maySend, mayReceive}
-use Rattle.device.specs.Reaction.{marked, ruled, counted, reactsTo, reacts}
-use Rattle.plan.specs.Fields.{nobody, devicesFit, loadsFit, masterFits, portsFit, masksFit, masterIsNode, joins}
+use Rattle.device.specs.Reaction.{marked, isUsed, ruled, counted, reactsTo, reacts}
+use Rattle.plan.specs.Fields.{nobody, devicesFit, loadsFit, masterFits, portsFit, masksFit, masterIsNode, joins, sourcesFit, shareEvents}
 use Rattle.plan.specs.Reading.{Held}
 use Rattle.plan.specs.inner.Memory.{portRight, deviceRight, rowRight, right}
 use Rattle.plan.specs.declared.Plan.{Plan}
@@ -46,7 +46,7 @@ use Rattle.assurance.proofs.Cycle.{sooner, lost-back, one-cycle}
 use Rattle.witness.specs.Fork.{fork, asking, answering, left, Unasked}
 
 fork-held : (joined : Bool) → Held (fork joined)
-unfolding fork right rowRight deviceRight portRight every devicesFit loadsFit masterFits portsFit masksFit masterIsNode joins
+unfolding fork right rowRight deviceRight portRight every devicesFit loadsFit masterFits portsFit masksFit masterIsNode joins sourcesFit shareEvents
 fork-held true = tested-held (fork true) refl refl
 fork-held false = tested-held (fork false) refl refl
 
@@ -122,7 +122,7 @@ module _ (both : Bool) where
   long e h = ltb-true (window 1 + 0 + window 1) (loadOf plan e 31) (every-at 3 (λ e. ltb (window 1 + 0 + window 1) (loadOf plan e 31)) refl e h)
 
   request : Given plan 31 0 1 first (asking both)
-  unfolding fork bit asking
+  unfolding fork bit isUsed asking
   request =
       let rests = start-rests plan held 31 in
       let way : Leads plan first 0 31 0 1 = leads 0 0 8 (omega arith) (omega arith) refl (omega arith) (omega arith) in
@@ -131,7 +131,7 @@ module _ (both : Bool) where
         sound = rests .sound;
         unset = rests .unset;
         idle = rests .idle;
-        taken = call-taken plan held 0 0 31 0 first (rests .sound) (omega arith) (omega arith) refl (omega arith) (way .runs) (way .sends) (rests .unset 0 (omega arith));
+        taken = call-taken plan held 0 0 31 0 first (rests .sound) (omega arith) (omega arith) refl refl (omega arith) (way .runs) (way .sends) (rests .unset 0 (omega arith));
         farthest = far;
         course = played none (window 1);
         loads = λ e h. omega (arith, long e h);
@@ -144,6 +144,7 @@ module _ (both : Bool) where
       record {
         request = request;
         permits = permits;
+        no-event = refl;
         between = λ t a b. on plan 31 _ t;
         handles = refl;
         was-reached = (1, to-handler);
@@ -211,7 +212,7 @@ still-holds t h =
 
 -- computed, with no waiting: node 1 acknowledges when all hold 31, after a round, and a round later router 2 alone does
 pub is-left : left (answering false 1 1) ≡ true
-unfolding asking answering fork counted firstWaits goes timeGoes stamped every upTo table joined bit join leave searched firstFrom following reads maySend mayReceive marked ruled reactsTo reacts word put stateOf loadFor queueAt queueAllAt called mark fall chosen sentWord sends unqueued timed forwarded tells acted arrived fallen sentBytes posted arrives reached round
+unfolding asking answering fork counted firstWaits goes timeGoes stamped every upTo table joined bit join leave searched firstFrom following reads maySend mayReceive marked isUsed ruled reactsTo reacts word put stateOf loadFor queueAt queueAllAt called mark fall chosen sentWord sends unqueued timed forwarded tells acted arrived fallen sentBytes posted arrives reached round
 is-left = refl
 
 pub is-needed : Unasked → ⊥

@@ -5,3 +5,4 @@ pub mod Late
 pub mod Copied
 pub mod Forked
 pub mod OnTime
+pub mod Fading

@@ -25,6 +25,7 @@ fork joined =
           record {
             devices = 3;
             master = 0;
+            events = 0;
             loads = 400 ∷ 400 ∷ [];
             role = 0 ∷ 0 ∷ 1 ∷ replicate 29 0;
             ports = 2 ∷ cond joined 2 1 ∷ 2 ∷ replicate 29 0;

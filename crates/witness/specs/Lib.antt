@@ -3,3 +3,4 @@ pub mod Rate
 pub mod Copying
 pub mod Fork
 pub mod TimeRate
+pub mod FadeRate

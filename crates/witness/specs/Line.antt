@@ -1,4 +1,4 @@
--- No rules: two plans, states and courses for which the demands are worked out.
+-- No rules: three plans, states and courses for which the demands are worked out.
 use mathlib.Core.List.{[], _∷_, _++_}
 use Prim.Native.Nat.{ℕ, _-_, _^_}
 use lib.ListN.{replicate}
@@ -19,6 +19,7 @@ line =
           record {
             devices = 3;
             master = 1;
+            events = 0;
             loads = 400 ∷ 300 ∷ [];
             role = 0 ∷ 1 ∷ replicate 30 0;
             ports = 1 ∷ 2 ∷ 1 ∷ replicate 29 0;
@@ -41,12 +42,32 @@ deaf =
           record {
             devices = 2;
             master = 1;
+            events = 0;
             loads = 400 ∷ 300 ∷ [];
             role = 0 ∷ 1 ∷ replicate 30 0;
             ports = 1 ∷ 1 ∷ replicate 30 0;
             source = (2 ^ 32 - 1) ∷ replicate 31 0;
             handler = replicate 32 0;
             permissions = (15 ∷ replicate 7 0) ++ (13 ∷ replicate 247 0);
+          };
+      peers = (8 ∷ replicate 7 nobody) ∷ (0 ∷ replicate 7 nobody) ∷ replicate 30 (replicate 8 nobody);
+    }
+
+-- node 0, source of every identifier and master, at node 1; all identifiers are events
+unfoldable pub pair : Plan
+pair =
+    record {
+      core =
+          record {
+            devices = 2;
+            master = 1;
+            events = 2 ^ 32 - 1;
+            loads = 400 ∷ 300 ∷ [];
+            role = replicate 32 0;
+            ports = 1 ∷ 1 ∷ replicate 30 0;
+            source = (2 ^ 32 - 1) ∷ replicate 31 0;
+            handler = replicate 32 0;
+            permissions = (15 ∷ replicate 7 0) ++ (15 ∷ replicate 247 0);
           };
       peers = (8 ∷ replicate 7 nobody) ∷ (0 ∷ replicate 7 nobody) ∷ replicate 30 (replicate 8 nobody);
     }

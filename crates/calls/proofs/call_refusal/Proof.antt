@@ -1,9 +1,11 @@
--- `calls::call_refusal` meets its contract: what every call asks, then the mask, then the state of the device. Assumes nothing.
+-- `calls::call_refusal` meets its contract: what every call asks, then the mask, the profile, and the state of the device. Assumes nothing.
+use mathlib.Core.Path.{sym, _∙_}
 use lib.ListN.{drop}
+use borrow.Author.Tests.{not-true, not-false}
 use denote.Ref.{now}
 use Rattle.answers.proofs.Outcomes.{Holds}
 use Rattle.calls.specs.Calls.{deviceAsks, callAsks}
-use Rattle.calls.proofs.Asked.{asked, ready, call-stopped, call-foreign, call-answered}
+use Rattle.calls.proofs.Asked.{asked, ready, call-stopped, call-foreign, call-unused, call-answered}
 use borrow.Author.Needs.{needs}
 use Rattle.calls.proofs.call_refusal.Statement.{statement}
 use Rattle.calls.proofs.call_refusal.Tie as tie
@@ -33,7 +35,16 @@ returns-2 : tie.Need-returns-2
 returns-2 c = call-foreign _ _ _ _ _ (first (c .before .before .before .before .before .before)) (c .before .before .owned .ensures) (c .before .own-refusal .ensures) (c .if2 .taken)
 
 returns-3 : tie.Need-returns-3
-returns-3 c = call-answered _ _ _ _ _ (first (c .before .before .before .before .before .before .before .before .before)) (c .before .before .before .before .before .owned .ensures) (c .before .before .before .before .own-refusal .ensures) (c .before .before .before .if2 .left) (c .send-refusal .ensures)
+returns-3 c =
+    let o = c .before .before .before in
+    call-unused _ _ _ _ _ (first (o .before .before .before .before .before)) (o .before .owned .ensures) (o .own-refusal .ensures) (c .before .before .if2 .left) (sym (c .before .is-used .ensures) ∙ not-true _ (c .if3 .taken))
+
+returns-4 : tie.Need-returns-4
+returns-4 c =
+    let u = c .before .before .before in
+    let o = u .before .before .before in
+    call-answered _ _ _ _ _ (first (o .before .before .before .before .before)) (o .before .owned .ensures) (o .own-refusal .ensures) (u .before .before .if2 .left)
+    (sym (u .before .is-used .ensures) ∙ not-false _ (u .if3 .left)) (c .send-refusal .ensures)
 
 refusal-requires : tie.Need-refusal-requires
 refusal-requires c κs = search needs
@@ -43,6 +54,9 @@ owned-requires c κs = search needs
 
 own-refusal-requires : tie.Need-own-refusal-requires
 own-refusal-requires c κs = search needs
+
+is-used-requires : tie.Need-is-used-requires
+is-used-requires c κs = search needs
 
 send-refusal-requires : tie.Need-send-refusal-requires
 send-refusal-requires c κs = search needs
@@ -60,5 +74,7 @@ call-refusal-spec =
     owned-requires
     own-refusal-requires
     returns-2
+    is-used-requires
+    returns-3
     send-refusal-requires
-    returns-3)
+    returns-4)

@@ -1,33 +1,58 @@
-use mathlib.Core.Path.{sym, _∙_}
+use mathlib.Core.Path.{_≡_, sym, _∙_}
+use mathlib.Core.Bool.{true}
 use borrow.Author.Tests.{not-true, not-false}
-use Rattle.device.proofs.Rule.{Accepts, stopped, forbidden, opposite, taken}
+use Rattle.device.specs.Permissions.{mayReceive}
+use Rattle.device.specs.Reaction.{isUsed}
+use Rattle.device.proofs.Rule.{Accepts, stopped, forbidden, unused, opposite, taken}
 use borrow.Author.Needs.{needs}
 use Rattle.device.proofs.ruled.Statement.{statement}
 use Rattle.device.proofs.ruled.Tie as tie
+
+-- what is known behind each test
+runs : (c : tie.Else1) → c .before .before .args .side .running ≡ true
+runs c = not-false _ (c .if1 .left)
+
+may : (c : tie.Else2) → let a = c .before .before .before .before .args in mayReceive (a .kind) (a .side .permissions) ≡ true
+may c = sym (c .before .may-receive .ensures) ∙ not-false _ (c .if2 .left)
+
+used : (c : tie.Else3) → let a = c .before .before .before .before .before .before .args in isUsed (a .side .events) (a .kind) (a .k) ≡ true
+used c = sym (c .before .is-used .ensures) ∙ not-false _ (c .if3 .left)
+
+-- all four tests were passed
+accepts : (c : tie.Else4) → let a = c .before .before .before .before .before .before .before .before .args in Accepts (a .side) (a .register) (a .kind) (a .k)
+accepts c =
+    record {
+      runs = runs (c .before .before .before .before .before .before);
+      may = may (c .before .before .before .before);
+      used = used (c .before .before);
+      stood = sym (c .before .get .ensures) ∙ c .if4 .left;
+    }
 
 returns : tie.Need-returns
 returns c = c .outcome .ensures ∙ stopped _ _ _ _ _ _ (not-true _ (c .before .if1 .taken))
 
 returns-2 : tie.Need-returns-2
-returns-2 c = c .outcome2 .ensures ∙ forbidden _ _ _ _ _ _ (not-false _ (c .before .before .before .if1 .left)) (sym (c .before .before .may-receive .ensures) ∙ not-true _ (c .before .if2 .taken))
+returns-2 c = c .outcome2 .ensures ∙ forbidden _ _ _ _ _ _ (runs (c .before .before .before)) (sym (c .before .before .may-receive .ensures) ∙ not-true _ (c .before .if2 .taken))
 
 returns-3 : tie.Need-returns-3
-returns-3 c = c .outcome3 .ensures ∙ opposite _ _ _ _ _ _ (not-false _ (c .before .before .before .before .before .if1 .left)) (sym (c .before .before .before .before .may-receive .ensures) ∙ not-false _ (c .before .before .before .if2 .left)) (λ e. c .before .if3 .taken (c .before .before .get .ensures ∙ e))
-
--- all three tests were passed
-accepts : (c : tie.After-marked) → let a = c .before .before .before .before .before .before .before .args in Accepts (a .side) (a .register) (a .kind) (a .k)
-accepts c =
-    record {
-      runs = not-false _ (c .before .before .before .before .before .if1 .left);
-      may = sym (c .before .before .before .before .may-receive .ensures) ∙ not-false _ (c .before .before .before .if2 .left);
-      stood = sym (c .before .before .get .ensures) ∙ c .before .if3 .left;
-    }
+returns-3 c =
+    let m = c .before .before .before in
+    c .outcome3 .ensures ∙ unused _ _ _ _ _ _ (runs (m .before .before)) (may m) (sym (c .before .before .is-used .ensures) ∙ not-true _ (c .before .if3 .taken))
 
 returns-4 : tie.Need-returns-4
-returns-4 c = c .outcome4 .ensures ∙ taken _ _ _ _ _ _ _ _ (accepts (c .before .before)) (c .before .before .marked .ensures) (c .before .passed-on .ensures)
+returns-4 c =
+    let u = c .before .before .before in
+    c .outcome4 .ensures
+    ∙ opposite _ _ _ _ _ _ (runs (u .before .before .before .before)) (may (u .before .before)) (used u) (λ e. c .before .if4 .taken (c .before .before .get .ensures ∙ e))
+
+returns-5 : tie.Need-returns-5
+returns-5 c = c .outcome5 .ensures ∙ taken _ _ _ _ _ _ _ _ (accepts (c .before .before .before)) (c .before .before .marked .ensures) (c .before .passed-on .ensures)
 
 may-receive-requires : tie.Need-may-receive-requires
 may-receive-requires c κs = search needs
+
+is-used-requires : tie.Need-is-used-requires
+is-used-requires c κs = search needs
 
 get-requires : tie.Need-get-requires
 get-requires c κs = search needs
@@ -44,11 +69,14 @@ outcome-requires-2 c κs = search needs
 outcome-requires-3 : tie.Need-outcome-requires-3
 outcome-requires-3 c κs = search needs
 
+outcome-requires-4 : tie.Need-outcome-requires-4
+outcome-requires-4 c κs = search needs
+
 passed-on-requires : tie.Need-passed-on-requires
 passed-on-requires c κs = search needs
 
-outcome-requires-4 : tie.Need-outcome-requires-4
-outcome-requires-4 c κs = search needs
+outcome-requires-5 : tie.Need-outcome-requires-5
+outcome-requires-5 c κs = search needs
 
 pub ruled-spec : {M : Type 1} → statement M
 ruled-spec =
@@ -59,10 +87,13 @@ ruled-spec =
     may-receive-requires
     outcome-requires-2
     returns-2
-    get-requires
+    is-used-requires
     outcome-requires-3
     returns-3
+    get-requires
+    outcome-requires-4
+    returns-4
     marked-requires
     passed-on-requires
-    outcome-requires-4
-    returns-4)
+    outcome-requires-5
+    returns-5)

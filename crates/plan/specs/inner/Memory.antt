@@ -6,7 +6,7 @@ use Prim.Native.Nat.{ℕ, _+_, _*_}
 use lib.Dec.{eqb, ltb, leb}
 use lib.ListN.{getD}
 use Rattle.lists.specs.Table.{every}
-use Rattle.plan.specs.Fields.{portsFit, masksFit, masterIsNode, nobody, joins}
+use Rattle.plan.specs.Fields.{portsFit, masksFit, masterIsNode, nobody, joins, sourcesFit}
 use Rattle.plan.specs.Header.{headerOf, headerFits}
 use Rattle.plan.specs.declared.Core.{Core}
 use Rattle.plan.specs.declared.Plan.{Plan}
@@ -42,3 +42,4 @@ right plan =
     headerFits (headerOf (plan .core))
     && every 32 (rowRight (plan .core) (plan .peers))
     && every (plan .core .devices) (λ d. every 8 (joins (at (plan .core .ports)) (peerAt (plan .peers)) d))
+    && sourcesFit (plan .core .events) (at (plan .core .source)) (plan .core .devices)

@@ -53,7 +53,7 @@ module _ {plan : Plan} {sent : List ℕ} {size : ℕ} {x : Seen} {q : ℕ} {y : 
 
 -- port q is one of device d
 module _ (plan : Plan) (sent : List ℕ) (q d byte : ℕ) (device : q / 8 ≡ d) (e : byte ≡ getD sent (getD (getD (plan .peers) d []) (q % 8) 0) nothing) where
-  here-byte : byte < nothing → (w : World) → arrives plan sent q w ≡ arrived (loadOf plan d) (plan .core .permissions) q (router plan d) byte w
+  here-byte : byte < nothing → (w : World) → arrives plan sent q w ≡ arrived (loadOf plan d) (plan .core .permissions) q (router plan d) (plan .core .events) byte w
   here-byte h w = rw (← device) (arrives-byte plan sent q byte (rw device e) w h)
 
   here-nothing : nothing ≤ byte → (w : World) → arrives plan sent q w ≡ w
@@ -128,8 +128,8 @@ loop2-again c =
           (λ w. again u (omega (arith, l .loop2 .inv .3))
           (lands (w .11) (w .12) (w .13) (leads (λ told. here-byte _ _ _ _ _ device byte (w .0 .taken) _) (w .6 .ensures .0)))
           (omega (arith, w .13, w .6 .ensures .1))
-          (ap length (w .11) ∙ w .6 .kept .1 .1 .1 .1 .1 .0)
-          (ap length (w .12) ∙ w .6 .kept .1 .1 .1 .1 .1 .1 .0))
+          (ap length (w .11) ∙ w .6 .kept .1 .1 .1 .1 .1 .1 .0)
+          (ap length (w .12) ∙ w .6 .kept .1 .1 .1 .1 .1 .1 .1 .0))
           (λ w. again u (omega (arith, l .loop2 .inv .3)) (lands (w .1) (w .2) (w .3) (silent (λ told. here-nothing _ _ _ _ _ device byte (w .0 .left) _))) (omega (arith, w .3)) (ap length (w .1)) (ap length (w .2)))
           (c .if1 .came),
       omega arith,

@@ -20,7 +20,7 @@ unfolding word put
 returns c =
     let b = c .before .before .before .before .before .before .before in
     let a = b .before .before .before .before .before .before .before .before .args in (
-      leads (λ told. arrived-acts _ (a .permissions .now) (a .q) (a .state .now) (eqb (a .role) 1) (a .byte) (b .react .result) told
+      leads (λ told. arrived-acts _ (a .permissions .now) (a .q) (a .state .now) (eqb (a .role) 1) (a .events) (a .byte) (b .react .result) told
           (rw (b .before .before .before .word .ensures .0) at (b .react .ensures))) (c .before .before .before .before .act .ensures .0),
       c .before .before .before .before .act .ensures .1,
     )

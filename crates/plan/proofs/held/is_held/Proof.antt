@@ -6,9 +6,9 @@ use Prim.Native.Nat.{ℕ, min, _≤_}
 use native.Mathlib.Omega.{arith}
 use lib.Dec.{eqb}
 use borrow.Author.Needs.{needs}
-use borrow.Author.Tests.{not-true, not-false}
+use borrow.Author.Tests.{not-true, not-false, eq-eqb, ne-eqb}
 use Rattle.lists.specs.Table.{every}
-use Rattle.plan.specs.Fields.{joins}
+use Rattle.plan.specs.Fields.{joins, sourcesFit}
 use Rattle.plan.specs.Header.{headerOf, headerFits}
 use Rattle.plan.specs.inner.Memory.{at, peerAt, rowRight, right}
 use Rattle.answers.specs.Decides.{Decides}
@@ -26,21 +26,25 @@ module _ (plan : Plan) where
   abbrev n : ℕ
   n = plan .core .devices
 
-  -- the last two tests
+  -- the last three tests
   abbrev rowsRight : Bool
   rowsRight = every 32 (rowRight (plan .core) (plan .peers))
 
   abbrev allJoin : Bool
   allJoin = every n (λ d. every 8 (joins (at (plan .core .ports)) (peerAt (plan .peers)) d))
 
+  abbrev allSources : Bool
+  allSources = sourcesFit (plan .core .events) (at (plan .core .source)) n
+
   few : headerFits (headerOf (plan .core)) ≡ true → n ≤ 32
   few e = devices-fit n (header-says (headerOf (plan .core)) e .0) .1
 
-  -- by the answers to the three tests; those after one that fails do not matter
-  decided : Shaped plan → (a b c : Bool) → headerFits (headerOf (plan .core)) ≡ a → rowsRight ≡ b → allJoin ≡ c → Decides (Held plan) (a && b && c)
+  -- by the answers to the four tests; those after one that fails do not matter
+  decided : Shaped plan → (a b c d : Bool) → headerFits (headerOf (plan .core)) ≡ a → rowsRight ≡ b → allJoin ≡ c → allSources ≡ d
+      → Decides (Held plan) (a && b && c && d)
   unfolding right
-  decided s a b c p q r =
-      let e : (a && b && c) ≡ right plan = sym (ap₂ (λ x y. x && y) (ap₂ (λ x y. x && y) p q) r) in
+  decided s a b c d p q r t =
+      let e : (a && b && c && d) ≡ right plan = sym (ap₂ (λ x y. x && y) (ap₂ (λ x y. x && y) (ap₂ (λ x y. x && y) p q) r) t) in
       record { only = λ f. right-held plan s (sym e ∙ f); all = λ h. e ∙ held-right plan h }
 
   -- by the block that is found, among the plan's peers or others that are equal
@@ -50,6 +54,11 @@ module _ (plan : Plan) where
       let m : min n 32 ≡ n = omega (arith, few f) in
       rw (b, e, m) (sym (block-every (at (plan .core .ports)) (peerAt (plan .peers)) n))
 
+  -- by what is found of the sources
+  all-sources : (found : Bool) → headerFits (headerOf (plan .core)) ≡ true
+      → found ≡ sourcesFit (plan .core .events) (at (plan .core .source)) (min n 32) → allSources ≡ found
+  all-sources found f b = let m : min n 32 ≡ n = omega (arith, few f) in sym (b ∙ ap (sourcesFit (plan .core .events) (at (plan .core .source))) m)
+
 -- what is known of the parameter, and what the first test says
 shape : (c : tie.Start) → Shaped (c .args .plan)
 shape c = owned (c .args .plan) _ (c .good .0)
@@ -58,7 +67,7 @@ header : (c : tie.After-header-fits) {b : Bool} → c .header-fits .result ≡ b
 header c e = sym (c .header-fits .ensures ∙ ap headerFits (c .before .header-of .ensures)) ∙ e
 
 returns : tie.Need-returns
-returns c = decided _ (shape (c .before .before .before .before)) false _ _ (header (c .before) (not-true _ (c .if1 .taken))) refl refl
+returns c = decided _ (shape (c .before .before .before .before)) false _ _ _ (header (c .before) (not-true _ (c .if1 .taken))) refl refl refl
 
 rows-right-requires : tie.Need-rows-right-requires
 rows-right-requires c κs = few (c .before .before .before .before .before .args .plan) (header (c .before .before) (not-false _ (c .before .if1 .left)))
@@ -68,16 +77,35 @@ returns-2 c =
     let e = c .before .before .before in
     let plan = e .before .before .before .before .args .plan in
     let rows : rowsRight plan ≡ false = rw (← c .before .before .peers-of .ensures) (sym (c .before .rows-right .ensures) ∙ not-true _ (c .if2 .taken)) in
-    decided plan (shape (e .before .before .before .before)) true false _ (header (e .before) (not-false _ (e .if1 .left))) rows refl
+    decided plan (shape (e .before .before .before .before)) true false _ _ (header (e .before) (not-false _ (e .if1 .left))) rows refl refl
+
+-- the first two tests were passed, and this is what the third one says
+module _ (c : tie.After-bad-block) where
+  abbrev start : tie.After-header-fits
+  start = c .before .before .before .before .before .before
+
+  abbrev whole : Plan
+  whole = start .before .before .before .args .plan
+
+  fits : headerFits (headerOf (whole .core)) ≡ true
+  fits = header start (not-false _ (c .before .before .before .before .before .if1 .left))
+
+  rows : rowsRight whole ≡ true
+  rows = ap (λ peers. every 32 (rowRight (whole .core) peers)) (sym (c .before .before .before .before .peers-of .ensures)) ∙ sym (c .before .before .before .rows-right .ensures) ∙ not-false _ (c .before .before .if2 .left)
+
+  joined : allJoin whole ≡ eqb (c .bad-block .result) 0
+  joined = all-join whole _ _ (c .before .before .before .before .peers-of .ensures) fits (c .bad-block .ensures)
 
 returns-3 : tie.Need-returns-3
 returns-3 c =
-    let e = c .before .before .before .before .before in
-    let plan = e .before .before .before .before .args .plan in
-    let fits = header (e .before) (not-false _ (e .if1 .left)) in
-    let peers = c .before .before .before .before .peers-of .ensures in
-    let rows : rowsRight plan ≡ true = rw (← peers) (sym (c .before .before .before .rows-right .ensures) ∙ not-false _ (c .before .before .if2 .left)) in
-    decided plan (shape (e .before .before .before .before)) true true _ fits rows (all-join plan _ _ peers fits (c .bad-block .ensures))
+    let b = c .before in
+    decided (whole b) (shape (start b .before .before .before)) true true false _ (fits b) (rows b) (joined b ∙ ne-eqb _ _ (c .if3 .taken)) refl
+
+returns-4 : tie.Need-returns-4
+returns-4 c =
+    let b = c .before .before .before in
+    decided (whole b) (shape (start b .before .before .before)) true true true _ (fits b) (rows b) (joined b ∙ eq-eqb _ _ (c .before .before .if3 .left))
+    (all-sources (whole b) _ (fits b) (c .sources-fit .ensures))
 
 header-of-requires : tie.Need-header-of-requires
 header-of-requires c κs = search needs
@@ -91,6 +119,9 @@ peers-of-requires c κs = search needs
 bad-block-requires : tie.Need-bad-block-requires
 bad-block-requires c κs = search needs
 
+sources-fit-requires : tie.Need-sources-fit-requires
+sources-fit-requires c κs = search needs
+
 pub is-held-spec : {M : Type 1} → statement M
 is-held-spec =
     tie.close
@@ -102,4 +133,6 @@ is-held-spec =
     rows-right-requires
     returns-2
     bad-block-requires
-    returns-3)
+    returns-3
+    sources-fit-requires
+    returns-4)

@@ -8,40 +8,16 @@ returns c = cc
 clear-requires : tie.Need-clear-requires
 clear-requires c κs = search needs
 
-put-requires : tie.Need-put-requires
-put-requires c κs = search needs
-
-put-requires-2 : tie.Need-put-requires-2
-put-requires-2 c κs = search needs
-
-put-requires-3 : tie.Need-put-requires-3
-put-requires-3 c κs = search needs
-
-put-requires-4 : tie.Need-put-requires-4
-put-requires-4 c κs = search needs
-
-put-requires-5 : tie.Need-put-requires-5
-put-requires-5 c κs = search needs
+put-fields-requires : tie.Need-put-fields-requires
+put-fields-requires c κs = search needs
 
 seal-requires : tie.Need-seal-requires
 seal-requires c κs = search needs
 
 pub put-spec : {M : Type 1} → statement M
-put-spec =
-    tie.close
-    (tie.spec
-    (λ c. search needs)
-    (λ c. search needs)
-    (λ c. search needs)
-    (λ c. search needs)
+put-spec = tie.close (tie.spec
     clear-requires
-    put-requires
-    (λ c. search needs)
-    put-requires-2
-    put-requires-3
-    put-requires-4
-    (λ c. search needs)
-    put-requires-5
+    put-fields-requires
     seal-requires
     (λ c. search needs)
     returns)

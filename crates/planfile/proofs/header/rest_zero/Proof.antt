@@ -1,10 +1,8 @@
--- `planfile::header::rest_zero` meets its contract: what is tested are the gaps between the fields. Assumes nothing.
+-- `planfile::header::rest_zero` meets its contract: what is tested is what lies behind the fields, which touch each other. Assumes nothing.
 use mathlib.Core.Path.{_≡_, refl, sym}
-use mathlib.Core.Bool.{_&&_}
 use mathlib.Core.List.{List}
 use Prim.Native.Nat.{ℕ}
 use borrow.Author.Needs.{needs}
-use Rattle.lists.proofs.Turns.{failed, passed}
 use Rattle.plan.specs.Block.{restZero}
 use Rattle.plan.specs.Header.{headerFields}
 use Rattle.planfile.specs.inner.Zeros.{zerosIn}
@@ -12,24 +10,16 @@ use Rattle.planfile.proofs.Gaps.{gaps}
 use Rattle.planfile.proofs.header.rest_zero.Statement.{statement}
 use Rattle.planfile.proofs.header.rest_zero.Tie as tie
 
-two-gaps : (s : List ℕ) → restZero headerFields s ≡ (zerosIn 6 10 s && zerosIn 11 510 s)
-two-gaps s = sym (gaps s headerFields refl)
+one-gap : (s : List ℕ) → restZero headerFields s ≡ zerosIn 11 510 s
+one-gap s = sym (gaps s headerFields refl)
 
 returns : tie.Need-returns
-returns c = rw (two-gaps, failed (c .before .zeros .ensures) (c .if1 .taken))
-
-returns-2 : tie.Need-returns-2
-returns-2 c = rw (two-gaps, passed (c .before .before .zeros .ensures) (c .before .if1 .left)) (c .zeros2 .ensures)
+returns c = rw one-gap (c .zeros .ensures)
 
 zeros-requires : tie.Need-zeros-requires
 zeros-requires c κs = search needs
 
-zeros-requires-2 : tie.Need-zeros-requires-2
-zeros-requires-2 c κs = search needs
-
 pub rest-zero-spec : {M : Type 1} → statement M
 rest-zero-spec = tie.close (tie.spec
     zeros-requires
-    returns
-    zeros-requires-2
-    returns-2)
+    returns)
