@@ -317,7 +317,7 @@ static const struct fault {
     flag sealed;
     u32 number, in;
 } faults[] = {
-    {5, 0, 509, 1, 0, 21, 0}, {5, 0, 0, 2, 1, 22, 0}, {5, 0, 6, 1, 1, 23, 0}, {5, 0, 509, 1, 1, 23, 0}, {5, 1, 509, 1, 0, 23, 0},
+    {5, 0, 509, 1, 0, 21, 0}, {5, 0, 0, 2, 1, 22, 0}, {5, 0, 11, 1, 1, 23, 0}, {5, 0, 509, 1, 1, 23, 0}, {5, 1, 509, 1, 0, 23, 0},
     {4, 0, 1, 3, 1, 23, 0}, {4, 0, 1, 5, 1, 25, 0}, {2, 0, 1, 3, 1, 25, 0}, {2, 0, 11, 1, 1, 24, 0}, {2, 1, 509, 1, 0, 21, 1},
     {2, 1, 509, 1, 1, 24, 1}, {2, 1, 13, 1, 1, 23, 2}, {2, 2, 509, 1, 0, 21, 2}, {2, 2, 0, 1, 1, 22, 2}, {2, 2, 1, 0, 1, 22, 2},
     {2, 2, 509, 1, 1, 23, 2}, {2, 2, 13, 7, 1, 23, 2}, {2, 3, 509, 1, 0, 23, 2}, {2, 2, 2, 0, 1, 23, 2}, {1, 1, 2, 1, 1, 23, 1},
@@ -334,7 +334,8 @@ static void known_fault(const struct fault *fault) {
     must_be("the block", fault->in, value_given(0));
 }
 
-/* Byte 10 with every value, and all others of block 0 that are to be zero with 1. */
+/* Byte 10 with every value, and all behind it in block 0, which are to be zero, with 1; and with 1 the bytes of the mask of
+ * events, of which none is wrong. */
 static void known_bytes(void) {
     star(15);
     for (u32 byte = 0; byte < 256; byte++) {
@@ -347,7 +348,7 @@ static void known_bytes(void) {
         plan.bytes[10] = 1;
         plan.bytes[at] = 1;
         seal(&plan, 0);
-        must_be("a file with this byte of block 0", at == 10 ? 0 : 24, try_plan_read(&plan));
+        must_be("a file with this byte of block 0", at <= 10 ? 0 : 24, try_plan_read(&plan));
         plan.bytes[at] = 0;
     }
 }

@@ -90,33 +90,62 @@ static void check_time(u32 role, u32 byte, u32 action, u32 before, u32 after) {
         must_be("whether a byte is named", readings[byte].kind == RESERVED, action == NAMED);
 }
 
+/* Where a byte comes to. */
+struct place {
+    u32 role, running, permissions;
+};
+
+/* An interrupt has to find a bit of 0 and an acknowledge one of 1, or it is ignored, as it is where it may not be received; an
+ * acknowledge of an event is ignored whatever it finds. That the port stands still comes before all that. */
+static void check_interrupts(const struct place *place, u32 events, u32 byte, u32 before, u32 action) {
+    u32 kind = readings[byte].kind, k = readings[byte].value;
+    if (kind == TIME_CODE || kind == RESERVED)
+        return;
+    flag acknowledge = kind == ACKNOWLEDGE, received = place->permissions & (acknowledge ? 8 : 2);
+    flag of_event = acknowledge && events >> k & 1, taken = received && !of_event && (before >> k & 1) == acknowledge;
+    must_be("what is done with an interrupt or an acknowledge",
+            !place->running ? LINK_ERROR : !taken ? IGNORED : place->role ? FORWARDED : TELLS_HOST, action);
+}
+
 /* Whatever is done with a code, it is handed on as it was read. An interrupt or acknowledge that is forwarded or told has turned
  * its bit round, and all else leaves the register as it was. */
-static void try_reaction(u32 role, u32 running, u32 permissions, u32 before, u32 counter, u32 byte) {
-    u32 after = before, then = counter, action = try_react(role, running, permissions, &after, &then, byte);
+static void try_reaction(const struct place *place, u32 events, u32 before, u32 counter, u32 byte) {
+    u32 after = before, then = counter;
+    u32 action = try_react(place->role, place->running, place->permissions, events, &after, &then, byte);
     const struct reading *read = &readings[byte];
     must_read(read, &(struct reading){value_given(0), value_given(1), value_given(2)});
-    check_time(role, byte, action, counter, then);
+    check_time(place->role, byte, action, counter, then);
+    check_interrupts(place, events, byte, before, action);
     flag turned = read->kind != TIME_CODE && (action == FORWARDED || action == TELLS_HOST);
     must_be("the register then", turned ? before ^ 1u << read->value : before, after);
 }
 
-/* With the bit of the byte's identifier, and without it, among any others, among none and among all. */
-static void try_registers(u32 role, u32 running, u32 permissions, u32 byte) {
-    u32 bit = 1u << byte % 32, any = random_word(), above = once_in(2) ? random_word() << 4 : 0;
+/* Masks are registers and events: with the bit of the byte's identifier, and without it, among any others, among none and among
+ * all. */
+enum { MASKS = 6 };
+static void some_masks(u32 byte, u32 masks[MASKS]) {
+    u32 bit = 1u << byte % 32, any = random_word();
+    const u32 some[MASKS] = {any | bit, any & ~bit, bit, ~bit, 0, 0xFFFFFFFF};
+    memcpy(masks, some, sizeof some);
+}
+
+static void try_registers(struct place place, u32 byte) {
+    u32 registers[MASKS], events[MASKS], above = once_in(2) ? random_word() << 4 : 0;
     u32 counter = once_in(2) ? pick(64) : random_word();
-    const u32 registers[] = {any | bit, any & ~bit, bit, ~bit, 0, 0xFFFFFFFF};
-    for (u32 i = 0; i < sizeof registers / sizeof *registers; i++)
-        try_reaction(role, running, permissions | above, registers[i], counter, byte);
+    some_masks(byte, registers);
+    some_masks(byte, events);
+    place.permissions |= above;
+    for (u32 i = 0; i < MASKS * MASKS; i++)
+        try_reaction(&place, events[i % MASKS], registers[i / MASKS], counter, byte);
 }
 
 /* A step below the byte, beside that, and far from it; the same above 63, and at the greatest numbers. */
-static void try_counters(u32 role, u32 running, u32 permissions, u32 byte) {
-    u32 below = (byte + 63) % 64, any = random_word(), held = random_word();
+static void try_counters(const struct place *place, u32 byte) {
+    u32 below = (byte + 63) % 64, any = random_word(), held = random_word(), events = once_in(2) ? 0 : random_word();
     const u32 counters[] = {below, 64 + below, any - any % 64 + below, 0xFFFFFFC0 + below, 256 + below, byte % 64, 64 + byte % 64,
                             (below + 63) % 64, (byte + 1) % 64, 0, 63, 64, 0x80000000, 0xFFFFFFFF, any};
     for (u32 i = 0; i < sizeof counters / sizeof *counters; i++)
-        try_reaction(role, running, permissions, held, counters[i], byte);
+        try_reaction(place, events, held, counters[i], byte);
 }
 
 void try_tables(void) {
@@ -129,7 +158,8 @@ void try_tables(void) {
         for (u32 running = 0; running < TRUTHS; running++)
             for (u32 permissions = 0; permissions < 16; permissions++)
                 for (u32 byte = 0; byte < BYTES; byte++) {
-                    try_registers(truths[role], truths[running], permissions, byte);
-                    try_counters(truths[role], truths[running], permissions, byte);
+                    struct place place = {truths[role], truths[running], permissions};
+                    try_registers(place, byte);
+                    try_counters(&place, byte);
                 }
 }

@@ -3,7 +3,7 @@
  * Each area is lent to each of the two in a place of its own, with guard bytes at both sides, and with the same content. */
 #include "driver.h"
 
-enum { GUARD = 64, GUARD_BYTE = 0xA5, LENT = 6, ASKED = 6 };
+enum { GUARD = 64, GUARD_BYTE = 0xA5, LENT = 6, ASKED = 7 };
 
 /* What a call may do with an area: nothing, write it unless it refuses, or write it in any case. */
 enum use { INPUT, AREA, VALUE };
@@ -20,7 +20,7 @@ static struct lent lents[LENT];
 static u32 lent_count;
 static enum call this_call;
 static size asked[ASKED];
-static size comparisons[CALLS], hits[CALLS][2][27]; /* those of a link by its flag, of all others the first of the two */
+static size comparisons[CALLS], hits[CALLS][2][28]; /* those of a link by its flag, of all others the first of the two */
 
 static const char *const names[CALLS] = {
     "code read", "code write", "react", "plan read", "start", "request", "acknowledge", "link", "reset", "tick", "round",
@@ -28,11 +28,11 @@ static const char *const names[CALLS] = {
 
 /* Every number that a call can answer; the run has to hit each, for a link with either flag. */
 enum { END = 255 };
-#define OF_FILES 20, 21, 22, 23, 24, 25, 26
-static const u8 numbers[CALLS][17] = {
+#define OF_FILES 20, 21, 22, 23, 24, 25, 26, 27
+static const u8 numbers[CALLS][18] = {
     [CODE_READ] = {0, END}, [CODE_WRITE] = {0, 5, END}, [REACT] = {0, END},
     [PLAN_READ] = {0, OF_FILES, END}, [START] = {0, OF_FILES, 3, END},
-    [REQUEST] = {0, OF_FILES, 2, 4, 5, 6, 7, 8, 9, END}, [ACKNOWLEDGES] = {0, OF_FILES, 2, 4, 5, 6, 7, 8, 9, END},
+    [REQUEST] = {0, OF_FILES, 2, 4, 5, 6, 7, 8, 9, END}, [ACKNOWLEDGES] = {0, OF_FILES, 2, 4, 5, 6, 13, 7, 8, 9, END},
     [LINK] = {0, OF_FILES, 2, 4, 7, 10, END}, [RESET] = {0, OF_FILES, 2, 4, END},
     [TICK] = {0, OF_FILES, 2, 4, 14, 7, END}, [ROUND] = {0, OF_FILES, 2, 3, END},
     [SETTLE] = {0, OF_FILES, 2, 11, 12, END}, [REACH] = {0, OF_FILES, 2, 4, 5, 6, END}, [REPORT] = {0, 3, END}};
@@ -161,15 +161,15 @@ u32 try_code_write(u32 kind, u32 value) {
     return finish(judge, bench_code_write(kind, value, by_bench(byte)));
 }
 
-u32 try_react(u32 role, u32 running, u32 permissions, u32 *device_register, u32 *counter, u8 byte) {
-    begin(REACT, GIVEN(role, running, permissions, *device_register, *counter, byte));
+u32 try_react(u32 role, u32 running, u32 permissions, u32 events, u32 *device_register, u32 *counter, u8 byte) {
+    begin(REACT, GIVEN(role, running, permissions, events, *device_register, *counter, byte));
     struct lent *bits = lend("register", AREA, 4, device_register, 1), *count = lend("counter", AREA, 4, counter, 1);
     struct lent *kind = lend("kind", VALUE, 4, &no_part, 1), *top = lend("top", VALUE, 4, &no_part, 1);
     struct lent *value = lend("value", VALUE, 4, &no_part, 1);
-    u32 judge = judge_react(role, running, permissions, by_judge(bits), by_judge(count), byte, by_judge(kind), by_judge(top),
-                            by_judge(value));
-    u32 bench = bench_react(role, running, permissions, by_bench(bits), by_bench(count), byte, by_bench(kind), by_bench(top),
-                            by_bench(value));
+    u32 judge = judge_react(role, running, permissions, events, by_judge(bits), by_judge(count), byte, by_judge(kind),
+                            by_judge(top), by_judge(value));
+    u32 bench = bench_react(role, running, permissions, events, by_bench(bits), by_bench(count), byte, by_bench(kind),
+                            by_bench(top), by_bench(value));
     finish(judge, bench);
     memcpy(device_register, by_bench(bits), bits->bytes);
     memcpy(counter, by_bench(count), count->bytes);
@@ -313,7 +313,7 @@ void table(void) {
     for (u32 c = 0; c < CALLS; c++)
         printf("%-12s %9lu\n", names[c], comparisons[c]);
     printf("%-12s %9lu\nnumber     answers\n", "comparisons", compared());
-    for (u32 n = 0; n <= 26; n++) {
+    for (u32 n = 0; n <= 27; n++) {
         size times = 0;
         for (u32 c = 0; c < CALLS; c++)
             times += hits[c][0][n] + hits[c][1][n];

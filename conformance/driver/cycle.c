@@ -1,5 +1,6 @@
-/* T-01, the return trip, tried: an interrupt spreads, a handler that was told of it acknowledges, and the acknowledge brings
- * the network back to where it was, so that the next cycle can begin. Meanwhile other identifiers are used, and a master ticks. */
+/* T-01, the return trip, tried: an interrupt that is no event's spreads, a handler that was told of it acknowledges, and the
+ * acknowledge brings the network back to where it was, so that the next cycle can begin. Meanwhile other identifiers are used,
+ * and a master ticks. */
 #include "driver.h"
 
 enum { MOST_CYCLES = 3, MOST_GAP = 40, NOT_YET = 1 << 30 };
@@ -50,6 +51,15 @@ static void find_pairs(u32 k, flag any) {
             pair[pairs++][1] = h;
         }
     }
+}
+
+/* Any identifier that is no event; where all are events, one is made so. */
+static u32 no_event(void) {
+    u32 k = pick(IDENTIFIERS);
+    for (u32 i = 0; i < IDENTIFIERS && is_event(&course.plan, k); i++)
+        k = (k + 1) % IDENTIFIERS;
+    be_acknowledged(&course.plan, k);
+    return k;
 }
 
 /* A pair for k at least. The roles are those of the plan, or anybody's; 0 if no pair of nodes allows T-01. */
@@ -273,8 +283,9 @@ static void play_cycles(struct cycle *cycles, u32 count, flag hushed, struct tri
 
 void try_cycles(const struct plan *given, struct trips *trips) {
     static struct cycle cycles[MOST_CYCLES];
-    u32 k = pick(IDENTIFIERS), count = 1, most = 0;
+    u32 count = 1, most = 0;
     begin_course(&course, given);
+    u32 k = no_event();
     if (!cast(k, trips))
         return;
     for (u32 i = 0; i < count; i++) {

@@ -112,15 +112,53 @@ static void misname(struct plan *plan) {
     plan->bytes[MASTER] = names[pick(sizeof names / sizeof *names)];
 }
 
+/* A second source: of an identifier that has one already, so that the file is refused where it is no event, or of any. Where it
+ * is one it may become none, or the mask any other. */
+static void missource(struct plan *plan) {
+    u32 devices = devices_of(plan), first = pick(devices * IDENTIFIERS), device = pick(devices), k = pick(IDENTIFIERS);
+    for (u32 i = 0; i < devices * IDENTIFIERS; i++) {
+        u32 at = (first + i) % (devices * IDENTIFIERS);
+        if (at / IDENTIFIERS == device || !in_mask(plan, at / IDENTIFIERS, SOURCES, at % IDENTIFIERS))
+            continue;
+        k = at % IDENTIFIERS;
+        break;
+    }
+    u8 *block = device_block(plan, device);
+    block[SOURCES + k / 8] |= 1 << k % 8;
+    block[HANDLERS + k / 8] &= ~(1 << k % 8);
+    seal(plan, 1 + device);
+    if (once_in(2))
+        set_event(plan, k, 0);
+    if (once_in(4))
+        change(plan->bytes + EVENTS + pick(4));
+}
+
+/* An event that has sources is none any more: a fault where they are several. */
+static void unmask(struct plan *plan) {
+    u32 first = pick(IDENTIFIERS);
+    for (u32 i = 0; i < IDENTIFIERS; i++) {
+        u32 k = (first + i) % IDENTIFIERS, sources = 0;
+        for (u32 d = 0; d < devices_of(plan); d++)
+            sources += in_mask(plan, d, SOURCES, k);
+        if (!is_event(plan, k) || sources < 1 + pick(2))
+            continue;
+        set_event(plan, k, 0);
+        return;
+    }
+}
+
 static void damage_block_0(struct plan *plan) {
     u8 dirt = 1 + pick(255);
-    switch (pick(7)) {
+    switch (pick(10)) {
     case 0: change(plan->bytes + pick(6)); break;
-    case 1: plan->bytes[6 + pick(504)] = dirt; break;
+    case 1: plan->bytes[MASTER + pick(500)] = dirt; break;
     case 2: change_check(plan, 0); return;
     case 3: raise_check(plan); return;
     case 4: put_loads(plan); return;
     case 5: misname(plan); break;
+    case 6: missource(plan); break;
+    case 7: unmask(plan); break;
+    case 8: plan->bytes[EVENTS + pick(4)] = dirt; break;
     default: plan->bytes[1] += 1 - 2 * pick(2);
     }
     if (!once_in(4))
@@ -149,7 +187,8 @@ void damage(struct plan *plan) {
         u32 devices = devices_of(plan);
         switch (pick(8)) {
         case 0: cut(plan); return;
-        case 1: damage_block_0(plan); break;
+        case 1:
+        case 2: damage_block_0(plan); break;
         default: damage_device(plan, pick(devices));
         }
     }

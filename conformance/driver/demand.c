@@ -1,4 +1,4 @@
-/* Demand 3, tried: how an interrupt spreads while other identifiers are used and a master ticks. */
+/* Demand 3, tried: how an interrupt spreads, of an event or of another identifier, while others are used and a master ticks. */
 #include "driver.h"
 
 static struct course course;
@@ -9,6 +9,8 @@ static u32 greater(u32 one, u32 other) {
 
 static void count(const struct spread *spread, struct demands *demands) {
     demands->networks++;
+    demands->events += is_event(&course.plan, spread->k);
+    demands->others += !is_event(&course.plan, spread->k);
     demands->from_both += running_ports(&course, spread->start) == NODE_PORTS;
     demands->ticked += course.ticks > 0;
     demands->longest = greater(demands->longest, spread->window);

@@ -72,7 +72,7 @@ flag all_hit(void);
 void table(void);
 u32 try_code_read(u8 byte);
 u32 try_code_write(u32 kind, u32 value);
-u32 try_react(u32 role, u32 running, u32 permissions, u32 *device_register, u32 *counter, u8 byte);
+u32 try_react(u32 role, u32 running, u32 permissions, u32 events, u32 *device_register, u32 *counter, u8 byte);
 u32 try_plan_read(const struct plan *plan);
 u32 judge_change(struct change change, const u8 *plan, size plan_length, u32 *state, size state_length);
 u32 try_change(struct change change, const struct plan *plan, struct state *state);
@@ -86,8 +86,9 @@ u32 try_report(const struct plan *file, struct printed *printed);
 /* Of each program with a main: says what was being tried, when something fails. */
 void say_where(void);
 
-/* plans.c: accepted files of every shape. A mask is named by where it stands in a block, and so is the master in block 0. */
-enum { SOURCES = 4, HANDLERS = 8, MASTER = 10 };
+/* plans.c: accepted files of every shape. A mask is named by where it stands in a block, and so are the events and the master in
+ * block 0. */
+enum { SOURCES = 4, HANDLERS = 8, EVENTS = 6, MASTER = 10 };
 u32 master_of(const struct plan *plan); /* NO_MASTER for none */
 void name_master(struct plan *plan, u32 device);
 flag in_mask(struct plan *plan, u32 device, u32 mask, u32 k);
@@ -95,6 +96,11 @@ u8 *device_block(struct plan *plan, u32 device);
 u8 *port_entry(struct plan *plan, u32 device, u32 port);
 void seal(struct plan *plan, u32 block);
 void seal_devices(struct plan *plan); /* all blocks but block 0 */
+u32 events_of(const struct plan *plan); /* the mask of those in the un-acknowledged profile */
+flag is_event(const struct plan *plan, u32 k);
+void set_event(struct plan *plan, u32 k, flag event); /* its sources stay, so that it may have too many */
+void lose_sources(struct plan *plan, u32 k, u32 but); /* all that k has, but this one */
+void be_acknowledged(struct plan *plan, u32 k); /* no event, and of its sources any one stays */
 void give_role(struct plan *plan, u32 device, u32 mask, u32 k);
 void blank(struct plan *plan, u32 devices);
 void be_router(struct plan *plan, u32 device, u32 ports);
@@ -115,7 +121,7 @@ u32 *counter_word(struct state *state, u32 device);
 u32 *time_word(struct state *state, u32 device, u32 port);
 void sound_state(struct plan *plan, struct state *state);
 flag break_state(struct plan *plan, struct state *state, u32 clause);
-void states_table(void); /* what sound ones have of Time-Codes, and how often each clause was broken */
+void states_table(void); /* what sound ones have of Time-Codes and of events, and how often each clause was broken */
 flag all_states_tried(void);
 
 /* A network whose rounds are played one after the other, and what the last of them built. The judge keeps it in its records,
@@ -154,6 +160,7 @@ void let_tick(struct course *course, u32 node); /* in half of the trials, all th
 void crowd(struct course *course, u32 k); /* the most in its way: all others wait at every port, and come before it */
 void read_records(struct course *course);
 u32 running_ports(struct course *course, u32 device);
+flag can_send(struct course *course, u32 device); /* an interrupt, by some port */
 u32 farthest(const u32 distance[DEVICES]); /* the greatest of those that are reached */
 void measure(struct course *course, struct spread *spread, const u32 *within); /* the window, and the distances as in reach.c */
 void exceed(struct course *course, u32 rounds); /* loads that are longer, by one in half of the trials */
@@ -175,6 +182,7 @@ enum answer { UNTOLD, ACKNOWLEDGED, TIMED_OUT, ANSWERS };
 /* What became of a source's request, and of its cables meanwhile. */
 struct drop {
     enum answer answer;
+    flag event; /* it was one of an event */
     flag again; /* a cable was out and in again */
     flag one, both; /* the source had two that ran: one was out while the other ran, both were out */
 };
@@ -193,6 +201,7 @@ struct trips {
 /* How demand 3 was tried. */
 struct demands {
     size networks, from_both, ticked;
+    size events, others; /* by what k was */
     u32 longest, slowest; /* the rounds of a window, and of a first crossing */
 };
 
@@ -208,9 +217,18 @@ void try_time(const struct plan *plan);
 void time_table(void);
 flag all_time_tried(void);
 
-/* known.c, clock.c, codes.c, trials.c, demand.c, cycle.c and drop.c: what is tried. */
+/* event.c: how many sources an identifier may have, what clears the bit of an event, and what becomes of a request of one. */
+void try_sources(const struct plan *plan);
+void events_in_call(struct plan *plan, struct state *before, struct state *after, const struct change *change);
+void events_in_round(struct plan *plan, struct state *before, struct played *played);
+void try_events(const struct plan *plan);
+void events_table(void);
+flag all_events_tried(void);
+
+/* known.c, clock.c, profile.c, codes.c, trials.c, demand.c, cycle.c and drop.c: what is tried. */
 void known_values(void);
 void known_times(void);
+void known_events(void);
 void try_tables(void);
 void try_files(struct plan *plan);
 void try_calls(struct plan *plan);

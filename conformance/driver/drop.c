@@ -96,13 +96,13 @@ static void call_on(void) {
 }
 
 /* What the source's host is told first of k in the round just played: of the timeout in the last round, and before that of
- * nothing but an acknowledge. Behind the timeout an interrupt of another source may follow. */
+ * nothing but an acknowledge, which of an event it never is. Behind the timeout an interrupt of another source may follow. */
 static enum answer heard(void) {
     for (u32 i = 0; i < course.played.count; i++) {
         u32 word = course.played.told[i], kind = word / 65536;
         if (!tells_of(word, request.k) || word / 256 % 256 != request.start)
             continue;
-        if (kind != (rounds == load ? OF_TIMEOUT : OF_ACKNOWLEDGE))
+        if (kind != (rounds == load ? OF_TIMEOUT : OF_ACKNOWLEDGE) || (drop.event && kind == OF_ACKNOWLEDGE))
             broken(&request, "told what it should not be (word, round)", word, rounds);
         return rounds == load ? TIMED_OUT : ACKNOWLEDGED;
     }
@@ -118,6 +118,7 @@ struct drop try_drop(const struct plan *given) {
     if (!choose_source(&course, &request))
         return drop;
     prepare();
+    drop.event = is_event(&course.plan, request.k);
     must_be("T-03: the request is taken", 0, host_calls(&course, REQUEST, request.start, request.k));
     check_source();
     for (u32 p = 0; p < NODE_PORTS; p++)

@@ -25,7 +25,7 @@ static void known_report(void) {
     must_be("its text", 0, memcmp(text, printed.text, sizeof text - 1) != 0);
 }
 
-/* 32 nodes in pairs, each a source of everything: no text has more lines. */
+/* 32 nodes in pairs, each a source of everything, which are events: no text has more lines. */
 static void fullest_report(void) {
     blank(&plan, DEVICES);
     for (u32 d = 0; d < DEVICES; d++) {
@@ -33,6 +33,7 @@ static void fullest_report(void) {
             connect_ports(&plan, d, 0, d + 1, 0, 15);
         put_number(device_block(&plan, d) + SOURCES, 4, 0xFFFFFFFF);
     }
+    put_number(plan.bytes + EVENTS, 4, 0xFFFFFFFF);
     seal_devices(&plan);
     set_loads(&plan, 65535, 65535);
     must_be("the fullest report", 0, try_report(&plan, &printed));
@@ -196,7 +197,7 @@ static void known_ports(void) {
 static const struct fault {
     u32 number, block, at, value;
     flag sealed;
-} faults[] = {{21, 0, 6, 1, 0}, {22, 0, 0, 2, 1}, {23, 0, 1, 33, 1}, {24, 0, 6, 1, 1}, {25, 0, 1, 2, 1}, {26, 1, 13, 1, 1}};
+} faults[] = {{21, 0, 6, 1, 0}, {22, 0, 0, 2, 1}, {23, 0, 1, 33, 1}, {24, 0, 11, 1, 1}, {25, 0, 1, 2, 1}, {26, 1, 13, 1, 1}};
 
 /* Every call over a file that is not accepted answers the file's number. */
 static void refused_by_all(u32 number) {
@@ -219,6 +220,11 @@ static void refused_files(void) {
     }
     plan.length--;
     refused_by_all(20);
+    three_in_a_row();
+    device_block(&plan, 2)[SOURCES] = 1 << 5;
+    device_block(&plan, 2)[HANDLERS] = 0;
+    seal(&plan, 3);
+    refused_by_all(27);
 }
 
 void known_values(void) {

@@ -3,7 +3,7 @@
 
 static struct plan plan;
 static size seed, this_case, before_case;
-static size drops[ANSWERS], replugged[ANSWERS], one_of_two, both_of_two;
+static size drops[ANSWERS], replugged[ANSWERS], one_of_two, both_of_two, of_events;
 static struct demands demands;
 static struct trips trips;
 
@@ -19,12 +19,14 @@ static void play(size which) {
     if (which == 0) {
         known_values();
         known_times();
+        known_events();
         try_tables();
     }
     make_plan(&plan);
     count_shapes(&plan);
     try_files(&plan);
     try_masters(&plan);
+    try_sources(&plan);
     try_calls(&plan);
     try_ports(&plan);
     try_run(&plan, which % 16 == 15 ? 500 : 40);
@@ -38,6 +40,8 @@ static void play(size which) {
     replugged[drop.answer] += drop.again;
     one_of_two += drop.one;
     both_of_two += drop.both;
+    of_events += drop.event;
+    try_events(&plan);
 }
 
 static flag tried(const char *what, size times) {
@@ -49,6 +53,8 @@ static flag tried(const char *what, size times) {
 /* Whatever the run is to try was tried at least once. */
 static flag all_tried(void) {
     flag all = tried("demand 3", demands.networks);
+    all &= tried("demand 3 of an event", demands.events);
+    all &= tried("demand 3 of an identifier that is none", demands.others);
     all &= tried("demand 3 from two ports", demands.from_both);
     all &= tried("demand 3 with a first crossing of 64 rounds", demands.slowest == CROSSING);
     all &= tried("T-01", trips.networks);
@@ -62,6 +68,7 @@ static flag all_tried(void) {
     all &= tried("T-03, a timeout after that", replugged[TIMED_OUT]);
     all &= tried("T-03, one of two cables out", one_of_two);
     all &= tried("T-03, both out", both_of_two);
+    all &= tried("T-03 of an event", of_events);
     return all;
 }
 
@@ -74,8 +81,9 @@ static void progress(size played, size cases) {
 /* What was tried beside the calls one by one. */
 static void report(void) {
     printf("demand 3 tried on %lu of the networks, for up to %u rounds; in the others no node is joined to anything\n"
+           "  of an event: %lu, of another identifier: %lu\n"
            "  from a source with two ports that run: %lu, with ticks all the while: %lu; the slowest first crossing: %u rounds\n",
-           demands.networks, demands.longest, demands.from_both, demands.ticked, demands.slowest);
+           demands.networks, demands.longest, demands.events, demands.others, demands.from_both, demands.ticked, demands.slowest);
     printf("T-01 tried on %lu of the networks, in %lu cycles of up to %u rounds; in %lu no node reaches another, and in %lu one\n"
            "  does, but no pair of them allows it\n"
            "  pairs that allow it: %lu, and that do not: %lu\n",
@@ -88,8 +96,9 @@ static void report(void) {
            drops[ACKNOWLEDGED] + drops[TIMED_OUT]);
     printf("  told of the acknowledge %lu times, %lu of them after a cable was out and in again; of the timeout %lu times, %lu of "
            "them after that\n"
-           "  of two cables one was out %lu times, and both %lu times\n",
-           drops[ACKNOWLEDGED], replugged[ACKNOWLEDGED], drops[TIMED_OUT], replugged[TIMED_OUT], one_of_two, both_of_two);
+           "  of two cables one was out %lu times, and both %lu times; the request was of an event %lu times\n",
+           drops[ACKNOWLEDGED], replugged[ACKNOWLEDGED], drops[TIMED_OUT], replugged[TIMED_OUT], one_of_two, both_of_two,
+           of_events);
 }
 
 static size number(const char *word) {
@@ -115,7 +124,9 @@ int main(int count, char **words) {
     ports_table();
     report();
     time_table();
-    if (whole && !(all_hit() && all_ticks_answered() && all_states_tried() && all_tried() && all_ports_tried() && all_time_tried()))
+    events_table();
+    if (whole && !(all_hit() && all_ticks_answered() && all_states_tried() && all_tried() && all_ports_tried() &&
+                   all_time_tried() && all_events_tried()))
         return 1;
     printf("judge: ok\n");
     return 0;

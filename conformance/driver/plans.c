@@ -24,9 +24,46 @@ void name_master(struct plan *plan, u32 device) {
     seal(plan, 0);
 }
 
-/* The role that this mask is about, and not the other one: no node has both for one identifier. */
+u32 events_of(const struct plan *plan) {
+    u32 events = 0;
+    for (u32 i = 4; i; i--)
+        events = 256 * events + plan->bytes[EVENTS + i - 1];
+    return events;
+}
+
+flag is_event(const struct plan *plan, u32 k) {
+    return events_of(plan) >> k & 1;
+}
+
+void set_event(struct plan *plan, u32 k, flag event) {
+    u8 *byte = &plan->bytes[EVENTS + k / 8], bit = 1 << k % 8;
+    *byte = event ? *byte | bit : *byte & ~bit;
+    seal(plan, 0);
+}
+
+void lose_sources(struct plan *plan, u32 k, u32 but) {
+    for (u32 d = 0; d < plan->bytes[1]; d++) {
+        if (d == but || !in_mask(plan, d, SOURCES, k))
+            continue;
+        device_block(plan, d)[SOURCES + k / 8] &= ~(1 << k % 8);
+        seal(plan, 1 + d);
+    }
+}
+
+void be_acknowledged(struct plan *plan, u32 k) {
+    u32 devices = plan->bytes[1], first = pick(devices);
+    for (u32 i = 0; i < devices; i++)
+        if (in_mask(plan, (first + i) % devices, SOURCES, k))
+            lose_sources(plan, k, (first + i) % devices);
+    set_event(plan, k, 0);
+}
+
+/* The role that this mask is about, and not the other one: no node has both for one identifier. What is no event has one source,
+ * so that another one loses the role. */
 void give_role(struct plan *plan, u32 device, u32 mask, u32 k) {
     u8 *block = device_block(plan, device), bit = 1 << k % 8;
+    if (mask == SOURCES && !is_event(plan, k))
+        lose_sources(plan, k, device);
     block[SOURCES + k / 8] &= ~bit;
     block[HANDLERS + k / 8] &= ~bit;
     block[mask + k / 8] |= bit;
@@ -298,6 +335,14 @@ static u32 some_bits(u32 style) {
     }
 }
 
+/* In half of the plans none, as in those from before there were events. What is no event has one source at most. */
+static void choose_events(struct plan *plan) {
+    put_number(plan->bytes + EVENTS, 4, some_bits(once_in(2) ? 0 : 1 + pick(4)));
+    for (u32 k = 0; k < IDENTIFIERS; k++)
+        if (!is_event(plan, k))
+            be_acknowledged(plan, k);
+}
+
 static void dress(struct plan *plan, u32 devices) {
     u32 permitted = once_in(12) ? 0 : 1 + pick(6), sources = once_in(12) ? 0 : 1 + pick(4), handlers = pick(5);
     for (u32 d = 0; d < devices; d++) {
@@ -342,6 +387,7 @@ void make_plan(struct plan *plan) {
     blank(plan, devices);
     shape(plan, devices);
     dress(plan, devices);
+    choose_events(plan);
     load(plan);
     seal_devices(plan);
     choose_master(plan, devices);

@@ -17,7 +17,7 @@ enum way { NONE_RUNS, NONE_MAY, STOPPED_MAY, ONE_RUNS, ONE_MAY, BOTH_MAY, WAYS }
 static const char *const way_names[WAYS] = {
     "neither runs: 7", "none that runs may send: 8", "the same, and the one that stands still may: 8", "one runs: taken",
     "both run, and one may send: taken", "both run and may send: taken"};
-static size requests[WAYS], acknowledges[WAYS];
+static size requests[WAYS], acknowledges[WAYS], of_events[WAYS]; /* the last are refused by 13, whatever the ports are */
 
 static struct plan plan;
 static struct state state;
@@ -87,7 +87,8 @@ static void call_at(enum call call, u32 node, u32 k) {
     }
     u32 running = runs[0] + runs[1], sending = (runs[0] && may[0]) + (runs[1] && may[1]);
     flag held = *device_words(&state, node) >> k & 1;
-    u32 number = !running ? 7 : !sending ? 8 : held == (call == REQUEST) ? 9 : 0;
+    flag event = call == ACKNOWLEDGES && is_event(&plan, k);
+    u32 number = event ? 13 : !running ? 7 : !sending ? 8 : held == (call == REQUEST) ? 9 : 0;
     must_be("a call at a node with two ports", number,
             try_change((struct change){.call = call, .device = node, .other = k}, &plan, &state));
     if (number == 9)
@@ -97,7 +98,7 @@ static void call_at(enum call call, u32 node, u32 k) {
                    : running == 1 ? ONE_RUNS
                    : sending == 1 ? ONE_MAY
                                   : BOTH_MAY;
-    (call == REQUEST ? requests : acknowledges)[way]++;
+    (event ? of_events : call == REQUEST ? requests : acknowledges)[way]++;
     for (u32 p = 0; !number && p < NODE_PORTS; p++)
         must_be("the code waits where it can be sent", runs[p] && may[p], port_words(&state, node, p)[waits] >> k & 1);
 }
@@ -122,9 +123,9 @@ void ports_table(void) {
     printf("the ports of nodes with two        nodes  networks\n");
     for (u32 s = 0; s < SHAPES; s++)
         printf("  %-28s %9lu %9lu\n", shape_names[s], nodes[s], networks[s]);
-    printf("what they decide on                             requests  acknowledges\n");
+    printf("what they decide on                             requests  acknowledges  of events: 13\n");
     for (u32 w = 0; w < WAYS; w++)
-        printf("  %-46s %7lu %13lu\n", way_names[w], requests[w], acknowledges[w]);
+        printf("  %-46s %7lu %13lu %14lu\n", way_names[w], requests[w], acknowledges[w], of_events[w]);
 }
 
 flag all_ports_tried(void) {
@@ -135,7 +136,7 @@ flag all_ports_tried(void) {
             all = 0;
         }
     for (u32 w = 0; w < WAYS; w++)
-        if (!requests[w] || !acknowledges[w]) {
+        if (!requests[w] || !acknowledges[w] || !of_events[w]) {
             printf("never asked at a node with two ports: %s\n", way_names[w]);
             all = 0;
         }

@@ -1,5 +1,5 @@
-/* What demand 3 and T-01 have in common, a code of k that spreads from one device while other identifiers are used and a master
- * ticks; and, with T-03 and T-07, how a source is chosen and rounds are played. */
+/* What demand 3, T-01 and T-08 have in common, a code of k that spreads from one device while other identifiers are used and a
+ * master ticks; and, with T-03 and T-07, how a source is chosen and rounds are played. */
 #include "driver.h"
 
 enum { EVERYTHING = 15 }; /* all four permissions */
@@ -25,7 +25,7 @@ static flag sends(struct course *course, u32 device, u32 port, enum kind kind) {
     return port_words(&course->state, device, port)[AT_RUNNING] && permissions & (kind == INTERRUPT ? 1 : 4);
 }
 
-static flag can_send(struct course *course, u32 device) {
+flag can_send(struct course *course, u32 device) {
     for (u32 p = 0; p < PORTS; p++)
         if (sends(course, device, p, INTERRUPT))
             return 1;

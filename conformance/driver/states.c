@@ -53,19 +53,23 @@ static void sound_times(struct plan *plan, struct state *state, u32 d, u32 time,
     }
 }
 
-/* What sound states have of Time-Codes. */
-enum having { ANYTHING, A_COUNTER, ONE_WAITS, LAST_AND_STILL, HAVINGS };
+/* What sound states have of Time-Codes and of events. */
+enum having { ANYTHING, A_COUNTER, ONE_WAITS, LAST_AND_STILL, AN_EVENT, OF_EVENT, HAVINGS };
 static const char *const having_names[HAVINGS] = {
-    "sound states", "with a counter that is not 0", "with a Time-Code that waits", "with the 128 at a port that stands still"};
+    "sound states", "with a counter that is not 0", "with a Time-Code that waits", "with the 128 at a port that stands still",
+    "with an event that is held", "with an acknowledge of one that waits"};
 static size having[HAVINGS];
 
-static void count_times(struct state *state) {
+static void count_havings(const struct plan *plan, struct state *state) {
     flag has[HAVINGS] = {[ANYTHING] = 1};
+    u32 events = events_of(plan);
     for (u32 i = 0; i < DEVICES * PORTS; i++) {
         u32 d = i / PORTS, p = i % PORTS, time = *time_word(state, d, p);
         has[A_COUNTER] |= *counter_word(state, d) != 0;
         has[ONE_WAITS] |= time % AFTER_TIME != 0;
         has[LAST_AND_STILL] |= time == AFTER_TIME && !port_words(state, d, p)[AT_RUNNING];
+        has[AN_EVENT] |= (*device_words(state, d) & events) != 0;
+        has[OF_EVENT] |= (port_words(state, d, p)[AT_ACKNOWLEDGES] & events) != 0;
     }
     for (u32 h = 0; h < HAVINGS; h++)
         having[h] += has[h];
@@ -88,7 +92,7 @@ void sound_state(struct plan *plan, struct state *state) {
         if (timed)
             sound_times(plan, state, d, time, times);
     }
-    count_times(state);
+    count_havings(plan, state);
 }
 
 /* The clauses, in the order of the functions below. */

@@ -145,6 +145,15 @@ void try_calls(struct plan *plan) {
     }
 }
 
+/* Any call, and what it does to events. */
+static void call_in_run(struct plan *plan, struct state *state) {
+    static struct state before;
+    struct change change = likely_change(plan);
+    before = *state;
+    try_likely(change, plan, state);
+    events_in_call(plan, &before, state, &change);
+}
+
 /* Rounds with calls between them, the state handed on. */
 void try_run(struct plan *plan, u32 rounds) {
     static struct state state;
@@ -155,8 +164,9 @@ void try_run(struct plan *plan, u32 rounds) {
     right_lengths(&played);
     for (u32 calls = pick(5); rounds; rounds--) {
         for (u32 i = pick(1 + calls); i; i--)
-            try_likely(likely_change(plan), plan, &state);
+            call_in_run(plan, &state);
         must_be("a round", 0, try_round(plan, &state, &played));
+        events_in_round(plan, &state, &played);
         state = played.next;
     }
 }

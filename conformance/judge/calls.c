@@ -16,7 +16,7 @@ static flag any_sends(const struct device *node, enum kind kind) {
     return 0;
 }
 
-/* A request sets the bit and an acknowledge clears it; all else is the same for both. */
+/* A request sets the bit and an acknowledge clears it; all else is the same for both, but that no event is acknowledged. */
 u32 host_asks(struct network *net, size device, enum kind kind, u32 k) {
     if (device >= net->devices)
         return 4;
@@ -26,6 +26,8 @@ u32 host_asks(struct network *net, size device, enum kind kind, u32 k) {
     flag wanted = kind == INTERRUPT;
     if (!(wanted ? node->source[k] : node->handler[k]))
         return 6; /* a router is neither */
+    if (kind == ACKNOWLEDGE && net->event[k])
+        return 13;
     if (!any_runs(node))
         return 7;
     if (!any_sends(node, kind))

@@ -32,6 +32,11 @@ void permit(u32 permissions, flag may_send[], flag may_receive[]) {
     may_receive[ACKNOWLEDGE] = permissions & 8;
 }
 
+void mask_read(u32 mask, flag member[]) {
+    for (u32 k = 0; k < IDENTIFIERS; k++)
+        member[k] = mask >> k & 1;
+}
+
 /* Any Time-Code becomes the counter, and one that is just above it is taken, whatever the port is and may. */
 static enum action react_to_time(flag router, u32 *counter, u32 value) {
     flag above = (*counter + 1) % TIMES == value;
@@ -39,8 +44,10 @@ static enum action react_to_time(flag router, u32 *counter, u32 value) {
     return !above ? NAMED : router ? FORWARDED : TELLS_HOST;
 }
 
-/* The order is the paper's: a stopped port is a link error even where nothing may be received. */
-enum action react(flag router, flag running, const flag may_receive[], flag set[], u32 *counter, struct code code) {
+/* The order is the paper's: a stopped port is a link error even where nothing may be received. An event is not acknowledged,
+ * whatever its bit is: a timer clears that, or a reset. */
+enum action react(flag router, flag running, const flag may_receive[], const flag event[], flag set[], u32 *counter,
+                  struct code code) {
     if (code.kind == TIME_CODE)
         return react_to_time(router, counter, code.value);
     if (code.kind == RESERVED)
@@ -48,6 +55,8 @@ enum action react(flag router, flag running, const flag may_receive[], flag set[
     if (!running)
         return LINK_ERROR;
     if (!may_receive[code.kind])
+        return IGNORED;
+    if (code.kind == ACKNOWLEDGE && event[code.value])
         return IGNORED;
     flag wanted = code.kind == INTERRUPT;
     if (set[code.value] == wanted)
@@ -74,14 +83,14 @@ u32 judge_code_write(u32 kind, u32 value, u32 *byte) {
 }
 
 /* The code is handed on as it was read, whatever is done with it. */
-u32 judge_react(u32 role, u32 running, u32 permissions, u32 *device_register, u32 *counter, u8 byte, u32 *kind, u32 *top,
-                u32 *value) {
-    flag may_send[ACKNOWLEDGE + 1], may_receive[ACKNOWLEDGE + 1], set[IDENTIFIERS];
+u32 judge_react(u32 role, u32 running, u32 permissions, u32 events, u32 *device_register, u32 *counter, u8 byte, u32 *kind,
+                u32 *top, u32 *value) {
+    flag may_send[ACKNOWLEDGE + 1], may_receive[ACKNOWLEDGE + 1], event[IDENTIFIERS], set[IDENTIFIERS];
     *kind = judge_code_read(byte, top, value);
     permit(permissions, may_send, may_receive);
-    for (u32 k = 0; k < IDENTIFIERS; k++)
-        set[k] = *device_register >> k & 1;
-    enum action action = react(role != 0, running != 0, may_receive, set, counter, (struct code){*kind, *value});
+    mask_read(events, event);
+    mask_read(*device_register, set);
+    enum action action = react(role != 0, running != 0, may_receive, event, set, counter, (struct code){*kind, *value});
     *device_register = 0;
     for (u32 k = 0; k < IDENTIFIERS; k++)
         *device_register |= (u32)set[k] << k;

@@ -3,7 +3,7 @@
 
 /* An entry of a port in a device's block: peer device, peer port, permissions, zero. */
 enum { FIRST_ENTRY = 12, ENTRY = 4, PEER_DEVICE = 0, PEER_PORT = 1, PERMISSIONS = 2, SPARE = 3, NOWHERE = 255 };
-enum { BEHIND_LOADS = 6, MASTER = 10, BEHIND_FIELDS = FIRST_ENTRY + ENTRY * PORTS, CHECK_AT = 510 };
+enum { EVENTS = 6, MASTER = 10, BEHIND_FIELDS = FIRST_ENTRY + ENTRY * PORTS, CHECK_AT = 510 };
 
 static u32 number_at(const u8 *at, u32 bytes) {
     return bytes ? at[0] + 256 * number_at(at + 1, bytes - 1) : 0;
@@ -42,7 +42,8 @@ static u32 block_0_read(struct network *net, const u8 *block) {
     if (block[MASTER] > net->devices)
         return 23;
     net->master = block[MASTER] ? block[MASTER] - 1 : NO_MASTER;
-    return zero(block, BEHIND_LOADS, MASTER) && zero(block, MASTER + 1, CHECK_AT) ? 0 : 24;
+    mask_read(number_at(block + EVENTS, 4), net->event); /* any of them: no mask is refused */
+    return zero(block, MASTER + 1, CHECK_AT) ? 0 : 24;
 }
 
 static flag entry_good(const u8 *entry, flag exists, u32 devices) {
@@ -54,14 +55,13 @@ static flag entry_good(const u8 *entry, flag exists, u32 devices) {
 
 /* Role, ports, and the masks: both 0 for a router, with no common bit for a node. */
 static flag role_read(struct device *device, const u8 *block) {
-    u32 source = number_at(block + 4, 4), handler = number_at(block + 8, 4);
     if (block[2] > 1)
         return 0;
     device->router = block[2] == 1;
     device->ports = block[3];
+    mask_read(number_at(block + 4, 4), device->source);
+    mask_read(number_at(block + 8, 4), device->handler);
     for (u32 k = 0; k < IDENTIFIERS; k++) {
-        device->source[k] = source >> k & 1;
-        device->handler[k] = handler >> k & 1;
         if (device->source[k] && (device->router || device->handler[k]))
             return 0;
         if (device->handler[k] && device->router)
@@ -104,6 +104,14 @@ static flag connect(struct network *net, const u8 *file, u32 device, u32 port) {
     return back[PEER_DEVICE] == device && back[PEER_PORT] == port && end->peer != end;
 }
 
+/* An acknowledge answers one request, so that what is acknowledged has one source at most. An event may have any number. */
+static flag sources_good(const struct network *net, u32 k) {
+    u32 sources = 0;
+    for (u32 d = 0; d < net->devices; d++)
+        sources += net->device[d].source[k];
+    return net->event[k] || sources <= 1;
+}
+
 u32 file_read(struct network *net, const u8 *file, size length, u32 *block) {
     *block = 0;
     if (length < BLOCK || length > LONGEST_FILE || length % BLOCK != 0)
@@ -127,6 +135,9 @@ u32 file_read(struct network *net, const u8 *file, size length, u32 *block) {
                 return 26;
     }
     *block = 0;
+    for (u32 k = 0; k < IDENTIFIERS; k++)
+        if (!sources_good(net, k))
+            return 27;
     return 0;
 }
 

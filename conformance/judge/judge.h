@@ -63,6 +63,7 @@ struct device {
 struct network {
     u32 devices, router_load, node_load;
     u32 master; /* a device, or NO_MASTER */
+    flag event[IDENTIFIERS]; /* in the un-acknowledged profile */
     struct device device[DEVICES];
 };
 
@@ -72,10 +73,13 @@ struct told {
     u32 word[TOLD_WORDS];
 };
 
-/* code.c: codes, and one device's reaction, which changes the register and the counter and says what is done. */
+/* code.c: codes, and one device's reaction, which changes the register and the counter and says what is done. A mask becomes a
+ * flag for each identifier. */
 u32 code_byte(struct code code);
 void permit(u32 permissions, flag may_send[], flag may_receive[]);
-enum action react(flag router, flag running, const flag may_receive[], flag set[], u32 *counter, struct code code);
+void mask_read(u32 mask, flag member[]);
+enum action react(flag router, flag running, const flag may_receive[], const flag event[], flag set[], u32 *counter,
+                  struct code code);
 
 /* file.c: the number of the first fault in a plan file, or 0 with the plan in the network. */
 u32 block_check(const u8 *block);
@@ -103,8 +107,8 @@ u32 crossings(const struct network *net, u32 start, enum kind kind, const u32 *w
 /* The calls, as in include/bench.h. */
 u32 judge_code_read(u8 byte, u32 *top, u32 *value);
 u32 judge_code_write(u32 kind, u32 value, u32 *byte);
-u32 judge_react(u32 role, u32 running, u32 permissions, u32 *device_register, u32 *counter, u8 byte, u32 *kind, u32 *top,
-                u32 *value);
+u32 judge_react(u32 role, u32 running, u32 permissions, u32 events, u32 *device_register, u32 *counter, u8 byte, u32 *kind,
+                u32 *top, u32 *value);
 u32 judge_plan_read(const u8 *file, size length, u32 *block);
 u32 judge_start(const u8 *plan, size plan_length, u32 *state, size state_length);
 u32 judge_request(const u8 *plan, size plan_length, u32 *state, size state_length, size device, u32 k);

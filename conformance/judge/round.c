@@ -62,7 +62,7 @@ static void send(struct port *port) {
 /* Step 3, for one code. Time-Codes have no timers. */
 static void arrive(struct network *net, struct port *port, struct code code, struct told *told) {
     struct device *device = port->device;
-    enum action action = react(device->router, port->running, port->may_receive, device->set, &device->counter, code);
+    enum action action = react(device->router, port->running, port->may_receive, net->event, device->set, &device->counter, code);
     if (action != FORWARDED && action != TELLS_HOST)
         return;
     u32 load = device->router ? net->router_load : net->node_load;
