@@ -4,38 +4,12 @@
  *
  *     bin/example incident < examples/incident.plan
  */
-#include "bench.h"
-
-/* The kit's compiler has no headers of C's library. */
-long read(int file, void *into, unsigned long size);
-int printf(const char *format, ...);
-_Noreturn void exit(int status);
+#include "host.h"
 
 enum { SOURCE = 3, HANDLER = 4, IDENTIFIER = 7 };
 
 /* How a told word is made up: kind x 65,536 + device x 256 + identifier. */
 enum { TOLD = 1 * 65536 + HANDLER * 256 + IDENTIFIER };
-
-/* An array as the two parameters that an area is. */
-#define AREA(array) (array), sizeof(array) / sizeof *(array)
-
-/* One byte more than a plan file can have shows that a file is too long. */
-static bench_u8 file[BENCH_FILE + 1];
-static bench_size length;
-
-/* A round builds the next state in another area, so two of them take turns. */
-static bench_u32 states[2][BENCH_STATE];
-static int now;
-static bench_u32 sent[BENCH_SENT];
-static bench_u32 told[BENCH_TOLD];
-
-/* Ends the program where a call was refused. */
-static void must(const char *call, bench_u32 number) {
-    if (number) {
-        printf("%s is refused by %u\n", call, number);
-        exit(1);
-    }
-}
 
 /* The network starts afresh, and everybody requests. */
 static void begin(void) {
@@ -49,11 +23,9 @@ static void begin(void) {
 static bench_u32 play(bench_u32 rounds) {
     bench_u32 times = 0;
     for (; rounds; rounds--) {
-        bench_u32 count;
-        must("round", bench_round(file, length, AREA(states[now]), AREA(states[!now]), AREA(sent), AREA(told), &count));
+        bench_u32 count = play_round();
         for (bench_u32 i = 0; i < count; i++)
             times += told[i] == TOLD;
-        now = !now;
     }
     return times;
 }
@@ -68,17 +40,7 @@ static void acknowledge_after(bench_u32 wait) {
 }
 
 int main(void) {
-    long got;
-    while ((got = read(0, file + length, sizeof file - length)) > 0)
-        length += got;
-
-    bench_u32 block;
-    bench_u32 bad = bench_plan_read(file, length, &block);
-    if (bad) {
-        printf("the plan is refused by %u in block %u\n", bad, block);
-        return 1;
-    }
-
+    read_plan();
     printf("interrupt %u of device %u, handled by device %u\n", IDENTIFIER, SOURCE, HANDLER);
     acknowledge_after(4);
 

@@ -14,6 +14,7 @@ class Plan:
 
     def __init__(self, router_load, node_load):
         self.loads = (router_load, node_load)
+        self.events = ()
         self.master = None
         self.devices = []
 
@@ -37,7 +38,7 @@ class Plan:
     def file(self):
         router, node = self.loads
         master = 0 if self.master is None else 1 + self.master
-        blocks = [sealed(bytes([1, len(self.devices)]) + two(router) + two(node) + bytes([0, 0, 0, 0, master]))]
+        blocks = [sealed(bytes([1, len(self.devices)]) + two(router) + two(node) + four(mask(self.events)) + bytes([master]))]
         for d, device in enumerate(self.devices):
             fields = bytes([2, d, device["role"], device["ports"]]) + four(device["source"]) + four(device["handler"])
             blocks.append(sealed(fields + b"".join(bytes(e) for e in device["entries"])))
@@ -280,6 +281,23 @@ def timed():
     return plan
 
 
+def events():
+    """Three science units that send event 9, and one of them event 10 as well, on two routers with two links between them. A recorder hears both
+    events and confirms none. Beside these is 5, which the second unit requests and the computer, the master of time, acknowledges."""
+    plan = Plan(1500, 1600)
+    routers = [plan.router(4), plan.router(5)]
+    units = [plan.node(source=[9]), plan.node(source=[5, 9]), plan.node(source=[9, 10])]
+    recorder, computer = plan.node(handler=[9, 10]), plan.node(handler=[5])
+    for p in range(2):
+        plan.join((routers[0], p), (routers[1], p))
+    for near, far in (((units[0], 0), (routers[0], 2)), ((units[1], 0), (routers[0], 3)), ((units[2], 0), (routers[1], 2)),
+                      ((recorder, 0), (routers[1], 3)), ((computer, 0), (routers[1], 4))):
+        plan.join(near, far)
+    plan.events = [9, 10]
+    plan.master = computer
+    return plan
+
+
 def idle():
     """One node, joined to nothing, and no source: the smallest file there is."""
     plan = Plan(1, 1)
@@ -289,5 +307,5 @@ def idle():
 
 if __name__ == "__main__":
     folder = pathlib.Path(sys.argv[1] if len(sys.argv) > 1 else pathlib.Path(__file__).parent)
-    for make in (three, ring, tree, torus, full, loop, brief, mute, incident, mesh, chain, never, fading, twice, refused, strapped, cut, parted, timed, idle):
+    for make in (three, ring, tree, torus, full, loop, brief, mute, incident, mesh, chain, never, fading, twice, refused, strapped, cut, parted, timed, events, idle):
         (folder / f"{make.__name__}.plan").write_bytes(make().file())

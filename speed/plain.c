@@ -10,11 +10,12 @@ void *memset(void *, int, usize);
 enum { INTERRUPT, ACKNOWLEDGE };
 enum { NONE = BENCH_NOTHING, NEXT = BENCH_NEXT, RUNNING = BENCH_RUNNING };
 
-/* Of the word of a port's Time-Code: what waits, plus 1, and whether one was sent last. In block 0 the byte of the master. */
-enum { WAITING = 127, LAST = 128, MASTER = 10 };
+/* Of the word of a port's Time-Code: what waits, plus 1, and whether one was sent last. In block 0 the set of events, and the byte
+   of the master. */
+enum { WAITING = 127, LAST = 128, EVENTS = 6, MASTER = 10 };
 
 struct plan {
-    u32 devices, loads[2], master; /* or NONE */
+    u32 devices, loads[2], events, master; /* or NONE */
     u8 role[32], ports[32];
     u32 source[32], handler[32];
     u8 permissions[BENCH_SENT];
@@ -74,6 +75,16 @@ static void load_device(const u8 *b, u32 d, struct plan *plan) {
     }
 }
 
+/* Does an identifier that is no event have two sources? Of all sources seen so far one set is enough. */
+static int two_sources(const struct plan *plan) {
+    u32 seen = 0, again = 0;
+    for (u32 d = 0; d < plan->devices; d++) {
+        again |= seen & plan->source[d];
+        seen |= plan->source[d];
+    }
+    return (again & ~plan->events) != 0;
+}
+
 static u32 read_plan(const u8 *file, usize length, struct plan *plan, u32 *block) {
     *block = 0;
     if (length < 512 || length > BENCH_FILE || length % 512)
@@ -83,11 +94,9 @@ static u32 read_plan(const u8 *file, usize length, struct plan *plan, u32 *block
     u32 bad = any_block(file, MASTER + 1, good, file[0] == 1);
     if (bad)
         return bad;
-    if (four(file + 6))
-        return 24;
     if (length != 512 * (1 + n))
         return 25;
-    *plan = (struct plan){.devices = n, .loads = {node, router}, .master = master};
+    *plan = (struct plan){.devices = n, .loads = {node, router}, .events = four(file + EVENTS), .master = master};
     for (u32 d = 0; d < n; d++) {
         const u8 *b = file + 512 * (1 + d);
         *block = 1 + d;
@@ -102,7 +111,7 @@ static u32 read_plan(const u8 *file, usize length, struct plan *plan, u32 *block
             return 26;
     }
     *block = 0;
-    return 0;
+    return two_sources(plan) ? 27 : 0;
 }
 
 /* ---- the state */
@@ -270,6 +279,8 @@ static u32 arrive(const struct plan *plan, const u32 *sent, u32 *next, u32 *told
             }
             u32 kind = sent[peer] >= 160, k = sent[peer] % 32, *w = next + device_at(d);
             if (!next[port_at(q) + RUNNING] || !(plan->permissions[q] >> (2 * kind + 1) & 1) || (w[0] >> k & 1) != kind)
+                continue;
+            if (kind & plan->events >> k) /* nobody takes an acknowledge of an event */
                 continue;
             w[0] ^= 1u << k;
             w[1 + k] = kind == ACKNOWLEDGE ? 0 : plan->loads[plan->role[d]];

@@ -108,6 +108,22 @@ static double median(double *x, int n) {
     return x[n / 2];
 }
 
+static void must_agree(const char *what) {
+    for (int which = 1; which < ALL; which++)
+        if (memcmp(&given[OURS], &given[which], sizeof given[OURS])) {
+            printf("%s comes to something else in C\n", what);
+            exit(1);
+        }
+}
+
+/* A call that has no row in the table, once by each. */
+static void compare(const char *what, call *work) {
+    memset(given, 0, sizeof given);
+    for (int which = 0; which < ALL; which++)
+        work(&benches[which], &given[which]);
+    must_agree(what);
+}
+
 /* How often each is timed. */
 enum { MOST_RUNS = 31 };
 static int runs;
@@ -123,11 +139,7 @@ static void race(const char *what, const char *waiting, call *work) {
     for (int run = 0; run < runs; run++)
         for (int which = 0; which < ALL; which++)
             t[which][run] = timed(work, which, turns);
-    for (int which = 1; which < ALL; which++)
-        if (memcmp(&given[OURS], &given[which], sizeof given[OURS])) {
-            printf("%s comes to something else in C\n", what);
-            exit(1);
-        }
+    must_agree(what);
     for (int which = 0; which < ALL; which++)
         us[which] = median(t[which], runs) / 1000;
     printf("| %s | %u | %s | %.2f | %.2f | %.2f | %.2f | %.2f |\n", what, file[1], waiting, us[OURS], us[PLAIN], us[JUDGE],
@@ -135,6 +147,9 @@ static void race(const char *what, const char *waiting, call *work) {
 }
 
 /* ---- networks of any size */
+
+/* Where block 0 has the set of events. */
+enum { EVENTS = 6 };
 
 static void seal(u8 *block) {
     u32 sum = 0;
@@ -204,6 +219,12 @@ static void with_times(void) {
             before[BENCH_TIMES + q] = 2 + (random(q) & 129);
 }
 
+/* Every second identifier is an event: of what waits, the acknowledges of these are ignored where they arrive. */
+static void with_events(void) {
+    memset(file + EVENTS, 0x55, 4);
+    seal(file);
+}
+
 /* How the cost grows with devices, and with the identifiers that every port has waiting. */
 static void growth(u32 n) {
     static const u32 sets[] = {0, 1, 0xff, 0xffffffff};
@@ -223,6 +244,9 @@ static void growth(u32 n) {
         busy(sets[i]);
         race("settle", names[i], settle);
     }
+    with_events();
+    compare("a round with events", round);
+    compare("settle with events", settle);
 }
 
 static void report_of(const char *name) {

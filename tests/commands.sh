@@ -23,6 +23,7 @@ example settle
 example decode
 example 'example incident'
 example 'example cycle'
+example 'example event'
 
 # So does the program that the README's line for a C compiler makes, where there is one for x86-64.
 if [ "$(uname -m)" = x86_64 ] && command -v cc >/dev/null 2>&1; then

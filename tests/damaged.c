@@ -143,7 +143,7 @@ static void name_masters_together(void) {
     say("master 3, and spoiled in", 3, LONGEST_FILE);
     copy = whole;
     put(0, MASTER, 33);
-    put(0, MASTER - 1, 1);
+    put(0, MASTER + 1, 1);
     say("master 33, and zero in", 0, LONGEST_FILE);
     put(0, 1, 31);
     say("and devices", 31, LONGEST_FILE);
@@ -168,8 +168,104 @@ static void try_together(void) {
     put(0, 1, 31);
     spoil(1, LAST_ZERO, 1);
     say("count, and spoiled in", 1, LONGEST_FILE);
-    put(0, 6, 1);
+    put(0, MASTER + 1, 1);
     say("and zero in", 0, LONGEST_FILE);
+}
+
+/* ---- events, which are the set in bytes 6 to 9 of block 0, and two sources of what is none */
+
+static void put_events(u32 set) {
+    put_number(copy.bytes + EVENTS, 4, set);
+    seal(&copy, 0);
+}
+
+/* The device of a block is a source of k too. */
+static void add_source(u32 block, u32 k) {
+    u32 at = SOURCES + k / 8;
+    put(block, at, copy.bytes[BLOCK * block + at] | 1 << k % 8);
+}
+
+/* Any set is accepted, and its bytes are under the check as all are. */
+static void name_events(void) {
+    static const u32 sets[] = {0, 1, 0xff, 0x8000, 0x10000, 0x80000000, 0x7fffffff, 0xffffffff};
+    for (u32 i = 0; i < sizeof sets / sizeof *sets; i++) {
+        copy = whole;
+        put_events(sets[i]);
+        say("events", sets[i], LONGEST_FILE);
+    }
+    for (u32 at = EVENTS; at < EVENTS + 4; at++) {
+        copy = whole;
+        spoil(0, at, 1);
+        say("events spoiled in byte", at, LONGEST_FILE);
+    }
+}
+
+/* The last device is a source of k as well: beside no events, beside k, and beside all others. It is the only source of 23, and the
+ * handler of 11. */
+static void double_source(u32 k) {
+    copy = whole;
+    add_source(DEVICES, k);
+    say("second source of", k, LONGEST_FILE);
+    put_events((u32)1 << k);
+    say("which is an event,", k, LONGEST_FILE);
+    put_events(~((u32)1 << k));
+    say("where all others are,", k, LONGEST_FILE);
+}
+
+/* Sources of 0, which device 8 is in block 9: one more in a block before it, which is a router's; behind it, and in the last one;
+ * then all nodes but its handler. With 0 for an event these are accepted, but for the router's. */
+static void crowd_sources(void) {
+    static const u32 blocks[] = {8, 10, DEVICES};
+    for (u32 i = 0; i < sizeof blocks / sizeof *blocks; i++) {
+        copy = whole;
+        add_source(blocks[i], 0);
+        say("0 also in", blocks[i], LONGEST_FILE);
+        put_events(1);
+        say("as an event in", blocks[i], LONGEST_FILE);
+    }
+    copy = whole;
+    for (u32 block = 9; block <= DEVICES; block++)
+        if (!in_mask(&copy, block - 1, HANDLERS, 0))
+            add_source(block, 0);
+    say("0 in all from", 9, LONGEST_FILE);
+    put_events(1);
+    say("as an event from", 9, LONGEST_FILE);
+}
+
+/* Two identifiers have two sources, and one of them is an event, or both are. */
+static void double_two(void) {
+    static const u32 sets[] = {0, 1, 2, 3};
+    copy = whole;
+    add_source(DEVICES, 0);
+    add_source(DEVICES, 1);
+    for (u32 i = 0; i < sizeof sets / sizeof *sets; i++) {
+        put_events(sets[i]);
+        say("second sources of 0 and 1, events", sets[i], LONGEST_FILE);
+    }
+}
+
+/* Two sources, and a fault more, which is answered: 27 is the last of the tests. */
+static void double_together(void) {
+    static const struct {
+        const char *done;
+        u32 block, at;
+        u8 byte;
+    } faults[] = {{"load", 0, 3, 255}, {"zero", 0, LAST_ZERO, 1}, {"devices", 0, 1, 31}, {"master", 0, MASTER, 1},
+                  {"kind", DEVICES, 0, 7}, {"role", DEVICES, 2, 7}, {"zero", DEVICES, LAST_ZERO, 1},
+                  {"other port", DEVICES, PORT + 1, 7}};
+    for (u32 i = 0; i < sizeof faults / sizeof *faults; i++) {
+        copy = whole;
+        add_source(10, 0);
+        put(faults[i].block, faults[i].at, faults[i].byte);
+        printf("second source, and ");
+        say(faults[i].done, faults[i].block, LONGEST_FILE);
+    }
+    copy = whole;
+    add_source(10, 0);
+    loosen(DEVICES);
+    say("second source, and loose", DEVICES, LONGEST_FILE);
+    spoil(DEVICES, LAST_ZERO, 1);
+    say("and spoiled in", DEVICES, LONGEST_FILE);
 }
 
 int main(int count, char **words) {
@@ -193,5 +289,11 @@ int main(int count, char **words) {
     try_together();
     name_masters();
     name_masters_together();
+    name_events();
+    for (u32 k = 0; k < IDENTIFIERS; k++)
+        double_source(k);
+    crowd_sources();
+    double_two();
+    double_together();
     return 0;
 }

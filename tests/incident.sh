@@ -7,13 +7,10 @@ here=$(pwd -P)
 . bin/toolchain.sh
 work=$(mktemp -d)
 trap 'rm -rf "$work"' EXIT
+example=incident
+. tests/example
 
-bin/example incident <examples/incident.plan >"$work/given"
-cmp "$work/given" tests/expected/incident.txt
-
-by_judge examples/incident.c "$work/judged"
-run "$work/judged" <examples/incident.plan >"$work/given"
-cmp "$work/given" tests/expected/incident.txt
+plays incident
 
 # For its input the example ends with this line, and fails.
 fails() {

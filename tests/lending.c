@@ -345,14 +345,20 @@ static bench_u32 standing(unsigned i) {
     return value;
 }
 
-/* A byte comes to a router, whose register stands at the first place and its counter at the second; both are put there again. */
+/* The only event of the router that bytes come to. */
+enum { EVENT = 11 };
+
+/* A byte comes to a router, whose register stands at the first place and its counter at the second; both are put there again. An
+ * interrupt is taken where its bit is clear and an acknowledge where it is set, but no acknowledge of the event. */
 static void try_reaction(bench_u8 byte, bench_u32 kind, bench_u32 top, bench_u32 value, unsigned way) {
     choose(way);
-    bench_u32 held = standing(0), counter = standing(1), bit = kind == BENCH_INTERRUPT ? 1u << value : 0;
-    int time = kind == BENCH_TIME, taken = time ? (counter + 1) % 64 == value : bit && !(held & bit);
-    must_stand((bench_u32[]){held | bit, time ? value : counter, kind, top, value}, 5,
-               bench_react(1, 1, 15, place[0], place[1], byte, place[2], place[3], place[4]),
-               taken ? BENCH_FORWARDED : bit ? BENCH_IGNORED : BENCH_NAMED);
+    int time = kind == BENCH_TIME, back = kind == BENCH_ACKNOWLEDGE, coded = back || kind == BENCH_INTERRUPT;
+    bench_u32 held = standing(0), counter = standing(1), bit = coded ? 1u << value : 0;
+    int ready = coded && (back ? value != EVENT && held & bit : !(held & bit));
+    int taken = time ? (counter + 1) % 64 == value : ready;
+    must_stand((bench_u32[]){ready ? held ^ bit : held, time ? value : counter, kind, top, value}, 5,
+               bench_react(1, 1, 15, 1u << EVENT, place[0], place[1], byte, place[2], place[3], place[4]),
+               taken ? BENCH_FORWARDED : coded ? BENCH_IGNORED : BENCH_NAMED);
 }
 
 /* A byte is read; a code is written; and the byte comes to a router. */
@@ -374,6 +380,9 @@ static void try_codes(void) {
         try_code(next, BENCH_TIME, 0, next, way);
         try_code(40, BENCH_TIME, 0, 40, way);
         try_code(128 + 9, BENCH_INTERRUPT, 2, 9, way);
+        try_code(160 + 9, BENCH_ACKNOWLEDGE, 2, 9, way);
+        try_code(128 + EVENT, BENCH_INTERRUPT, 2, EVENT, way);
+        try_code(160 + EVENT, BENCH_ACKNOWLEDGE, 2, EVENT, way);
         try_code(64 + 5, BENCH_RESERVED, 1, 5, way);
         try_code(192 + 63, BENCH_RESERVED, 3, 63, way);
     }

@@ -79,6 +79,18 @@ static void take_plan(void) {
     close(file);
 }
 
+/* Other loads than the plan has, of routers and of nodes. */
+static void change_loads(void) {
+    u32 router = number(), node = number();
+    set_loads(&plan, router, node);
+}
+
+/* Other events than the plan has. */
+static void change_events(void) {
+    put_number(plan.bytes + EVENTS, 4, number());
+    seal(&plan, 0);
+}
+
 /* Where the state has anything of Time-Codes: the counters of all devices, and device, port and word of each port whose Time-Code
  * word is not 0. */
 static void print_times(void) {
@@ -144,6 +156,14 @@ static void put_last(void) {
     state.words[STATE_WORDS - 1] = number();
 }
 
+/* Makes an acknowledge wait at a port, whether a call could do so or not: device, port, identifier. */
+static void put_waiting(void) {
+    u32 device = number(), port = number(), k = number();
+    if (device >= DEVICES || port >= PORTS || k >= IDENTIFIERS)
+        wrong("there is no such port or identifier");
+    state.words[FIRST_PORT + PORT_WORDS * (PORTS * device + port) + AT_ACKNOWLEDGES] |= (u32)1 << k;
+}
+
 static void print_round(void) {
     for (u32 i = 0; i < SENT_WORDS; i++)
         if (played.sent[i] != SENT_NONE)
@@ -196,11 +216,13 @@ static void read_byte(void) {
     printf("%s: %s %u %u\n", line, kinds[kind], value_given(0), value_given(1));
 }
 
-/* A byte arrives at a port of a device with this role and register, and, where it is timed, with this counter, which is 0 else: what
- * is done, the register afterwards, the counter where it is timed, and the code that is handed on, as above. */
+/* A byte arrives at a port of a device with this role and register, in a network with these events, and, where it is timed, with this
+ * counter, which is 0 else: what is done, the register afterwards, the counter where it is timed, and the code that is handed on,
+ * as above. */
 static void arrive(flag timed) {
-    u32 role = number(), running = number(), permissions = number(), bits = number(), counter = timed ? number() : 0;
-    u32 action = try_react(role, running, permissions, &bits, &counter, byte());
+    u32 role = number(), running = number(), permissions = number(), events = number(), bits = number();
+    u32 counter = timed ? number() : 0;
+    u32 action = try_react(role, running, permissions, events, &bits, &counter, byte());
     printf("%s: %s %u", line, actions[action], bits);
     if (timed)
         printf(" %u", counter);
@@ -239,10 +261,10 @@ static const struct word {
     const char *name;
     void (*play)(void);
 } words[] = {
-    {"--", print_title}, {"#", pass_over}, {"plan", take_plan}, {"start", start_afresh}, {"request", ask},
-    {"acknowledge", acknowledge}, {"link", link}, {"reset", reset}, {"tick", tick}, {"last", put_last},
-    {"rounds", play_rounds}, {"settle", settle_all}, {"byte", read_byte}, {"arrives", arrive_anyhow}, {"comes", arrive_timed},
-    {"lengths", try_lengths}, {"report", print_report},
+    {"--", print_title}, {"#", pass_over}, {"plan", take_plan}, {"loads", change_loads}, {"events", change_events},
+    {"start", start_afresh}, {"request", ask}, {"acknowledge", acknowledge}, {"link", link}, {"reset", reset}, {"tick", tick},
+    {"last", put_last}, {"waits", put_waiting}, {"rounds", play_rounds}, {"settle", settle_all}, {"byte", read_byte},
+    {"arrives", arrive_anyhow}, {"comes", arrive_timed}, {"lengths", try_lengths}, {"report", print_report},
 };
 
 static const struct word *word_of_line(void) {

@@ -7,7 +7,8 @@ here=$(pwd -P)
 . bin/toolchain.sh
 work=$(mktemp -d)
 trap 'rm -rf "$work"' EXIT
-judged "$work/scripts" tests/scripts.c conformance/driver/compare.c conformance/driver/random.c
+driver=conformance/driver
+judged "$work/scripts" tests/scripts.c $driver/compare.c $driver/plans.c $driver/random.c
 
 # Plays standard input, and holds what is printed to a stored file.
 plays() {
@@ -27,8 +28,9 @@ fails() {
     [ "$status" = 1 ] && [ "$(tail -n 1 "$work/given")" = "in line 3: $1" ] || { echo "played: $1"; exit 1; }
 }
 for line in 'requests 0 5' 'req 0 5' 'r 0 5' 'request' 'request 0' 'request 0 5 5' 'request 0 x' 'request 0  5' ' rounds 1' \
-    'rounds 1234567890' 'link 0 0' 'link 0 0 0 1' 'tick' 'tick 0 0' 'tick x' 'byte' 'byte 256' 'arrives 1 1 15 0' \
-    'arrives 1 1 15 0 0 133' 'comes 1 1 15 0 133' 'lengths 1' 'plan' 'plan gone.plan'; do
+    'rounds 1234567890' 'link 0 0' 'link 0 0 0 1' 'tick' 'tick 0 0' 'tick x' 'byte' 'byte 256' 'arrives 1 1 15 0 0' \
+    'arrives 1 1 15 0 0 0 133' 'comes 1 1 15 0 0 133' 'lengths 1' 'plan' 'plan gone.plan' 'loads 9' 'loads 9 9 9' 'events' \
+    'events 0 9' 'waits 0 0' 'waits 32 0 5' 'waits 0 8 5' 'waits 0 0 32'; do
     fails "$line"
 done
 echo "scripts: ok"

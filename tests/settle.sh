@@ -4,6 +4,7 @@
 # refuse are in tests/damaged.sh.
 set -eu
 cd "$(dirname "$0")/.."
+. tests/put
 work=$(mktemp -d)
 trap 'rm -rf "$work"' EXIT
 
@@ -44,22 +45,6 @@ for n in 16897 17408 100000; do cat $full /dev/zero | head -c $n | refuses 20 0;
 { cat $full; sleep 0.1; echo; } | refuses 20 0
 for n in 512 16384; do head -c $n $full | refuses 25 0; done
 
-# A byte of the file.
-spoil() {
-    printf "\\$(printf %03o "$2")" | dd of="$work/file" bs=1 seek="$1" conv=notrunc 2>/dev/null
-}
-
-# A byte of a block, and the block's check made right again.
-put() {
-    at=$((512 * $1))
-    was=$(od -An -tu1 -j $((at + $2)) -N 1 "$work/file")
-    check=$(od -An -tu2 -j $((at + 510)) -N 2 "$work/file")
-    check=$((((check + ($2 + 1) * ($3 - was)) % 65521 + 65521) % 65521))
-    spoil $((at + $2)) "$3"
-    spoil $((at + 510)) $((check % 256))
-    spoil $((at + 511)) $((check / 256))
-}
-
 # A node that has a second port, with no link at it, is the same network.
 cp $full "$work/file"
 put 32 3 2
@@ -68,6 +53,20 @@ prints "$(stored $full)" <"$work/file"
 # So it is with a node as master, as nobody ticks here.
 put 0 10 32
 prints "$(stored $full)" <"$work/file"
+
+# And with events, as nobody acknowledges here: some, then all identifiers.
+put 0 6 1
+put 0 9 128
+prints "$(stored $full)" <"$work/file"
+for at in 6 7 8 9; do put 0 $at 255; done
+prints "$(stored $full)" <"$work/file"
+
+# An event may have a second source, device 9 for event 0 of device 8: a line more. What is no event may not.
+put 10 4 3
+awk '/^9 1 / { print "9 0 4 32" } 1' "$(stored $full)" >"$work/wanted"
+prints "$work/wanted" <"$work/file"
+put 0 6 254
+refuses 27 0 <"$work/file"
 
 for block in 0 1 17 32; do
     cp $full "$work/file"
@@ -83,14 +82,14 @@ done <<'END'
 0 1 0 23 0
 0 1 33 23 0
 0 3 255 23 0
-0 6 1 24 0
-0 9 1 24 0
 0 10 33 23 0
 0 10 1 23 1
 0 10 8 23 8
 0 11 1 24 0
 0 509 1 24 0
 0 1 31 25 0
+10 4 3 27 0
+32 4 1 27 0
 1 0 1 22 1
 1 1 1 22 1
 1 2 0 23 1

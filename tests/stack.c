@@ -38,7 +38,7 @@ static void code_write(void) {
 }
 
 static void react(void) {
-    bench_react(1, 1, 15, &bits, &counter, 133, &kind, &top, &value);
+    bench_react(1, 1, 15, 0, &bits, &counter, 133, &kind, &top, &value);
 }
 
 static void plan_read(void) {

@@ -1,0 +1,34 @@
+#!/bin/sh
+# An event from C, requested by two of its sources in turn. What the example has to print is stored, and is what it prints with
+# the judge in the place of the bench. Where a plan does not meet its conditions it says so in one line.
+set -eu
+cd "$(dirname "$0")/.."
+here=$(pwd -P)
+. bin/toolchain.sh
+. tests/put
+work=$(mktemp -d)
+trap 'rm -rf "$work"' EXIT
+example=event
+. tests/example
+plan=examples/events.plan
+
+plays events
+refuses "no event has two sources and a handler" <examples/ring.plan
+head -c 1024 $plan | refuses "the plan is refused by 25 in block 0"
+cat examples/full.plan examples/idle.plan | refuses "the plan is refused by 20 in block 0"
+
+# The plan with one byte changed: a router's load of 220; another source that hears no interrupts; 9 and 10 no events, so that 9
+# may not have three sources; and 10 alone an event, which has one.
+changed() {
+    cp $plan "$work/file"
+    put "$@"
+}
+changed 0 3 0
+refuses "timers are too short: a load is 220, and has to be above 448" <"$work/file"
+changed 4 14 13
+refuses "event 9 of device 2 does not reach device 3" <"$work/file"
+for events in 0 4; do
+    changed 0 7 $events
+    refuses "the plan is refused by 27 in block 0" <"$work/file"
+done
+echo "event: ok"
