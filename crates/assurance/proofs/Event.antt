@@ -1,7 +1,7 @@
 -- What takes the place of the return trip for an event, proved: demand 3's window brings it everywhere; behind it nothing of it is under way, and
 -- each timer runs down.
 use mathlib.Core.Path.{_≡_, refl, sym, ap, _∙_}
-use mathlib.Core.Bool.{Bool, true, false, _&&_}
+use mathlib.Core.Bool.{false, _&&_}
 use mathlib.Core.List.{[]}
 use mathlib.Core.Logic.{_⊎_, inl, inr, _≢_, dite}
 use Prim.Native.Nat.{ℕ, suc, _+_, _-_, _*_, _≤_, _<_}
@@ -23,7 +23,7 @@ use Rattle.state.specs.Network.{devices, role, router, permissions, loadOf}
 use Rattle.state.specs.Sound.{Sound}
 use Rattle.state.proofs.Plans.{few, masked, load-most}
 use Rattle.calls.specs.Calls.{callAsks, called}
-use Rattle.bench.specs.Round.{ofInterrupt, ofAcknowledge, ofTimeout, round}
+use Rattle.bench.specs.Round.{ofInterrupt, ofTimeout, round}
 use Rattle.laws.specs.Alike.{SendsIt}
 use Rattle.laws.specs.Telling.{toldBy}
 use Rattle.laws.specs.Timing.{Unaccepted}
@@ -34,8 +34,8 @@ use Rattle.reach.specs.Walk.{Any, Walk, stay}
 use Rattle.reach.specs.Away.{Away}
 use Rattle.reach.proofs.Distances.{any?, walk-device, nearest}
 use Rattle.reach.proofs.Found.{none-away}
-use Rattle.assurance.specs.Demand3.{Calls, Course, crossing, window, SendsK, Given as Window}
-use Rattle.assurance.specs.Return.{Told, Gets}
+use Rattle.assurance.specs.Demand3.{crossing, window, SendsK}
+use Rattle.assurance.specs.Return.{Gets}
 use Rattle.assurance.specs.Cycle.{AtRest}
 use Rattle.assurance.specs.Clock.{HearsIn}
 use Rattle.assurance.specs.Event.{lasting, Event, Hears, Fades, OneEvent, Events, none, rest, event, AllFade, AnyEvents}

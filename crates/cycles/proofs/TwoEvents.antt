@@ -4,7 +4,6 @@ use native.Mathlib.Omega.{arith}
 use Rattle.bits.specs.Set.{bit}
 use Rattle.state.specs.Start.{started}
 use Rattle.calls.specs.Calls.{called}
-use Rattle.bench.specs.Settling.{rounds}
 use Rattle.assurance.specs.Demand3.{none as no-call}
 use Rattle.assurance.specs.Cycle.{AtRest}
 use Rattle.assurance.specs.Event.{lasting, Events, none, event, AllFade, AnyEvents}

@@ -1,7 +1,7 @@
 -- What a reaction can change: of the register only the bit of the identifier concerned; the counter where a Time-Code comes, and nothing else
--- then; nothing for a reserved byte, or for an accepted code that comes again. What it hands on: the code that was read.
+-- then; nothing for a reserved byte, for an acknowledge of an event, or for an accepted code that comes again. What it hands on: the code that was read.
 use mathlib.Core.Path.{_≡_, refl, sym, ap, subst, _∙_}
-use mathlib.Core.Bool.{Bool, true, false, cond, false≢true}
+use mathlib.Core.Bool.{Bool, true, false, cond}
 use mathlib.Core.Logic.{_⊎_, inl, inr, _≢_}
 use Prim.Native.Nat.{ℕ, zero, suc, _-_, _<_}
 use native.Mathlib.Omega.{arith}
@@ -13,12 +13,12 @@ use Rattle.codes.specs.Codes.{reads, cameAs}
 use Rattle.codes.specs.declared.Code.{Code}
 use Rattle.codes.specs.declared.Code.the-variants.{Time, Interrupt, Acknowledge, Reserved}
 use Rattle.codes.proofs.BothWays.{Stands, stands, time, interrupt, acknowledge, byte-comes-back}
-use Rattle.device.specs.Reaction.{marked, kept, nextTime, passedOn, isUsed, ruled, counted, reactsTo, reacts, codeIn}
+use Rattle.device.specs.Reaction.{marked, kept, nextTime, passedOn, ruled, counted, reactsTo, reacts, codeIn}
 use Rattle.device.specs.declared.Action.{Action}
 use Rattle.device.specs.declared.Action.the-variants.{Named, LinkError, Ignored, Forwarded, Told}
 use Rattle.device.specs.declared.Reaction.{Reaction}
 use Rattle.device.specs.declared.Side.{Side}
-use Rattle.device.proofs.Rule.{Accepts, opposite, ruled-cases}
+use Rattle.device.proofs.Rule.{event-unused, Accepts, opposite, ruled-cases}
 
 -- ---- the bit that is marked, and the others
 
@@ -115,13 +115,13 @@ module _ (side : Side) (register counter : ℕ) where
 
   pub event-stays : (byte k : ℕ) → reads byte ≡ Acknowledge k → bit (side .events) k ≡ 1
       → (reacts side register counter byte .register ≡ register) × (Accepted (reacts side register counter byte .action) (Acknowledge k) → ⊥)
-  unfolding reacts reactsTo rank isUsed
+  unfolding reacts reactsTo rank
   event-stays byte k e v =
       rw e
       (ruled-cases (λ r. (r .register ≡ register) × (Accepted (r .action) (Acknowledge k) → ⊥)) side register counter 1 k (Acknowledge k)
       (λ n. (refl, not-accepted (LinkError (Acknowledge k)) (Acknowledge k) (omega arith)))
       (λ n. (refl, not-accepted (Ignored (Acknowledge k)) (Acknowledge k) (omega arith)))
-      (λ o. absurd (false≢true (sym (ne-eqb (bit (side .events) k) 0 (omega arith)) ∙ o .used))))
+      (λ o. absurd (event-unused (side .events) k v (o .used))))
 
   -- ---- whatever is done with a byte, its code is handed on
 

@@ -2,6 +2,7 @@
 use mathlib.Core.Path.{_≡_, refl, sym, _∙_}
 use mathlib.Core.Bool.{Bool, true, false, cond, false≢true}
 use Prim.Native.Nat.{ℕ}
+use native.Mathlib.Omega.{arith}
 use lib.Dec.{eqb}
 use borrow.Author.Tests.{eq-eqb, ne-eqb, eqb-true, eqb-false}
 use Rattle.bits.specs.Set.{bit}
@@ -12,6 +13,11 @@ use Rattle.device.specs.declared.Action.{Action}
 use Rattle.device.specs.declared.Action.the-variants.{LinkError, Ignored}
 use Rattle.device.specs.declared.Reaction.{Reaction}
 use Rattle.device.specs.declared.Side.{Side}
+
+-- no acknowledge of an event is in use
+pub event-unused : (events k : ℕ) → bit events k ≡ 1 → isUsed events 1 k ≡ true → ⊥
+unfolding isUsed
+event-unused events k v u = false≢true (sym (ne-eqb (bit events k) 0 (omega arith)) ∙ u)
 
 -- what it takes for a code to be accepted
 pub record Accepts (side : Side) (register kind k : ℕ) : Type 0 where

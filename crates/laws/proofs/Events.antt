@@ -1,42 +1,35 @@
 -- Only a timer or a reset clears the bit of an event: no acknowledge of one is taken, by a call or where it arrives.
-use mathlib.Core.Path.{_≡_, refl, sym, _∙_}
-use mathlib.Core.Bool.{true, false, false≢true}
-use Prim.Native.Nat.{ℕ, suc, _+_, _-_, _*_, _/_, _<_}
+use mathlib.Core.Path.{_≡_, refl}
+use Prim.Native.Nat.{ℕ, _+_, _-_, _*_, _<_}
 use native.Mathlib.Decide.{ℕ-discrete}
 use native.Mathlib.Omega.{arith}
-use borrow.Author.Tests.{ne-eqb}
 use Rattle.answers.proofs.Outcomes.{Holds, holds}
 use Rattle.bits.specs.Set.{bit}
-use Rattle.device.specs.Reaction.{isUsed}
+use Rattle.device.proofs.Rule.{event-unused}
 use Rattle.plan.specs.Reading.{Held}
 use Rattle.plan.specs.declared.Plan.{Plan}
 use Rattle.state.specs.State.{State, register, timer}
 use Rattle.state.specs.Network.{devices, events}
 use Rattle.state.specs.Sound.{Sound}
 use Rattle.state.proofs.Plans.{few}
-use Rattle.calls.specs.Calls.{callAsks, deviceAsks}
+use Rattle.calls.specs.Calls.{callAsks}
 use Rattle.bench.specs.Round.{round as Round·round, sentBytes}
 use Rattle.laws.specs.Timing.{before, NoneAccepted}
 use Rattle.laws.specs.Events.{Step, host, tick, link, reset, round, Clears, OnlyTimers}
 use Rattle.laws.proofs.Accepting.{arrives-opens}
-use Rattle.laws.proofs.Timers.{timed-bit, runs-on, round-falls}
-use Rattle.laws.proofs.Staying.{Stays, host-stays, tick-stays, link-stays, reset-stays, by-number}
-
--- an acknowledge of an event is not in use
-unused : (events k : ℕ) → bit events k ≡ 1 → isUsed events 1 k ≡ true → ⊥
-unfolding isUsed
-unused events k v u = false≢true (sym (ne-eqb (bit events k) 0 (omega arith)) ∙ u)
+use Rattle.laws.proofs.Timers.{runs-on, round-falls}
+use Rattle.laws.proofs.Staying.{host-stays, tick-stays, link-stays, reset-stays, by-number}
 
 module _ (plan : Plan) (held : Held plan) (d k : ℕ) (h : d < devices plan) (l : k < 32) (event : bit (events plan) k ≡ 1) where
   -- no host's is taken
   pub no-answer : (s : State) → Holds (callAsks plan 1 d k s) → ⊥
-  no-answer s (_, (_, (_, (_, (_, (used, _)))))) = unused (events plan) k event used
+  no-answer s (_, (_, (_, (_, (_, (used, _)))))) = event-unused (events plan) k event used
 
   -- and none that arrives is
   pub none-accepted : (s : State) → NoneAccepted plan s d 1 k
   none-accepted s p b a =
       let n = few plan held in
-      unused (events plan) k event (arrives-opens plan (sentBytes plan s) (8 * d + p) (before plan s (8 * d + p)) 1 k (omega arith) l (a .0) (a .1) .used)
+      event-unused (events plan) k event (arrives-opens plan (sentBytes plan s) (8 * d + p) (before plan s (8 * d + p)) 1 k (omega arith) l (a .0) (a .1) .used)
 
   module _ (s : State) (x : Sound plan s) (on : bit (register s d) k ≡ 1) where
     -- a timer that does not end keeps the bit

@@ -14,7 +14,7 @@ use Rattle.lists.proofs.Tests.{and-left}
 use Rattle.plan.specs.Block.{block}
 use Rattle.plan.specs.Fields.{loadsFit, joins, sourcesFit}
 use Rattle.plan.specs.Header.{headerIn, headerOf, headerFits}
-use Rattle.plan.specs.Refusals.{deviceBlock, countIn, masterIn, eventsIn, sourceOf}
+use Rattle.plan.specs.Refusals.{deviceBlock, countIn, masterIn}
 use Rattle.plan.specs.Reading.{Accepted}
 use Rattle.plan.specs.declared.Header.{Header}
 use Rattle.plan.specs.declared.Plan.{Plan}

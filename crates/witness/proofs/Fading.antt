@@ -10,13 +10,13 @@ use Rattle.lists.specs.Table.{every}
 use Rattle.lists.proofs.Tests.{every-at}
 use Rattle.bits.specs.Set.{bit}
 use Rattle.device.specs.Permissions.{maySend, mayReceive}
-use Rattle.state.specs.State.{register, waiting}
+use Rattle.state.specs.State.{register}
 use Rattle.state.specs.Network.{devices, loadFor, loadOf}
 use Rattle.calls.specs.Calls.{called}
 use Rattle.reach.specs.Walk.{Leads, Walk, stay, cross}
 use Rattle.reach.specs.Away.{Farthest}
 use Rattle.reach.proofs.Found.{none-away}
-use Rattle.assurance.specs.Demand3.{Course, crossing, window, Given}
+use Rattle.assurance.specs.Demand3.{Course, crossing, window}
 use Rattle.assurance.specs.Event.{lasting, Event, Fades, OneEvent}
 use Rattle.assurance.proofs.Event.{one-event}
 use Rattle.assurance.proofs.Instances.{farthest-of}

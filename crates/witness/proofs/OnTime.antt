@@ -16,7 +16,7 @@ use Rattle.bits.specs.Set.{bit, join, leave}
 use Rattle.bits.specs.First.{searched, firstFrom}
 use Rattle.codes.specs.Codes.{reads}
 use Rattle.device.specs.Permissions.{maySend, mayReceive}
-use Rattle.device.specs.Reaction.{isUsed, ruled, counted, reactsTo, reacts}
+use Rattle.device.specs.Reaction.{ruled, counted, reactsTo, reacts}
 use Rattle.state.specs.State.{State, word, put, running, counter, timeWaits, stateOf}
 use Rattle.state.specs.Network.{devices, exists, loadFor}
 use Rattle.state.specs.Queue.{queueAt, queueAllAt, queueTime, queueTimeAll}
