@@ -22,3 +22,9 @@ pub record Outcome {S : Type 0} (conditions : List Condition) (before done : S) 
   pub answers : Ordered conditions number
   pub made : number ≡ 0 → after ≡ done
   pub kept : (number ≡ 0 → ⊥) → after ≡ before
+
+-- a call that gives a value beside what it leaves in an area: done, both are right; refused, the value is 0 and the area is as it was
+pub record Tells {S : Type 0} (conditions : List Condition) (Right : ℕ → S → Type 0) (before : S) (number value : ℕ) (after : S) : Type 0 where
+  pub answers : Ordered conditions number
+  pub made : number ≡ 0 → Right value after
+  pub kept : (number ≡ 0 → ⊥) → (value ≡ 0) × (after ≡ before)

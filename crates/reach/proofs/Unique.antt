@@ -1,14 +1,17 @@
--- The promise of `reach` allows one result.
+-- The promise of each public function allows one result.
 use mathlib.Core.Path.{_≡_, sym, ap, _∙_}
+use mathlib.Core.List.{List}
 use Prim.Native.Nat.{ℕ, _<_}
 use native.Mathlib.Decide.{ℕ-discrete}
 use native.Mathlib.Omega.{arith}
+use Rattle.answers.specs.Ordered.{Ordered}
 use Rattle.answers.proofs.Unique.{ordered-once}
 use Rattle.bits.specs.Set.{bit, size}
 use Rattle.bits.proofs.Sets.{bit-two, same-members}
 use Rattle.plan.specs.declared.Plan.{Plan}
 use Rattle.state.specs.State.{State}
-use Rattle.reach.specs.Reach.{Reached, reachAsks, Reaches}
+use Rattle.reach.specs.Reach.{Reached, sourceAsks, reachAsks, Reaches}
+use Rattle.reach.specs.Visits.{aheadAll}
 
 module _ (plan : Plan) (s : State) (d k : ℕ) where
   -- what is in one set of those reached is in the other
@@ -40,3 +43,12 @@ module _ (plan : Plan) (s : State) (d k : ℕ) where
             let b = q .kept (λ f. z (e ∙ f)) in
             (e, a .1 ∙ sym (b .1), a .0 ∙ sym (b .0))
       ]
+
+-- ---- what other crates use
+
+pub source-refusal-unique : (n : ℕ) (sources : List ℕ) (d k x y : ℕ) → Ordered (sourceAsks n sources d k) x → Ordered (sourceAsks n sources d k) y → x ≡ y
+source-refusal-unique n sources d k = ordered-once (sourceAsks n sources d k)
+
+pub ahead-all-unique : (permissions : List ℕ) (peers : List (List ℕ)) (s : State) (k : ℕ) (x y : List ℕ) → x ≡ aheadAll permissions peers s k
+    → y ≡ aheadAll permissions peers s k → x ≡ y
+ahead-all-unique permissions peers s k x y p q = p ∙ sym q

@@ -2,11 +2,12 @@
 use mathlib.Core.Path.{_≡_}
 use mathlib.Core.List.{List, [], _∷_, _++_}
 use Prim.Native.Nat.{ℕ, _^_, _<_}
+use lib.ListN.{getD}
 use Rattle.answers.specs.Ordered.{Condition, ask, Ordered}
 use Rattle.bits.specs.Set.{bit, size}
 use Rattle.plan.specs.declared.Plan.{Plan}
 use Rattle.state.specs.State.{State}
-use Rattle.state.specs.Network.{devices, source}
+use Rattle.state.specs.Network.{devices}
 use Rattle.state.specs.Sound.{stateAsks}
 use Rattle.reach.specs.Walk.{Walk}
 
@@ -16,9 +17,12 @@ pub record Reached (plan : Plan) (s : State) (d k set : ℕ) : Type 0 where
   pub only : (e : ℕ) → e < 32 → bit set e ≡ 1 → (n : ℕ) × Walk plan s 0 k d n e
   pub all : (n e : ℕ) → Walk plan s 0 k d n e → (e < 32) × (bit set e ≡ 1)
 
+-- what is asked of a source and an identifier, by how many devices there are and what each is a source of
+abbrev pub sourceAsks : ℕ → List ℕ → ℕ → ℕ → List Condition
+sourceAsks n sources d k = ask 4 (d < n) ∷ ask 5 (k < 32) ∷ ask 6 (bit (getD sources d 0) k ≡ 1) ∷ []
+
 abbrev pub reachAsks : Plan → State → ℕ → ℕ → List Condition
-reachAsks plan s d k =
-    stateAsks plan s ++ (ask 4 (d < devices plan) ∷ ask 5 (k < 32) ∷ ask 6 (bit (source plan d) k ≡ 1) ∷ [])
+reachAsks plan s d k = stateAsks plan s ++ sourceAsks (devices plan) (plan .core .source) d k
 
 -- done, the value is how many devices there are in the set of those reached; refused, both are 0
 pub record Reaches (plan : Plan) (s : State) (d k number value set : ℕ) : Type 0 where

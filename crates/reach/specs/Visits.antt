@@ -4,12 +4,13 @@ use mathlib.Core.Bool.{Bool, cond, _&&_}
 use mathlib.Core.List.{List}
 use Prim.Native.Nat.{ℕ, zero, suc, _+_, _*_, _/_}
 use lib.Dec.{eqb, ltb}
-use lib.ListN.{getD}
+use lib.ListN.{length, getD}
+use Rattle.lists.specs.Table.{table}
 use Rattle.bits.specs.Set.{bit, join}
 use Rattle.device.specs.Permissions.{maySend, mayReceive}
 use Rattle.plan.specs.Fields.{nobody}
 use Rattle.plan.specs.declared.Plan.{Plan}
-use Rattle.state.specs.State.{State, running}
+use Rattle.state.specs.State.{State, words, running}
 use Rattle.state.specs.Network.{peerIn}
 
 -- ---- by what stands in the arrays of a plan
@@ -23,6 +24,10 @@ module _ (permissions : List ℕ) (peers : List (List ℕ)) (s : State) (k : ℕ
   -- the device that port q leads to, or 32
   unfoldable pub ahead : ℕ → ℕ
   ahead q = cond (leads q) (peerIn peers q / 8) 32
+
+  -- of all ports; in an area that is no state nothing leads anywhere
+  unfoldable pub aheadAll : List ℕ
+  aheadAll = table 256 (λ q. cond (eqb (length s) words) (ahead q) 32)
 
 -- ---- by what is ahead of each port
 

@@ -1,11 +1,13 @@
 // The reach of an identifier: the devices that its interrupts come to from a source.
-ghost use Rattle.reach.specs.Reach.{Reaches};
+ghost use Rattle.answers.specs.Ordered.{Ordered};
+ghost use Rattle.reach.specs.Reach.{sourceAsks, Reaches};
 
 pub mod answer;
 mod visits;
 
 use answer::Reach;
 use plan::Plan;
+pub use visits::ahead_all;
 
 // The devices that interrupts of identifier k reach from a device, by running and permitted links,
 // through routers. Refused by 1, 2, 4, 5 and 6.
@@ -17,14 +19,10 @@ pub fn reach(plan: Plan, state: &[u32], device: usize, k: u32) -> Reach
         return answer::refused(number);
     }
     let core = plan.core;
-    if core.devices <= device {
-        return answer::refused(4);
-    }
-    if 31 < k {
-        return answer::refused(5);
-    }
-    if bits::get(core.source[device], k) != 1 {
-        return answer::refused(6);
+    let source = core.source;
+    let asked = source_refusal(core.devices, &source, device, k);
+    if asked != 0 {
+        return answer::refused(asked);
     }
     let role = core.role;
     let peers = plan::peers_of(plan);
@@ -35,4 +33,25 @@ pub fn reach(plan: Plan, state: &[u32], device: usize, k: u32) -> Reach
         value: bits::count(set),
         set: set,
     }
+}
+
+// The first of 4, 5 and 6 that a source and an identifier are refused by, where there are n devices and
+// these are the identifiers that each is a source of; 0 for none.
+pub fn source_refusal(n: usize, sources: &[u32], device: usize, k: u32) -> u32
+    ensures { λ r. ⌜ Ordered (sourceAsks n (now (sources .entry)) device k) r ⌝ }
+{
+    if n <= device {
+        return 4;
+    }
+    if 31 < k {
+        return 5;
+    }
+    // A device behind the list is a source of nothing.
+    if sources.len() <= device {
+        return 6;
+    }
+    if bits::get(sources[device], k) != 1 {
+        return 6;
+    }
+    0
 }

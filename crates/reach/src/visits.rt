@@ -7,7 +7,7 @@ ghost use lib.ListN.{length, getD};
 ghost use Rattle.device.specs.Permissions.{maySend, mayReceive};
 ghost use Rattle.state.specs.State.{words, portAt, runningAt};
 ghost use Rattle.reach.specs.inner.Depth.{left, Finds};
-ghost use Rattle.reach.specs.Visits.{ahead as Visits·ahead, deviceVisit, portVisit};
+ghost use Rattle.reach.specs.Visits.{ahead as Visits·ahead, aheadAll, deviceVisit, portVisit};
 
 // As wide as a port's number here is.
 const NOBODY: usize = plan::NOBODY as usize;
@@ -52,6 +52,25 @@ fn ahead(permissions: &[u8; 256], peers: &[[u16; 8]; 32], state: &[u32], k: u32,
         return 32;
     }
     far / 8
+}
+
+// What is ahead of each port for k. In an area that is no state nothing leads anywhere.
+pub fn ahead_all(
+    permissions: &[u8; 256],
+    peers: &[[u16; 8]; 32],
+    state: &[u32],
+    k: u32,
+) -> [usize; 256]
+    ensures { λ r. ⌜ r ≡ aheadAll (now (permissions .entry)) (now (peers .entry)) (now (state .entry)) k ⌝ }
+{
+    let mut all = [32usize; 256];
+    if state.len() != state::WORDS {
+        return all;
+    }
+    for q in 0..256 {
+        all[q] = ahead(permissions, peers, state, k, q);
+    }
+    all
 }
 
 // Device d joins the set, if it exists and was not met before, and a router passes on.

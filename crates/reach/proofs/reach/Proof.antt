@@ -1,7 +1,6 @@
 -- `reach::reach` meets its contract: each refusal by its branch, and what the visits find is what is reached. Assumes nothing.
-use mathlib.Core.Path.{_≡_, refl, sym, _∙_}
+use mathlib.Core.Path.{_≡_, refl, sym, subst, _∙_}
 use mathlib.Core.List.{List}
-use mathlib.Core.Logic.{inl, inr}
 use Prim.Native.Nat.{ℕ, _+_, _-_, _<_}
 use native.Mathlib.Omega.{arith}
 use borrow.Author.Needs.{needs}
@@ -14,7 +13,7 @@ use Rattle.plan.specs.declared.Plan.{Plan}
 use Rattle.state.specs.State.{State}
 use Rattle.state.specs.Sound.{stateAsks}
 use Rattle.state.proofs.Plans.{few}
-use Rattle.reach.specs.Reach.{Reached, reachAsks, Reaches}
+use Rattle.reach.specs.Reach.{Reached, sourceAsks, reachAsks, Reaches}
 use Rattle.reach.specs.Visits.{ahead, portVisit, visited}
 use Rattle.reach.specs.inner.Depth.{left, Finds}
 use Rattle.reach.proofs.Found.{visits-reach}
@@ -44,9 +43,6 @@ reached plan s d k peers start r h e j w =
 ready : (c : tie.Else1) → Holds (stateAsks (c .before .before .before .args .plan) (now (c .before .before .before .args .state)))
 ready c = holds (stateAsks _ _) refl (c .before .refusal .ensures) (c .if1 .left)
 
-small : (c : tie.Else2) → c .before .before .before .before .before .args .device < 32
-small c = omega (arith, few _ (ready (c .before .before) .0), c .if2 .left)
-
 returns : tie.Need-returns
 returns c =
     let r = c .before .before in
@@ -54,44 +50,33 @@ returns c =
     refuses _ _ _ _ _ _ _ _ (c .refused .ensures) (c .before .if1 .taken)
     (stopped (stateAsks _ _) (drop 2 (reachAsks (a .plan) (now (a .state)) (a .device) (a .k))) (r .refusal .ensures) (c .before .if1 .taken))
 
+-- source and identifier are as they have to be
+asked : (c : tie.Else2) → let a = c .before .before .before .before .before .before .before .before .args in
+    Holds (sourceAsks (a .plan .core .devices) (a .plan .core .source) (a .device) (a .k))
+asked c = let a = c .before .before .before .before .before .before .before .before .args in holds (sourceAsks (a .plan .core .devices) (a .plan .core .source) (a .device) (a .k)) refl (c .before .source-refusal .ensures) (c .if2 .left)
+
+small : (c : tie.Else2) → c .before .before .before .before .before .before .before .before .args .device < 32
+small c = omega (arith, few _ (ready (c .before .before .before .before .before) .0), asked c .0)
+
 returns-2 : tie.Need-returns-2
 returns-2 c =
-    refuses _ _ _ _ 4 _ _ _ (c .refused2 .ensures) (λ z. omega arith) (behind _ _ _ _ 4 (ready (c .before .before .before)) (inl (λ l. omega arith, refl)))
-
-returns-3 : tie.Need-returns-3
-returns-3 c =
-    let f = c .before .before in
-    refuses _ _ _ _ 5 _ _ _ (c .refused3 .ensures) (λ z. omega arith)
-    (behind _ _ _ _ 5 (ready (f .before .before)) (inr (f .if2 .left, inl (λ l. omega arith, refl))))
-
-mul-get : tie.Need-mul-get
-mul-get c = omega (arith, small (c .before))
-
-element-copy-out-get : tie.Need-element-copy-out-get
-element-copy-out-get c = omega (arith, small (c .before))
-
-returns-4 : tie.Need-returns-4
-returns-4 c =
-    let g = c .before in
-    let f = g .before .before .before .before in
-    refuses _ _ _ _ 6 _ _ _ (c .refused4 .ensures) (λ z. omega arith)
-    (behind _ _ _ _ 6 (ready (f .before .before)) (inr (f .if2 .left, inr (omega arith, inl (λ b. g .if4 .taken (g .before .get .ensures ∙ b), refl)))))
+    let a = c .before .before in
+    refuses _ _ _ _ _ _ _ _ (c .refused2 .ensures) (c .before .if2 .taken) (behind _ _ _ _ _ (ready (a .before .before .before .before)) (a .source-refusal .ensures))
 
 cast-join : tie.Need-cast-join
-cast-join c = omega (arith, small (c .before .before .before .before .before .before))
+cast-join c = omega (arith, small (c .before .before))
 
 port-requires : tie.Need-port-requires
 port-requires c κs =
-    let f = c .before .before .before .before .before .before .before .before .before .before .before in
-    omega (arith, small f, ready (f .before .before) .1 .0 .size)
+    let f = c .before .before .before .before .before .before .before in
+    omega (arith, small f, ready (f .before .before .before .before .before) .1 .0 .size)
 
-returns-5 : tie.Need-returns-5
-returns-5 c =
+returns-3 : tie.Need-returns-3
+returns-3 c =
     let j = c .before .before .before .before .before .before in
-    let g = j .before .before .before in
-    let f = g .before .before .before .before in
+    let f = j .before .before .before in
     record {
-      answers = behind _ _ _ _ 0 (ready (f .before .before)) (inr (f .if2 .left, inr (omega arith, inr (sym (g .before .get .ensures) ∙ g .if4 .left, refl))));
+      answers = subst (Ordered (reachAsks _ _ _ _)) (f .if2 .left) (behind _ _ _ _ _ (ready (f .before .before .before .before .before)) (f .before .source-refusal .ensures));
       made = λ _. (reached _ _ _ _ _ _ _ (small f) (j .before .peers-of .ensures) (j .join .ensures) (c .before .port .ensures), c .count .ensures);
       kept = λ n. absurd (n refl);
     }
@@ -105,14 +90,8 @@ refused-requires c κs = search needs
 refused-requires-2 : tie.Need-refused-requires-2
 refused-requires-2 c κs = search needs
 
-refused-requires-3 : tie.Need-refused-requires-3
-refused-requires-3 c κs = search needs
-
-get-requires : tie.Need-get-requires
-get-requires c κs = search needs
-
-refused-requires-4 : tie.Need-refused-requires-4
-refused-requires-4 c κs = search needs
+source-refusal-requires : tie.Need-source-refusal-requires
+source-refusal-requires c κs = search needs
 
 peers-of-requires : tie.Need-peers-of-requires
 peers-of-requires c κs = search needs
@@ -130,18 +109,13 @@ reach-spec =
     refusal-requires
     refused-requires
     returns
+    (λ c. search needs)
+    source-refusal-requires
     refused-requires-2
     returns-2
-    refused-requires-3
-    returns-3
-    mul-get
-    element-copy-out-get
-    get-requires
-    refused-requires-4
-    returns-4
     peers-of-requires
     cast-join
     join-requires
     port-requires
     count-requires
-    returns-5)
+    returns-3)

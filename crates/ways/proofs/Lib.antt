@@ -1,0 +1,9 @@
+pub mod LayerLaws
+pub mod Steps
+pub mod Shortest
+pub mod Counted
+pub mod Fails
+pub mod Unique
+pub mod Agree
+pub mod Listed
+pub mod Answered

@@ -1,0 +1,5 @@
+pub mod Calls
+pub mod Crossings
+pub mod Chain
+pub mod Cut
+pub mod inner
