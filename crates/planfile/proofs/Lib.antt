@@ -1,5 +1,6 @@
 pub mod Gaps
 pub mod Marked
+pub mod Numbers
 pub mod Places
 pub mod Plans
 pub mod ReaderAnswers
@@ -7,5 +8,6 @@ pub mod Running
 pub mod SameConnections
 pub mod Scans
 pub mod Unique
+pub mod WasRead
 pub mod WriterAnswers
 pub mod WrittenBlocks

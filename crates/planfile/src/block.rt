@@ -1,6 +1,6 @@
 // Any block of a plan file: its numbers, its check, its zeros, and how they are read and written.
 ghost use mathlib.Core.Path.{_≡_};
-ghost use Prim.Native.Nat.{_+_, _<_, _≤_};
+ghost use Prim.Native.Nat.{_+_, _*_, _<_, _≤_};
 ghost use lib.ListN.{length};
 ghost use Rattle.plan.specs.Block.{numberAt, check as Block·check, checked as Block·checked};
 ghost use Rattle.plan.specs.inner.File.{putNumber, cleared, sealed};
@@ -28,9 +28,14 @@ pub(crate) fn four(block: &[u8], i: usize) -> u32
     requires { ⌜ i + 3 < length (now block) ⌝ }
     ensures { λ r. ⌜ r ≡ numberAt (now (block .entry)) i 4 ⌝ }
 {
-    let low = two(block, i);
-    let high = two(block, i + 2);
-    (low + 65536 * high) as u32
+    number_of(block[i], block[i + 1], block[i + 2], block[i + 3])
+}
+
+// The number of four bytes, for whoever has them, here or in a file of another kind.
+pub fn number_of(a: u8, b: u8, c: u8, d: u8) -> u32
+    ensures { λ r. ⌜ r ≡ a + 256 * (b + 256 * (c + 256 * d)) ⌝ }
+{
+    a as u32 + 256 * (b as u32 + 256 * (c as u32 + 256 * (d as u32)))
 }
 
 // Puts a number of so many bytes from i on; of a larger one the lowest bytes.

@@ -6,5 +6,6 @@ mod header;
 mod reader;
 mod writer;
 
+pub use block::number_of;
 pub use reader::read;
 pub use writer::write;

@@ -15,13 +15,14 @@ use Rattle.plan.specs.declared.Plan.{Plan}
 use Rattle.plan.proofs.BothWays.{held-devices}
 use Rattle.text.specs.Text.{ascii}
 use Rattle.text.proofs.Decimal.{decimal-short}
+use Rattle.text.proofs.Parts.{puts-nothing}
 use Rattle.state.specs.Network.{devices, source}
 use Rattle.bench.specs.Settling.{rounds, mostRounds}
 use Rattle.bench.specs.Trials.{requested, Answered, Tries, refused, settled, waiting}
 use Rattle.bench.proofs.Tried.{holders-few}
 use Rattle.report.specs.Report.{field, line, none, pass, more}
 use Rattle.report.specs.inner.Pieces.{longestLine, longestLines, PutsPlace, PutsLines}
-use Rattle.report.proofs.Parts.{puts-nothing, field-refused}
+use Rattle.report.proofs.Parts.{field-refused}
 
 -- no request is refused by a number above 9: 13 is for acknowledges
 number-few : (plan : Plan) (d k : ℕ) {n : ℕ} → Answered plan d k n → n ≤ 9

@@ -3,55 +3,35 @@ use mathlib.Core.Path.{_≡_, refl, sym, ap, subst, _∙_}
 use mathlib.Core.Logic.{inl, inr}
 use mathlib.Core.List.{List, _++_}
 use Prim.Native.Nat.{ℕ, _+_, _*_, _^_, _≤_, _<_}
-use native.Mathlib.Nat.{zero-add}
 use native.Mathlib.Omega.{arith}
-use lib.ListN.{length, getD, drop, length-append}
-use Rattle.areas.specs.Put.{Puts, over}
+use lib.ListN.{length, length-append}
+use Rattle.areas.specs.Put.{Puts}
 use Rattle.lists.specs.Table.{table}
-use Rattle.areas.proofs.Puts.{over-put, joined, next-place}
-use Rattle.plan.specs.Refusals.{verdict}
-use Rattle.plan.specs.Reading.{planOf, Held, reads}
+use Rattle.areas.proofs.Puts.{joined}
+use Rattle.plan.specs.Reading.{Held, reads}
 use Rattle.plan.specs.declared.Plan.{Plan}
 use Rattle.plan.specs.declared.Read.{Read}
-use Rattle.plan.proofs.BothWays.{read-held, held-devices}
-use Rattle.text.specs.Text.{ascii}
+use Rattle.plan.proofs.BothWays.{held-devices}
+use Rattle.planfile.proofs.WasRead.{number-is, accepts, plan-is}
+use Rattle.text.specs.Text.{ascii, bad}
 use Rattle.text.proofs.Decimal.{decimal-short}
+use Rattle.text.proofs.Parts.{length-headed, bad-short, in-front, over-room}
 use Rattle.state.specs.State.{words}
 use Rattle.state.specs.Network.{devices}
 use Rattle.bench.specs.Trials.{Finds, Lent, Fits as Trials·Fits, TriesAll}
-use Rattle.report.specs.Report.{Lines, heading, bad, Prints, refused, network, Areas, longest, Fits, Reports, lent}
+use Rattle.report.specs.Report.{Lines, heading, Prints, refused, network, Areas, longest, Fits, Reports, lent}
 use Rattle.report.specs.inner.Pieces.{PutsLines, PutsText}
 
--- ---- how long the first line is, and the text of a refused file
+-- ---- how long the first line is
 
 pub heading-short : (n : ℕ) → n ≤ 32 → length (heading n) ≤ 11
-unfolding heading ascii
-heading-short n h = simp length-append (omega (arith, decimal-short 1 n (omega (arith, h))))
-
--- by numbers of 32 bits
-pub bad-short : (number block : ℕ) → number < 2 ^ 32 → block < 2 ^ 32 → length (bad number block) ≤ 26
-unfolding bad ascii
-bad-short number block h l =
-    simp length-append (omega (arith, decimal-short 9 number (omega (arith, h)), decimal-short 9 block (omega (arith, l))))
+unfolding ascii
+heading-short n h = omega (arith, length-headed (ascii "network ") n, decimal-short 1 n (omega (arith, h)))
 
 -- ---- what was read
 
 module _ (file : List ℕ) {read : Read} (e : read ≡ reads file) where
-  number-is : read .number ≡ verdict file .number
-  unfolding reads
-  number-is = ap (λ (x : Read). x .number) e
-
   module _ (z : read .number ≡ 0) where
-    accepts : verdict file .number ≡ 0
-    accepts = sym number-is ∙ z
-
-    plan-is : read .plan ≡ planOf file
-    unfolding reads
-    plan-is = ap (λ (x : Read). x .plan) e ∙ rw accepts
-
-    pub plan-held : ((i : ℕ) → getD file i 0 < 256) → Held (read .plan)
-    plan-held small = rw plan-is (read-held file small accepts)
-
     -- the first line and all others
     pub network-text : {t t₁ t₂ : List ℕ} {p₁ p₂ : ℕ} → Held (read .plan) → longest ≤ length t → Puts t 0 (heading (devices (read .plan))) t₁ p₁
         → PutsLines (read .plan) (32 * devices (read .plan)) t₁ p₁ t₂ p₂ → PutsText file t 0 t₂ p₂
@@ -62,7 +42,7 @@ module _ (file : List ℕ) {read : Read} (e : read ≡ reads file) where
         record {
           text = heading (devices (read .plan)) ++ b .lines;
           right =
-              subst (λ (plan : Plan). Lines plan (32 * devices plan) (b .lines) → Prints file (heading (devices plan) ++ b .lines)) (sym plan-is) (λ l. network accepts l)
+              subst (λ (plan : Plan). Lines plan (32 * devices plan) (b .lines) → Prints file (heading (devices plan) ++ b .lines)) (sym (plan-is file e z)) (λ l. network (accepts file e z) l)
               (b .right);
           short = fits;
           put = joined a (omega (arith, fits, room)) (b .put);
@@ -73,7 +53,7 @@ module _ (file : List ℕ) {read : Read} (e : read ≡ reads file) where
   refused-text n h l a =
       record {
         text = bad (read .number) (read .block);
-        right = subst (λ (x : Read). Prints file (bad (x .number) (x .block))) (sym e) (unfold reads in (refused (λ z. n (number-is ∙ z))));
+        right = subst (λ (x : Read). Prints file (bad (x .number) (x .block))) (sym e) (unfold reads in (refused (λ z. n (number-is file e ∙ z))));
         short = omega (arith, bad-short (read .number) (read .block) h l);
         put = a;
       }
@@ -97,18 +77,12 @@ module _ (file state second text : List ℕ) where
       → s ≡ table words (λ i. 0) → u ≡ table words (λ i. 0) → Reports file (lent state second text) 0 value (lent s u t)
   reports {value = value} fits v e f =
       let room : length (v .text) ≤ length text = omega (arith, v .short, fits .1) in
-      let size : value ≡ length (v .text) = next-place (v .put) (omega (arith, room)) ∙ zero-add _ in
-      let g = v .put .exit ∙ sym (over-put (v .text) text room) in
+      let w = in-front (v .put) room in
       record {
         answers = inr (fits, refl);
-        made = λ _. (v .text, v .right, size, λ i. lent (e i) (f i) (g i));
+        made = λ _. (v .text, v .right, w .0, λ i. lent (e i) (f i) (w .1 i));
         kept = λ z. absurd (z refl);
       }
-
--- a text that stands in front of an area is no longer than it
-over-room : (text before : List ℕ) {after : List ℕ} → after ≡ over text before → length text ≤ length after
-unfolding over
-over-room text before e = omega (arith, ap length e, length-append text (drop (length text) before))
 
 -- what a caller wants to know, who lends areas that fit
 module _ {file : List ℕ} {before after : Areas} {number value : ℕ} (r : Reports file before number value after) where

@@ -9,7 +9,7 @@ use Rattle.answers.specs.Ordered.{Condition, ask, Ordered}
 use Rattle.areas.specs.Put.{over}
 use Rattle.lists.specs.Table.{table}
 use Rattle.bits.specs.Set.{bit}
-use Rattle.text.specs.Text.{ascii, decimal}
+use Rattle.text.specs.Text.{ascii, decimal, headed, bad}
 use Rattle.plan.specs.Refusals.{verdict}
 use Rattle.plan.specs.Reading.{planOf}
 use Rattle.plan.specs.declared.Plan.{Plan}
@@ -32,11 +32,8 @@ pub data Lines (plan : Plan) : ℕ → List ℕ → Type 0 where
   more : {i number n held : ℕ} {text : List ℕ} → Lines plan i text → bit (source plan (i / 32)) (i % 32) ≡ 1
       → Tries plan (i / 32) (i % 32) number n held → Lines plan (suc i) (text ++ line (i / 32) (i % 32) number n held)
 
-unfoldable pub heading : ℕ → List ℕ
-heading n = ascii "network " ++ decimal n ++ ascii "\n"
-
-unfoldable pub bad : ℕ → ℕ → List ℕ
-bad number block = ascii "bad " ++ decimal number ++ ascii " " ++ decimal block ++ ascii "\n"
+abbrev pub heading : ℕ → List ℕ
+heading n = headed (ascii "network ") n
 
 -- the text that is printed for a file
 pub data Prints (file : List ℕ) : List ℕ → Type 0 where

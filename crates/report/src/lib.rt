@@ -49,12 +49,12 @@ fn put_text(file: &[u8], state: &mut [u32], second: &mut [u32], text: &mut [u8])
 {
     let read = planfile::read(file);
     if read.number != 0 {
-        return lines::put_bad(text, 0, read.number, read.block);
+        return text::put_bad(text, 0, read.number, read.block);
     }
     let plan = read.plan;
     let core = plan.core;
     let mut found = [0u32; bench::FOUND];
     bench::trials(plan, state, second, &mut found);
-    let at = lines::put_heading(text, 0, core.devices as u32);
+    let at = text::put_headed(text, 0, b"network ", core.devices as u32);
     lines::put_lines(plan, &found, text, at)
 }

@@ -1,45 +1,14 @@
 // The lines of the text, each put behind the one before it.
 ghost use mathlib.Core.Path.{_≡_};
-ghost use mathlib.Core.List.{_++_};
 ghost use Prim.Native.Nat.{_+_, _*_, _≤_, _<_};
 ghost use lib.ListN.{length};
 ghost use Rattle.areas.specs.Put.{Puts};
-ghost use Rattle.text.specs.Text.{decimal};
 ghost use Rattle.plan.specs.Reading.{Held};
 ghost use Rattle.state.specs.Network.{devices};
 ghost use Rattle.bench.specs.Trials.{foundWords, Finds};
-ghost use Rattle.report.specs.Report.{field, line, heading, bad};
+ghost use Rattle.report.specs.Report.{field, line};
 ghost use Rattle.report.specs.inner.Pieces.{front, lineAt, longestLines, PutsLines};
 use plan::Plan;
-
-// A number, and a word behind it.
-fn put_then(text: &mut [u8], at: usize, n: u32, word: &[u8]) -> usize
-    requires { ⌜ at + length (decimal n ++ now word) ≤ length (now text) ⌝ }
-    ensures { λ r. ⌜ Puts (now (text .entry)) at (decimal n ++ now (word .entry)) (now (text .exit)) r ⌝ }
-{
-    let after = text::put_number(text, at, n);
-    areas::put(text, after, word)
-}
-
-// The first line of a network's text.
-pub(crate) fn put_heading(text: &mut [u8], at: usize, n: u32) -> usize
-    requires { ⌜ at + length (heading n) ≤ length (now text) ⌝ }
-    ensures { λ r. ⌜ Puts (now (text .entry)) at (heading n) (now (text .exit)) r ⌝ }
-{
-    let number = areas::put(text, at, b"network ");
-    let end = text::put_number(text, number, n);
-    areas::put(text, end, b"\n")
-}
-
-// The text of a refused file.
-pub(crate) fn put_bad(text: &mut [u8], at: usize, number: u32, block: u32) -> usize
-    requires { ⌜ at + length (bad number block) ≤ length (now text) ⌝ }
-    ensures { λ r. ⌜ Puts (now (text .entry)) at (bad number block) (now (text .exit)) r ⌝ }
-{
-    let first = areas::put(text, at, b"bad ");
-    let second = put_then(text, first, number, b" ");
-    put_then(text, second, block, b"\n")
-}
 
 // What stands for the rounds, of which there are n, by what the request was answered with.
 fn put_field(text: &mut [u8], at: usize, number: u32, n: u32) -> usize
@@ -61,8 +30,8 @@ fn put_front(text: &mut [u8], at: usize, d: u32, k: u32, number: u32, n: u32) ->
     requires { ⌜ at + length (front d k number n) ≤ length (now text) ⌝ }
     ensures { λ r. ⌜ Puts (now (text .entry)) at (front d k number n) (now (text .exit)) r ⌝ }
 {
-    let second = put_then(text, at, d, b" ");
-    let third = put_then(text, second, k, b" ");
+    let second = text::put_then(text, at, d, b" ");
+    let third = text::put_then(text, second, k, b" ");
     put_field(text, third, number, n)
 }
 
@@ -73,7 +42,7 @@ fn put_line(text: &mut [u8], at: usize, d: u32, k: u32, number: u32, n: u32, hel
 {
     let space = put_front(text, at, d, k, number, n);
     let last = areas::put(text, space, b" ");
-    put_then(text, last, held, b"\n")
+    text::put_then(text, last, held, b"\n")
 }
 
 // The line of place i, which is device i / 32 and identifier i % 32, by what is found of it.

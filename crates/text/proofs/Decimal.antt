@@ -8,7 +8,7 @@ use native.Mathlib.Nat.{not-suc-le-zero, pow-suc}
 use native.Mathlib.Omega.{arith}
 use lib.ListN.{length, length-append}
 use borrow.Author.Tests.{lt-ltb, le-ltb}
-use Rattle.text.specs.Text.{digit, decimalIn, decimal}
+use Rattle.text.specs.Text.{digit, decimalIn, decimal, valueFrom, value}
 
 -- more steps than n give the same digits
 same-steps : (f g n : ℕ) → n < f → n < g → decimalIn f n ≡ decimalIn g n
@@ -46,18 +46,15 @@ decimal-short (suc k) n h =
     dite (decLt n 10) (λ l. omega (arith, length-digit n l))
     (λ l. omega (arith, length-step n (omega arith), decimal-short k (n / 10) (omega (arith, pow-suc 10 (suc k)))))
 
--- what digits say, after those that say v
-unfoldable pub valueFrom : ℕ → List ℕ → ℕ
-valueFrom v [] = v
-valueFrom v (d ∷ w) = valueFrom (10 * v + (d - 48)) w
-
-unfoldable pub value : List ℕ → ℕ
-value w = valueFrom 0 w
-
 from-last : (v : ℕ) (w : List ℕ) (d : ℕ) → valueFrom v (w ++ (d ∷ [])) ≡ 10 * valueFrom v w + (d - 48)
 unfolding valueFrom
 from-last v [] d = refl
 from-last v (e ∷ w) d = from-last (10 * v + (e - 48)) w d
+
+-- one digit more
+pub value-last : (w : List ℕ) (d : ℕ) → value (w ++ (d ∷ [])) ≡ 10 * value w + (d - 48)
+unfolding value
+value-last w d = from-last 0 w d
 
 value-in : (f n : ℕ) → n < f → value (decimalIn f n) ≡ n
 unfolding decimalIn value valueFrom
@@ -66,7 +63,7 @@ value-in (suc f) n h =
     dite (decLt n 10) (λ l. rw (lt-ltb n 10 l) (omega arith))
     (λ l. rw (le-ltb n 10 (omega arith))
     (let e : value (decimalIn f (n / 10)) ≡ n / 10 = value-in f (n / 10) (omega arith) in
-    from-last 0 (decimalIn f (n / 10)) (digit (n % 10)) ∙ omega arith))
+    value-last (decimalIn f (n / 10)) (digit (n % 10)) ∙ omega arith))
 
 -- the digits of n say n
 pub decimal-value : (n : ℕ) → value (decimal n) ≡ n

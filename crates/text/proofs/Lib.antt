@@ -1,2 +1,4 @@
 pub mod Decimal
+pub mod Parts
+pub mod Reading
 pub mod Unique

@@ -3,13 +3,13 @@ use Rattle.settle.proofs.main.Statement.{statement}
 use Rattle.settle.proofs.main.Tie as tie
 
 array-share-prefix-file : tie.Need-array-share-prefix-file
-array-share-prefix-file c = c .before .before .before .before .read-file .ensures _ (c .before .n .given .1) .0
+array-share-prefix-file c = c .before .before .before .before .read .ensures _ (c .before .n .given .1) .0
 
 slice-aggregate-settle : tie.Need-slice-aggregate-settle
-slice-aggregate-settle c = c .before .before .before .before .before .read-file .ensures _ (c .before .before .n .given .1) .1
+slice-aggregate-settle c = c .before .before .before .before .before .read .ensures _ (c .before .before .n .given .1) .1
 
-read-file-requires : tie.Need-read-file-requires
-read-file-requires c κs = search needs
+read-requires : tie.Need-read-requires
+read-requires c κs = search needs
 
 write-all-requires : tie.Need-write-all-requires
 write-all-requires c κs = search needs
@@ -22,7 +22,7 @@ main-spec =
     tie.close
     (tie.spec
     (λ c. search needs)
-    read-file-requires
+    read-requires
     (λ c. search needs)
     (λ c. search needs)
     (λ c. search needs)

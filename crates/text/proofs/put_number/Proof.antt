@@ -1,26 +1,24 @@
-use mathlib.Core.Path.{_≡_, sym, ap, _∙_}
-use Prim.Native.Nat.{_+_, _-_, _≤_, _<_}
+use mathlib.Core.Path.{_≡_, ap, _∙_}
+use Prim.Native.Nat.{_+_, _-_, _≤_}
 use native.Mathlib.Omega.{arith}
 use lib.ListN.{length}
 use borrow.Author.Needs.{needs}
-use borrow.Author.Tests.{leb-true, leb-false, not-true, not-false}
 use Rattle.areas.specs.Put.{putAt}
 use Rattle.areas.proofs.Puts.{puts-none, puts-whole}
 use Rattle.text.specs.Text.{decimal}
+use Rattle.text.proofs.Parts.{no-room, has-room}
 use Rattle.text.proofs.put_number.Statement.{statement}
 use Rattle.text.proofs.put_number.Tie as tie
 
 returns : tie.Need-returns
 returns c =
     let a = c .before .before .before .before .args in
-    let h : length (a .area .now) < a .at + c .before .before .places .result =
-    leb-false _ _ (sym (c .before .has-room .ensures) ∙ not-true _ (c .if1 .taken)) in
-    puts-none (a .area .now) (a .at) (decimal (a .n)) (omega (arith, c .before .before .places .ensures))
+    puts-none _ _ _ (omega (arith, no-room (a .at) (c .before .before .places .result) (length (a .area .now)) (c .before .has-room .ensures) (c .if1 .taken), c .before .before .places .ensures))
 
 -- behind the test the number has room
 room : (c : tie.Else1)
     → c .before .before .before .before .args .at + c .before .before .places .result ≤ length (c .before .before .before .before .args .area .now)
-room c = leb-true _ _ (sym (c .before .has-room .ensures) ∙ not-false _ (c .if1 .left))
+room c = has-room _ _ _ (c .before .has-room .ensures) (c .if1 .left)
 
 add-end : tie.Need-add-end
 add-end c = omega (arith, room c)

@@ -4,14 +4,14 @@ use lib.ListN.{length}
 use native.Mathlib.Omega.{arith}
 use borrow.Author.Needs.{needs}
 use Rattle.io.proofs.Counting.{counts}
-use Rattle.settle.proofs.read_file.Statement.{statement}
-use Rattle.settle.proofs.read_file.Tie as tie
+use Rattle.files.proofs.read.Statement.{statement}
+use Rattle.files.proofs.read.Tie as tie
 
 abbrev Inv-loop : tie.InvT-loop
-Inv-loop file₀ n₀ file n = (n ≤ length file) × (length file ≡ length file₀)
+Inv-loop from area₀ n₀ area n = (n ≤ length area) × (length area ≡ length area₀)
 
 abbrev μ-loop : tie.MeasureT-loop
-μ-loop file₀ n₀ file n = length file - n
+μ-loop from area₀ n₀ area n = length area - n
 
 -- a read that failed is no count
 returns : tie.Need-returns Inv-loop μ-loop
@@ -29,8 +29,8 @@ read-requires c κs = search needs
 count-requires : tie.Need-count-requires Inv-loop μ-loop
 count-requires c κs = search needs
 
-pub read-file-spec : {M : Type 1} → statement M
-read-file-spec =
+pub read-spec : {M : Type 1} → statement M
+read-spec =
     tie.close
     (tie.spec
     Inv-loop
