@@ -26,13 +26,18 @@ asks() {
     esac
 }
 
+# The file that is named has to be one: is_file NAME.
+is_file() {
+    [ -e "$1" ] || wrong "there is no file $1"
+    [ -r "$1" ] && [ ! -d "$1" ] || wrong "$1 is no file that can be read"
+}
+
 # Makes the file that is named standard input: input "$@". Where none is named it is standard input itself, and a person who
 # sits before it would wait for ever.
 input() {
     [ $# -le 1 ] || wrong "there is one file at most"
     if [ $# -eq 1 ]; then
-        [ -e "$1" ] || wrong "there is no file $1"
-        [ -r "$1" ] && [ ! -d "$1" ] || wrong "$1 is no file that can be read"
+        is_file "$1"
         exec <"$1"
     fi
     (: 3<&0) 2>/dev/null || failed "standard input could not be read"

@@ -298,6 +298,21 @@ def events():
     return plan
 
 
+def causes():
+    """A source and a unit with two links each, on two pairs of routers. Four ways lead to the second pair: the source's own link, by which it may
+    not send, a link whose other end may not receive, one that can be stopped, and the unit, which passes nothing on."""
+    plan = Plan(2000, 2400)
+    source, first, second = plan.node(source=[5], ports=2), plan.router(3), plan.router(4)
+    unit, near = plan.node(ports=2), plan.node(handler=[5])
+    third, far, last = plan.router(3), plan.node(handler=[5]), plan.router(4)
+    for one, other in (((source, 0), (first, 0)), ((first, 1), (second, 0)), ((second, 1), (last, 0)), ((second, 2), (unit, 0)),
+                       ((second, 3), (near, 0)), ((third, 2), (last, 1)), ((last, 2), (unit, 1)), ((last, 3), (far, 0))):
+        plan.join(one, other)
+    plan.join((source, 1), (third, 0), near=14)
+    plan.join((first, 2), (third, 1), far=13)
+    return plan
+
+
 def idle():
     """One node, joined to nothing, and no source: the smallest file there is."""
     plan = Plan(1, 1)
@@ -307,5 +322,5 @@ def idle():
 
 if __name__ == "__main__":
     folder = pathlib.Path(sys.argv[1] if len(sys.argv) > 1 else pathlib.Path(__file__).parent)
-    for make in (three, ring, tree, torus, full, loop, brief, mute, incident, mesh, chain, never, fading, twice, refused, strapped, cut, parted, timed, events, idle):
+    for make in (three, ring, tree, torus, full, loop, brief, mute, incident, mesh, chain, never, fading, twice, refused, strapped, cut, parted, timed, events, causes, idle):
         (folder / f"{make.__name__}.plan").write_bytes(make().file())

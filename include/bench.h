@@ -8,11 +8,12 @@
  *    2 a state that is not sound                8 none that runs may send the kind
  *    3 an area of the wrong length, or one      9 the bit is already so
  *      that cannot be lent (see below)         10 the link is already so
- *    4 no such device or port                  11 an allowance above BENCH_ROUNDS
+ *    4 no such source, device or port          11 an allowance above BENCH_ROUNDS
  *    5 an identifier or a value too great,     12 still waiting after the allowance
  *      or a code that nobody writes            13 an acknowledge of an event
- *    6 no source or no handler of it           14 a tick by another than the master
- *    7 no port runs, or the port leads         20 to 27 a plan file that is not accepted
+ *    6 the device is there, and is no          14 a tick by another than the master
+ *      source or no handler of it              20 to 27 a plan file that is not accepted
+ *    7 no port runs, or the port leads
  *      nowhere
  *
  * What is wrong with the file: 20 its length; of a block 21 the check, 22 the kind or the number, 23 a field, 24 a byte that has
@@ -23,7 +24,8 @@
  * sources. Only a timer or a reset clears the bit of an event.
  *
  * A refused call changes no area and gives 0 for a value, but for 12 (bench_settle) and 20 to 27 (bench_plan_read, which gives
- * the block). docs/RULES.md has the rules, and "The C door" there the numbers below.
+ * the block). bench_report and bench_why are refused by 3 alone: what else is wrong stands in their text. docs/RULES.md has the
+ * rules, and "The C door" there the numbers below.
  *
  * A plan is the bytes of its file. An area is a pointer and its length, in words or bytes; the lengths have names below.
  * Before anything else a call refuses by 3 what cannot be lent together: areas that share a byte with each other, with the
@@ -51,8 +53,18 @@ typedef char bench_size_fits_an_address[sizeof(bench_size) == sizeof(void *) ? 1
  * file, in bytes. */
 enum { BENCH_STATE = 2368, BENCH_SENT = 256, BENCH_TOLD = 1088, BENCH_TEXT = 14347, BENCH_FILE = 16896 };
 
+/* Of the areas for crossings, for a chain and for a cut, in words; and of the least area for the text of why, in bytes. */
+enum { BENCH_CROSSINGS = 32, BENCH_CHAIN = 32, BENCH_CUT = 256, BENCH_WHY = 5640 };
+
 /* The most rounds that may be allowed, and the word of a port that sent nothing. */
 enum { BENCH_ROUNDS = 4096, BENCH_NOTHING = 256 };
+
+/* The crossings of a device that is not reached, one more than any other is away; and the word of a chain behind its last port. */
+enum { BENCH_UNREACHED = 32, BENCH_NOBODY = 256 };
+
+/* Why interrupts do not go by a port to a device that is not reached, the first that is so: the port does not run; it may not send
+ * interrupts; the port at its other end may not receive them; its device is a node, and not the source. */
+enum { BENCH_STOPPED = 1, BENCH_MAY_NOT_SEND, BENCH_MAY_NOT_RECEIVE, BENCH_DOES_NOT_FORWARD };
 
 /* Where words stand in a state. Device d has its register at BENCH_DEVICE x d, and behind it its 32 timers. Port p of device d has
  * BENCH_PORT words from BENCH_PORTS + BENCH_PORT x (8 x d + p) on: two sets that wait, interrupts and acknowledges, then its next
@@ -74,8 +86,9 @@ enum {
     BENCH_STACK_CODE_READ = 256, BENCH_STACK_CODE_WRITE = 256, BENCH_STACK_REACT = 256, BENCH_STACK_PLAN_READ = 9216,
     BENCH_STACK_START = 10240, BENCH_STACK_REQUEST = 11264, BENCH_STACK_ACKNOWLEDGE = 11264, BENCH_STACK_LINK = 10240,
     BENCH_STACK_RESET = 10240, BENCH_STACK_TICK = 10240, BENCH_STACK_ROUND = 10240, BENCH_STACK_SETTLE = 19456,
-    BENCH_STACK_REACH = 28672, BENCH_STACK_REPORT = 44032,
-    BENCH_STACK_PROGRAM_SETTLE = 73728, BENCH_STACK_PROGRAM_DECODE = 92160
+    BENCH_STACK_REACH = 28672, BENCH_STACK_REPORT = 44032, BENCH_STACK_CROSSINGS = 12288, BENCH_STACK_CHAIN = 16384,
+    BENCH_STACK_CUT = 14336, BENCH_STACK_WHY = 27648,
+    BENCH_STACK_PROGRAM_SETTLE = 73728, BENCH_STACK_PROGRAM_DECODE = 92160, BENCH_STACK_PROGRAM_WHY = 176128
 };
 
 /* ---- the archive's own symbols: for the functions below, which test what is lent, and for no other caller in C. One that had
@@ -107,6 +120,18 @@ bench_u32 bench_for_header_reach(const bench_u8 *plan, bench_size plan_length, c
                                  bench_size state_length, bench_size device, bench_u32 k, bench_u32 *devices, bench_u32 *set);
 bench_u32 bench_for_header_report(const bench_u8 *file, bench_size file_length, bench_u8 *text, bench_size text_length,
                                   bench_u32 *used);
+bench_u32 bench_for_header_crossings(const bench_u8 *plan, bench_size plan_length, const bench_u32 *state,
+                                     bench_size state_length, bench_size source, bench_u32 k, bench_u32 *crossings,
+                                     bench_size crossings_length, bench_u32 *most);
+bench_u32 bench_for_header_chain(const bench_u8 *plan, bench_size plan_length, const bench_u32 *state,
+                                 bench_size state_length, bench_size source, bench_u32 k, bench_size device,
+                                 bench_u32 *ports, bench_size ports_length, bench_u32 *crossings);
+bench_u32 bench_for_header_cut(const bench_u8 *plan, bench_size plan_length, const bench_u32 *state, bench_size state_length,
+                               bench_size source, bench_u32 k, bench_u32 *causes, bench_size causes_length,
+                               bench_u32 *count);
+bench_u32 bench_for_header_why(const bench_u8 *plan, bench_size plan_length, bench_u32 given, const bench_u8 *state,
+                               bench_size state_length, bench_u32 source, bench_u32 k, bench_u32 device, bench_u8 *text,
+                               bench_size text_length, bench_u32 *used);
 
 /* ---- what can be lent together */
 
@@ -356,6 +381,88 @@ static inline bench_u32 bench_report(const bench_u8 *file, bench_size file_lengt
     }
     number = bench_for_header_report(file, file_length, text, text_length, &given);
     bench_put(used, given);
+    return number;
+}
+
+/* ---- why it got there, or not. A port leads to a device where it runs and may send interrupts, and the port at its other end,
+ * one of that device, may receive them. Interrupts go by such ports, from the source and then from routers alone. */
+
+/* What these calls are lent: a plan, a state, an area of words and the place of a value. Where that is refused, the value is put
+ * here. */
+static inline int bench_four_apart(const bench_u8 *plan, bench_size plan_length, const bench_u32 *state,
+                                   bench_size state_length, const bench_u32 *area, bench_size area_length,
+                                   bench_u32 *place) {
+    const struct bench_lent all[] = {bench_bytes(plan, plan_length), bench_words(state, state_length),
+                                     bench_words(area, area_length), bench_place(place)};
+    int apart = bench_apart(all, 4);
+    if (!apart)
+        bench_put_none(all, 4, 3, place);
+    return apart;
+}
+
+/* How far each device is from a source, for interrupts of k: the word d of crossings is the least number of ports by which they
+ * get to device d, 0 for the source itself, or BENCH_UNREACHED where they do not, or it is absent. The greatest of those that are
+ * reached, D, goes to *most. The area has BENCH_CROSSINGS words. 20 to 27; 2; 3; 4; 5; 6. */
+static inline bench_u32 bench_crossings(const bench_u8 *plan, bench_size plan_length, const bench_u32 *state,
+                                        bench_size state_length, bench_size source, bench_u32 k, bench_u32 *crossings,
+                                        bench_size crossings_length, bench_u32 *most) {
+    bench_u32 given, number;
+    if (!bench_four_apart(plan, plan_length, state, state_length, crossings, crossings_length, most))
+        return 3;
+    number = bench_for_header_crossings(plan, plan_length, state, state_length, source, k, crossings, crossings_length,
+                                        &given);
+    bench_put(most, given);
+    return number;
+}
+
+/* A shortest chain of ports from a source to a device, for interrupts of k: the first is one of the source, each of the others one
+ * of the device that the port before it leads to, and the last leads to the device. Of several, it is the one with the lower port
+ * at the first difference. Its ports are 8 x device + port each, in front of the area, and every word behind them is BENCH_NOBODY.
+ * How many they are goes to *crossings, 0 for the source itself, or BENCH_UNREACHED where the device is not reached. The area has
+ * BENCH_CHAIN words. 20 to 27; 2; 3; 4 for the source or the device; 5; 6. */
+static inline bench_u32 bench_chain(const bench_u8 *plan, bench_size plan_length, const bench_u32 *state,
+                                    bench_size state_length, bench_size source, bench_u32 k, bench_size device,
+                                    bench_u32 *ports, bench_size ports_length, bench_u32 *crossings) {
+    bench_u32 given, number;
+    if (!bench_four_apart(plan, plan_length, state, state_length, ports, ports_length, crossings))
+        return 3;
+    number = bench_for_header_chain(plan, plan_length, state, state_length, source, k, device, ports, ports_length, &given);
+    bench_put(crossings, given);
+    return number;
+}
+
+/* Every port that leads out of what interrupts of k reach from a source: it is connected, its device is reached, and the one at
+ * its other end is not. The word 8 x device + port of causes is why they do not go that way, BENCH_STOPPED to
+ * BENCH_DOES_NOT_FORWARD, or 0 where the port does not lead out. How many do goes to *count. The area has BENCH_CUT words. 20 to
+ * 27; 2; 3; 4; 5; 6. */
+static inline bench_u32 bench_cut(const bench_u8 *plan, bench_size plan_length, const bench_u32 *state,
+                                  bench_size state_length, bench_size source, bench_u32 k, bench_u32 *causes,
+                                  bench_size causes_length, bench_u32 *count) {
+    bench_u32 given, number;
+    if (!bench_four_apart(plan, plan_length, state, state_length, causes, causes_length, count))
+        return 3;
+    number = bench_for_header_cut(plan, plan_length, state, state_length, source, k, causes, causes_length, &given);
+    bench_put(count, given);
+    return number;
+}
+
+/* The text that the program why prints, in front of its area: the chain to a device, or the cut where it is not reached, or what
+ * is refused. Its length goes to *used; behind it the area is as it was. Where given is 0 it is about the start state, and the
+ * bytes of state are not looked at. With any other number they are a state file: four for each word, the low one first. The area
+ * has BENCH_WHY bytes or more. 3. */
+static inline bench_u32 bench_why(const bench_u8 *plan, bench_size plan_length, bench_u32 given, const bench_u8 *state,
+                                  bench_size state_length, bench_u32 source, bench_u32 k, bench_u32 device, bench_u8 *text,
+                                  bench_size text_length, bench_u32 *used) {
+    const struct bench_lent all[] = {bench_bytes(plan, plan_length), bench_bytes(state, state_length),
+                                     bench_bytes(text, text_length), bench_place(used)};
+    bench_u32 printed, number;
+    if (!bench_apart(all, 4)) {
+        bench_put_none(all, 4, 3, used);
+        return 3;
+    }
+    number = bench_for_header_why(plan, plan_length, given, state, state_length, source, k, device, text, text_length,
+                                  &printed);
+    bench_put(used, printed);
     return number;
 }
 

@@ -9,6 +9,7 @@ void *memset(void *, int, usize);
 
 enum { INTERRUPT, ACKNOWLEDGE };
 enum { NONE = BENCH_NOTHING, NEXT = BENCH_NEXT, RUNNING = BENCH_RUNNING };
+enum { UNREACHED = BENCH_UNREACHED };
 
 /* Of the word of a port's Time-Code: what waits, plus 1, and whether one was sent last. In block 0 the set of events, and the byte
    of the master. */
@@ -322,14 +323,22 @@ static u32 settle(const struct plan *plan, u32 *areas[2], u32 allowance, u32 *ro
     return 0;
 }
 
-/* ---- reach */
+/* ---- reach, and ways */
+
+/* What keeps an interrupt from going by a port, or 0. A port that runs has a peer. */
+static inline u32 cause(const struct plan *plan, const u32 *s, u32 q) {
+    if (!s[port_at(q) + RUNNING])
+        return BENCH_STOPPED;
+    if (!(plan->permissions[q] & 1))
+        return BENCH_MAY_NOT_SEND;
+    return plan->permissions[plan->peers[q]] & 2 ? 0 : BENCH_MAY_NOT_RECEIVE;
+}
 
 static u32 visit(const struct plan *plan, const u32 *s, u32 d, u32 set) {
     for (u32 q = 8 * d; q < 8 * d + plan->ports[d]; q++) {
-        u32 peer = plan->peers[q];
-        if (!s[port_at(q) + RUNNING] || !(plan->permissions[q] & 1) || !(plan->permissions[peer] & 2))
+        if (cause(plan, s, q))
             continue;
-        u32 ahead = peer / 8;
+        u32 ahead = plan->peers[q] / 8;
         if (set >> ahead & 1)
             continue;
         set |= 1u << ahead;
@@ -337,6 +346,32 @@ static u32 visit(const struct plan *plan, const u32 *s, u32 d, u32 set) {
             set = visit(plan, s, ahead, set);
     }
     return set;
+}
+
+/* In breadth: devices leave the row in the order of their crossings, and of those that are as far, in the order of their
+   chains. So the port by which a device is found first is the last one of its chain; it is kept where that is wanted. The
+   answer is the most crossings. */
+static u32 spread(const struct plan *plan, const u32 *s, u32 source, u32 *crossings, u8 *found) {
+    u32 row[32], in = 0;
+    for (u32 d = 0; d < 32; d++)
+        crossings[d] = UNREACHED;
+    crossings[source] = 0;
+    row[in++] = source;
+    for (u32 out = 0; out < in; out++) {
+        u32 d = row[out];
+        if (out && !plan->role[d])
+            continue;
+        for (u32 q = 8 * d; q < 8 * d + plan->ports[d]; q++) {
+            u32 ahead = plan->peers[q] / 8;
+            if (cause(plan, s, q) || crossings[ahead] != UNREACHED)
+                continue;
+            crossings[ahead] = crossings[d] + 1;
+            row[in++] = ahead;
+            if (found)
+                found[ahead] = q;
+        }
+    }
+    return crossings[row[in - 1]];
 }
 
 /* ---- the report */
@@ -434,18 +469,70 @@ u32 plain_settle(const u8 *file, usize length, u32 *state, usize state_length, u
     return number;
 }
 
+/* What the calls about a source ask: that it is one of k. */
+static u32 source_refusal(const u8 *file, usize length, const u32 *state, usize source, u32 k, struct plan *plan) {
+    u32 number = refusal(file, length, state, plan);
+    return number ? number : plan->source[source] >> k & 1 ? 0 : 6;
+}
+
 u32 plain_reach(const u8 *file, usize length, const u32 *state, usize state_length, usize device, u32 k, u32 *devices,
                 u32 *set) {
     struct plan plan;
-    u32 number = refusal(file, length, state, &plan);
+    u32 number = source_refusal(file, length, state, device, k, &plan);
     (void)state_length;
     *devices = *set = 0;
     if (number)
         return number;
-    if (!(plan.source[device] >> k & 1))
-        return 6;
     *set = visit(&plan, state, device, 1u << device);
     *devices = __builtin_popcount(*set);
+    return 0;
+}
+
+u32 plain_crossings(const u8 *file, usize length, const u32 *state, usize state_length, usize source, u32 k, u32 *crossings,
+                    usize crossings_length, u32 *most) {
+    struct plan plan;
+    u32 number = source_refusal(file, length, state, source, k, &plan);
+    (void)state_length, (void)crossings_length;
+    *most = number ? 0 : spread(&plan, state, source, crossings, 0);
+    return number;
+}
+
+u32 plain_chain(const u8 *file, usize length, const u32 *state, usize state_length, usize source, u32 k, usize device,
+                u32 *ports, usize ports_length, u32 *crossings) {
+    struct plan plan;
+    u8 found[32];
+    u32 away[32], number = source_refusal(file, length, state, source, k, &plan);
+    (void)state_length;
+    *crossings = 0;
+    if (number)
+        return number;
+    spread(&plan, state, source, away, found);
+    *crossings = away[device];
+    for (u32 i = 0; i < ports_length; i++)
+        ports[i] = BENCH_NOBODY;
+    for (u32 left = away[device] % UNREACHED; left; device = found[device] / 8)
+        ports[--left] = found[device];
+    return 0;
+}
+
+u32 plain_cut(const u8 *file, usize length, const u32 *state, usize state_length, usize source, u32 k, u32 *causes,
+              usize causes_length, u32 *count) {
+    struct plan plan;
+    u32 number = source_refusal(file, length, state, source, k, &plan);
+    (void)state_length;
+    *count = 0;
+    if (number)
+        return number;
+    u32 set = visit(&plan, state, source, 1u << source);
+    memset(causes, 0, causes_length * sizeof *causes);
+    for (u32 q = 0; q < 8 * plan.devices; q++) {
+        u32 peer = plan.peers[q];
+        if (peer == NONE || !(set >> q / 8 & 1) || (set >> peer / 8 & 1))
+            continue;
+        u32 first = cause(&plan, state, q);
+        causes[q] = first ? first : BENCH_DOES_NOT_FORWARD;
+        ++*count;
+    }
     return 0;
 }
 

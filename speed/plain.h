@@ -22,3 +22,9 @@ u32 plain_settle(const u8 *file, usize length, u32 *state, usize state_length, u
 u32 plain_reach(const u8 *file, usize length, const u32 *state, usize state_length, usize device, u32 k, u32 *devices,
                 u32 *set);
 u32 plain_report(const u8 *file, usize length, u8 *text, usize text_length, u32 *text_used);
+u32 plain_crossings(const u8 *file, usize length, const u32 *state, usize state_length, usize source, u32 k, u32 *crossings,
+                    usize crossings_length, u32 *most);
+u32 plain_chain(const u8 *file, usize length, const u32 *state, usize state_length, usize source, u32 k, usize device,
+                u32 *ports, usize ports_length, u32 *crossings);
+u32 plain_cut(const u8 *file, usize length, const u32 *state, usize state_length, usize source, u32 k, u32 *causes,
+              usize causes_length, u32 *count);

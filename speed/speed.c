@@ -25,6 +25,9 @@ struct bench {
     __typeof__(plain_settle) *settle;
     __typeof__(plain_reach) *reach;
     __typeof__(plain_report) *report;
+    __typeof__(plain_crossings) *crossings;
+    __typeof__(plain_chain) *chain;
+    __typeof__(plain_cut) *cut;
 };
 __typeof__(plain_plan_read) judge_plan_read;
 __typeof__(plain_tick) judge_tick;
@@ -32,12 +35,15 @@ __typeof__(plain_round) judge_round;
 __typeof__(plain_settle) judge_settle;
 __typeof__(plain_reach) judge_reach;
 __typeof__(plain_report) judge_report;
+__typeof__(plain_crossings) judge_crossings;
+__typeof__(plain_chain) judge_chain;
+__typeof__(plain_cut) judge_cut;
 
 enum { OURS, PLAIN, JUDGE, ALL };
 static const struct bench benches[ALL] = {
-    {bench_plan_read, bench_tick, bench_round, bench_settle, bench_reach, bench_report},
-    {plain_plan_read, plain_tick, plain_round, plain_settle, plain_reach, plain_report},
-    {judge_plan_read, judge_tick, judge_round, judge_settle, judge_reach, judge_report},
+    {bench_plan_read, bench_tick, bench_round, bench_settle, bench_reach, bench_report, bench_crossings, bench_chain, bench_cut},
+    {plain_plan_read, plain_tick, plain_round, plain_settle, plain_reach, plain_report, plain_crossings, plain_chain, plain_cut},
+    {judge_plan_read, judge_tick, judge_round, judge_settle, judge_reach, judge_report, judge_crossings, judge_chain, judge_cut},
 };
 
 /* What a call is given: a plan, and the state before it. */
@@ -49,6 +55,7 @@ static u32 before[BENCH_STATE];
 static struct given {
     u32 number, value, set;
     u32 state[BENCH_STATE], sent[BENCH_SENT], told[BENCH_TOLD];
+    u32 crossings[BENCH_CROSSINGS], ports[BENCH_CHAIN], causes[BENCH_CUT];
     u8 text[BENCH_TEXT];
 } given[ALL];
 
@@ -81,6 +88,19 @@ static void reach(const struct bench *b, struct given *g) {
 
 static void report(const struct bench *b, struct given *g) {
     g->number = b->report(file, length, g->text, BENCH_TEXT, &g->value);
+}
+
+static void crossings(const struct bench *b, struct given *g) {
+    g->number = b->crossings(file, length, before, BENCH_STATE, 0, 5, g->crossings, BENCH_CROSSINGS, &g->value);
+}
+
+/* To the device in the middle, which is the farthest in a network of the kind below. */
+static void chain(const struct bench *b, struct given *g) {
+    g->number = b->chain(file, length, before, BENCH_STATE, 0, 5, file[1] / 2, g->ports, BENCH_CHAIN, &g->value);
+}
+
+static void cut(const struct bench *b, struct given *g) {
+    g->number = b->cut(file, length, before, BENCH_STATE, 0, 5, g->causes, BENCH_CUT, &g->value);
 }
 
 /* ---- the measure */
@@ -219,6 +239,15 @@ static void with_times(void) {
             before[BENCH_TIMES + q] = 2 + (random(q) & 129);
 }
 
+/* The links between the first half of the devices and the others are stopped. */
+static void parted(void) {
+    for (u32 q = 0; q < 4u * file[1]; q++) {
+        const u8 *e = entry(q / 8, q % 8);
+        if (e[0] != 255 && e[0] >= file[1] / 2)
+            bench_link(file, length, before, BENCH_STATE, q / 8, q % 8, 0);
+    }
+}
+
 /* Every second identifier is an event: of what waits, the acknowledges of these are ignored where they arrive. */
 static void with_events(void) {
     memset(file + EVENTS, 0x55, 4);
@@ -233,6 +262,11 @@ static void growth(u32 n) {
     race("read a plan", "", plan_read);
     busy(0);
     race("reach", "", reach);
+    race("crossings", "", crossings);
+    race("chain", "", chain);
+    parted();
+    race("cut", "", cut);
+    busy(0);
     race("tick", "", tick);
     for (u32 i = 0; i < 4; i++) {
         busy(sets[i]);

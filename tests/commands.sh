@@ -5,11 +5,18 @@ cd "$(dirname "$0")/.."
 work=$(mktemp -d)
 trap 'rm -rf "$work"' EXIT
 
+# Where a user types them: what is written there is not in the repository.
+mkdir "$work/user"
+for part in bin include examples target; do ln -s "$PWD/$part" "$work/user/$part"; done
+user() {
+    (cd "$work/user" && sh -c "$1")
+}
+
 # The README's example of a command gives the lines that the README shows below it.
 example() {
     command=$(sed -n "s/^    \(.*bin\/$1.*\)\$/\1/p" README.md | head -n 1)
     [ -n "$command" ]
-    sh -c "$command" >"$work/given" 2>/dev/null
+    user "$command" >"$work/given" 2>/dev/null
     command="    $command" awk '
         $0 == ENVIRON["command"] { below = 1 }
         below && shown && $0 == "" { exit }
@@ -21,16 +28,26 @@ example() {
 }
 example settle
 example decode
+example why
 example 'example incident'
 example 'example cycle'
 example 'example event'
 
+# The state that the second example of why is about is made by the line before it.
+line=$(sed -n 's/^    \(bin\/example snapshot .*\)$/\1/p' README.md)
+user "$line"
+example 'why .* state '
+
+# The lines of C that the README shows are those of that example.
+lines='^    \(must\|return\)'
+grep "$lines" README.md >"$work/shown"
+[ "$(wc -l <"$work/shown")" -eq 3 ]
+grep "$lines" examples/snapshot.c | cmp - "$work/shown"
+
 # So does the program that the README's line for a C compiler makes, where there is one for x86-64.
 if [ "$(uname -m)" = x86_64 ] && command -v cc >/dev/null 2>&1; then
-    mkdir "$work/user"
-    for part in include examples target; do ln -s "$PWD/$part" "$work/user/$part"; done
     line=$(sed -n 's/^    \(cc .*\)$/\1/p' README.md)
-    (cd "$work/user" && sh -c "$line" && ./incident <examples/incident.plan) | cmp - tests/expected/incident.txt
+    user "$line && ./incident <examples/incident.plan" | cmp - tests/expected/incident.txt
 fi
 
 # The command ends with a status, and has so many lines on standard output and on standard error.
@@ -55,6 +72,8 @@ for given in "$three" ''; do
     ends 0 4 0 bin/example incident ${given:+examples/incident.plan} <examples/incident.plan
     cmp "$work/out" tests/expected/incident.txt
 done
+ends 0 3 0 bin/why 0 5 2 <$three
+ends 0 5 0 bin/why 0 5 6 "$work/user/state" <examples/causes.plan
 
 # By a link, and by a link to that, from elsewhere.
 ln -s "$PWD/bin/settle" "$work/link"
@@ -66,16 +85,20 @@ head -c 600 $three >"$work/short"
 ends 1 1 0 bin/settle "$work/short"
 grep -qx 'bad 20 0' "$work/out"
 ends 1 1 0 bin/settle </dev/null
+ends 1 1 0 bin/why 0 5 2 <"$work/short"
+grep -qx 'bad 20 0' "$work/out"
+ends 1 1 0 bin/why 0 5 3 <$three
+grep -qx r4 "$work/out"
 ends 0 0 0 bin/decode </dev/null
 ends 1 1 0 bin/example incident "$work/short"
-for program in settle decode; do
+for program in settle decode 'why 0 5 2'; do
     ends 1 0 1 bin/$program <&-
     grep -q 'input could not be read' "$work/said"
     ends 1 0 1 bin/$program </
     grep -q 'input could not be read' "$work/said"
-    ends 1 0 1 sh -c "bin/$program $three >/dev/full"
+    ends 1 0 1 sh -c "bin/$program <$three >/dev/full"
     grep -q 'output could not be written' "$work/said"
-    ends 1 0 1 sh -c "bin/$program $three >&-"
+    ends 1 0 1 sh -c "bin/$program <$three >&-"
     grep -q 'output could not be written' "$work/said"
 done
 
@@ -85,7 +108,7 @@ for tool in sh dirname uname readlink; do ln -s "$(command -v $tool)" "$work/too
 no_kit() {
     PATH=$work/tools "$@"
 }
-for program in 'settle' 'decode' 'example incident'; do
+for program in settle decode 'why 0 5 2' 'example incident'; do
     # shellcheck disable=SC2086
     ends 2 0 1 no_kit bin/$program <$three
     grep -q 'kit is missing' "$work/said"
@@ -104,6 +127,16 @@ for program in settle decode 'example incident'; do
     ends 0 1 0 no_kit bin/${program% *} --help
     grep -q '^usage: ' "$work/out"
 done
+ends 0 1 0 no_kit bin/why --help
+grep -q '^usage: ' "$work/out"
+for given in '' 0 '0 5' '0 5 2 one two' '0 5 2 no-such-file' '0 5 2 examples' --flag \
+    'x 5 2' '0 5x 2' '0 5 -2' '0 5 +2' '0 5 0x2'; do
+    # shellcheck disable=SC2086
+    helps bin/why $given
+done
+helps bin/why 0 '' 2
+helps bin/why 0 5 '2 '
+helps bin/why 0 5 2 ''
 helps bin/example
 helps bin/example no-such-example
 helps bin/example ../speed/plain
@@ -123,12 +156,12 @@ else:
     os.set_blocking(given, False)
 sys.exit(subprocess.run(sys.argv[2:], stdin=given).returncode)
 END
-    for program in settle decode 'example incident'; do
+    for program in settle decode 'why 0 5 2' 'example incident'; do
         # shellcheck disable=SC2086
         ends 2 0 1 python3 "$work/input.py" terminal bin/$program
         grep -q 'usage: ' "$work/said"
     done
-    for program in settle decode; do
+    for program in settle decode 'why 0 5 2'; do
         ends 1 0 1 python3 "$work/input.py" waiting bin/$program
         grep -q 'input could not be read' "$work/said"
     done

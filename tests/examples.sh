@@ -1,10 +1,11 @@
 #!/bin/sh
-# The example plans are what examples/make.py makes, where there is a python3, and the program settle has one of them as its
-# stored input and output.
+# The example plans are what examples/make.py makes, where there is a python3, and the programs settle and why have one of them
+# each as their stored input.
 set -eu
 cd "$(dirname "$0")/.."
 cmp examples/three.plan crates/settle/stdin
 cmp examples/expected/three.txt crates/settle/stdout
+cmp examples/tree.plan crates/why/stdin
 if command -v python3 >/dev/null 2>&1; then
     work=$(mktemp -d)
     trap 'rm -rf "$work"' EXIT

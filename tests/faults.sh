@@ -1,5 +1,5 @@
 #!/bin/sh
-# Faults of input and output: settle and decode end, are ended by no signal of their own, and print nothing wrong.
+# Faults of input and output: settle, decode and why end, are ended by no signal of their own, and print nothing wrong.
 # tests/commands.sh has what the commands then say, and their status.
 set -eu
 cd "$(dirname "$0")/.."
@@ -18,16 +18,20 @@ ends() {
 printed() {
     printf "$1" | cmp - "$work/out"
 }
+why='why 0 5 2'
 bin/settle $plan >/dev/null
 bin/decode $plan >/dev/null
+bin/$why <$plan >/dev/null
 
 # No input, and none that could be read.
-ends bin/settle </dev/null
-printed 'bad 20 0\n'
-ends bin/settle <&-
-printed ''
-ends bin/settle </
-printed ''
+for program in settle "$why"; do
+    ends bin/$program </dev/null
+    printed 'bad 20 0\n'
+    ends bin/$program <&-
+    printed ''
+    ends bin/$program </
+    printed ''
+done
 ends bin/decode </dev/null
 printed ''
 ends bin/decode <&-
@@ -36,15 +40,23 @@ ends bin/decode </
 printed ''
 
 # Input that ends early.
-head -c 700 $plan >"$work/early"
-ends bin/settle <"$work/early"
-printed 'bad 20 0\n'
-head -c 1024 $plan >"$work/early"
-ends bin/settle <"$work/early"
-printed 'bad 25 0\n'
+for program in settle "$why"; do
+    head -c 700 $plan >"$work/early"
+    ends bin/$program <"$work/early"
+    printed 'bad 20 0\n'
+    head -c 1024 $plan >"$work/early"
+    ends bin/$program <"$work/early"
+    printed 'bad 25 0\n'
+done
 
-# Input without an end: settle reads no more than it needs; decode goes on until nobody reads.
-ends bin/settle </dev/zero
+# Input without an end: settle and why read no more than they need; decode goes on until nobody reads.
+for program in settle "$why"; do
+    ends bin/$program </dev/zero
+    printed 'bad 20 0\n'
+done
+ends bin/$why /dev/zero <$plan
+printed 'r2\n'
+ends bin/$why /dev/zero </dev/zero
 printed 'bad 20 0\n'
 timeout 20 bin/decode </dev/zero 2>/dev/null | head -n 3 >"$work/out"
 printed '0 time 0\n0 time 0\n0 time 0\n'
@@ -58,11 +70,13 @@ slowly() {
 }
 slowly | ends bin/decode
 printed '5 time 5\n128 interrupt 0\n191 acknowledge 31\n192 reserved 3 0\n'
-slowly | ends bin/settle
-printed 'bad 20 0\n'
+for program in settle "$why"; do
+    slowly | ends bin/$program
+    printed 'bad 20 0\n'
+done
 
 # Output that is closed, or full.
-for program in settle decode; do
+for program in settle decode "$why"; do
     status=0
     timeout 20 bin/$program <$plan >&- 2>/dev/null || status=$?
     [ "$status" -lt 124 ]
@@ -73,11 +87,13 @@ done
 ends sh -c 'bin/decode </dev/zero >/dev/full'
 printed ''
 
-# The program itself, as the command for settle writes in its place: the one line that it says.
-for program in settle decode; do
+# The program itself, as the commands for settle and why write in its place: the one line that it says.
+for program in settle decode "$why"; do
     for output in '>/dev/full' '>&-'; do
         said=$(eval "run target/bin/$program <$plan $output" 2>&1)
-        [ "$said" = "$program: standard output could not be written" ]
+        [ "$said" = "${program%% *}: standard output could not be written" ]
     done
+    said=$(run target/bin/$program </ 2>&1)
+    [ "$said" = "${program%% *}: standard input could not be read" ]
 done
 echo "faults: ok"

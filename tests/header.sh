@@ -43,4 +43,6 @@ for name in DEVICE PORTS PORT NEXT RUNNING COUNTERS TIMES; do same state $name $
 for name in SENT TOLD NOTHING ROUNDS; do same bench $name $name; done
 same state WORDS STATE
 same report LONGEST TEXT
+for name in CROSSINGS CHAIN CUT UNREACHED NOBODY; do same ways $name $name; done
+same reasons LONGEST WHY
 echo "header: ok"

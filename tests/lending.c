@@ -23,7 +23,7 @@ static bench_u32 started[BENCH_STATE];
 
 /* ---- the calls, over what they are lent in the order of their parameters */
 
-enum kind { NONE, PLAN, STATE, OUT, TEXT, VALUE };
+enum kind { NONE, PLAN, STATE, STORED, OUT, TEXT, VALUE };
 enum { LENT = 6, NODE = 0, ROUTER = 1, HANDLER = 2, MASTER = 5, IDENTIFIER = 5 };
 
 typedef void *const *places;
@@ -77,13 +77,34 @@ static bench_u32 report(places at, lengths n) {
     return bench_report(at[0], n[0], at[1], n[1], at[2]);
 }
 
-/* What each is lent, and what it answers in a network that has just started; then what it answers for each of its areas
- * where that is empty. */
+static bench_u32 crossings(places at, lengths n) {
+    return bench_crossings(at[0], n[0], at[1], n[1], NODE, IDENTIFIER, at[2], n[2], at[3]);
+}
+
+static bench_u32 chain(places at, lengths n) {
+    return bench_chain(at[0], n[0], at[1], n[1], NODE, IDENTIFIER, HANDLER, at[2], n[2], at[3]);
+}
+
+static bench_u32 cut(places at, lengths n) {
+    return bench_cut(at[0], n[0], at[1], n[1], NODE, IDENTIFIER, at[2], n[2], at[3]);
+}
+
+static bench_u32 why(places at, lengths n) {
+    return bench_why(at[0], n[0], 1, at[1], n[1], NODE, IDENTIFIER, HANDLER, at[2], n[2], at[3]);
+}
+
+static bench_u32 why_at_start(places at, lengths n) {
+    return bench_why(at[0], n[0], 0, at[1], n[1], NODE, IDENTIFIER, HANDLER, at[2], n[2], at[3]);
+}
+
+/* What each is lent, how long all but plans and values are, in words or bytes, and what it answers in a network that has just
+ * started; then what it answers for each of its areas where that is empty. */
+enum { STORED_STATE = 4 * BENCH_STATE };
 static const struct call {
     const char *name;
     bench_u32 (*make)(places, lengths);
     enum kind lent[LENT];
-    bench_size words[LENT];
+    bench_size long_as[LENT];
     bench_u32 answer, empty[LENT];
 } calls[] = {
     {"plan read", plan_read, {PLAN, VALUE}, {0}, 0, {20}},
@@ -98,7 +119,12 @@ static const struct call {
      {20, 2, 3, 3, 3}},
     {"settle", settle, {PLAN, STATE, VALUE}, {0, BENCH_STATE}, 0, {20, 2}},
     {"reach", reach, {PLAN, STATE, VALUE, VALUE}, {0, BENCH_STATE}, 0, {20, 2}},
-    {"report", report, {PLAN, TEXT, VALUE}, {0}, 0, {0, 3}},
+    {"report", report, {PLAN, TEXT, VALUE}, {0, BENCH_TEXT}, 0, {0, 3}},
+    {"crossings", crossings, {PLAN, STATE, OUT, VALUE}, {0, BENCH_STATE, BENCH_CROSSINGS}, 0, {20, 2, 3}},
+    {"chain", chain, {PLAN, STATE, OUT, VALUE}, {0, BENCH_STATE, BENCH_CHAIN}, 0, {20, 2, 3}},
+    {"cut", cut, {PLAN, STATE, OUT, VALUE}, {0, BENCH_STATE, BENCH_CUT}, 0, {20, 2, 3}},
+    {"why", why, {PLAN, STORED, TEXT, VALUE}, {0, STORED_STATE, BENCH_WHY}, 0, {0, 0, 3}},
+    {"why, at the start", why_at_start, {PLAN, STORED, TEXT, VALUE}, {0, STORED_STATE, BENCH_WHY}, 0, {0, 0, 3}},
 };
 enum { CALLS = sizeof calls / sizeof *calls };
 
@@ -137,7 +163,7 @@ static void apart(const struct call *of) {
     call = of;
     for (unsigned i = 0; lent(i); i++) {
         at[i] = arena + SPARE + REGION * i;
-        n[i] = call->lent[i] == PLAN ? file_length : call->lent[i] == TEXT ? BENCH_TEXT : call->lent[i] == VALUE ? 4 : call->words[i];
+        n[i] = call->lent[i] == PLAN ? file_length : call->lent[i] == VALUE ? 4 : call->long_as[i];
     }
 }
 
@@ -154,7 +180,7 @@ static void fill(void) {
     for (unsigned i = 0; lent(i); i++) {
         if (at[i] && n[i] && call->lent[i] == PLAN)
             memcpy(at[i], file, file_length);
-        if (at[i] && n[i] && call->lent[i] == STATE)
+        if (at[i] && n[i] && (call->lent[i] == STATE || call->lent[i] == STORED))
             memcpy(at[i], started, sizeof started);
     }
 }
@@ -294,7 +320,7 @@ static void try_ends(const struct call *of, unsigned i) {
     try_endless(of, i, most - 1);
     for (bench_size wraps = 1; in_words(i) && wraps < 4; wraps++) {
         try_endless(of, i, wraps * (most / 4 + 1));
-        try_endless(of, i, wraps * (most / 4 + 1) + of->words[i]);
+        try_endless(of, i, wraps * (most / 4 + 1) + of->long_as[i]);
     }
 }
 

@@ -26,6 +26,7 @@ static bench_u8 file[BENCH_FILE + 1], text[BENCH_TEXT];
 static bench_size length, device, handler;
 static bench_u32 k, value, set, bits, counter, kind, top, answer;
 static bench_u32 before[BENCH_STATE], state[BENCH_STATE], next[BENCH_STATE], sent[BENCH_SENT], told[BENCH_TOLD];
+static bench_u32 away[BENCH_CROSSINGS], ports[BENCH_CHAIN], causes[BENCH_CUT];
 
 /* ---- the calls */
 
@@ -90,6 +91,27 @@ static void report(void) {
     answer = bench_report(file, length, text, BENCH_TEXT, &value);
 }
 
+/* The way to the last device, or what is in it. */
+static void crossings(void) {
+    answer = bench_crossings(file, length, state, BENCH_STATE, device, k, away, BENCH_CROSSINGS, &value);
+}
+
+static void chain(void) {
+    answer = bench_chain(file, length, state, BENCH_STATE, device, k, file[1] - 1, ports, BENCH_CHAIN, &value);
+}
+
+static void cut(void) {
+    answer = bench_cut(file, length, state, BENCH_STATE, device, k, causes, BENCH_CUT, &value);
+}
+
+static void why(void) {
+    answer = bench_why(file, length, 1, (bench_u8 *)state, sizeof state, device, k, file[1] - 1, text, BENCH_TEXT, &value);
+}
+
+static void why_at_start(void) {
+    answer = bench_why(file, length, 0, 0, 0, device, k, file[1] - 1, text, BENCH_TEXT, &value);
+}
+
 static struct call {
     const char *name;
     void (*make)(void);
@@ -111,6 +133,11 @@ static struct call {
     {"bench_settle", settle, BENCH_STACK_SETTLE, 0, 0, 0, 0},
     {"bench_reach", reach, BENCH_STACK_REACH, 0, 0, 0, 0},
     {"bench_report", report, BENCH_STACK_REPORT, 0, 0, 0, 0},
+    {"bench_crossings", crossings, BENCH_STACK_CROSSINGS, 0, 0, 0, 0},
+    {"bench_chain", chain, BENCH_STACK_CHAIN, 0, 0, 0, 0},
+    {"bench_cut", cut, BENCH_STACK_CUT, 0, 0, 0, 0},
+    {"bench_why,0", why_at_start, BENCH_STACK_WHY, 0, 0, 0, 0},
+    {"bench_why,1", why, BENCH_STACK_WHY, 0, 0, 0, 0},
 };
 enum { CALLS = sizeof calls / sizeof *calls };
 
@@ -313,6 +340,7 @@ int main(int count, char **plans) {
             printf("%s was never done\n", call.name);
         faults |= call.needs > call.says || call.first > call.says || !call.done || !call.first_done;
     }
-    printf("bin/settle - %u\nbin/decode - %u\n", BENCH_STACK_PROGRAM_SETTLE, BENCH_STACK_PROGRAM_DECODE);
+    printf("bin/settle - %u\nbin/decode - %u\nbin/why - %u\n", BENCH_STACK_PROGRAM_SETTLE, BENCH_STACK_PROGRAM_DECODE,
+           BENCH_STACK_PROGRAM_WHY);
     return faults;
 }

@@ -10,7 +10,7 @@ use native.Mathlib.Omega.{arith}
 use lib.Dec.{ltb, leb}
 use lib.ListN.{getD, drop}
 use borrow.Author.Tests.{ltb-true, leb-true}
-use Rattle.answers.specs.Ordered.{Condition, ask, Ordered}
+use Rattle.answers.specs.Ordered.{Condition, ask, Ordered, Tells as Call·Tells}
 use Rattle.lists.proofs.Tests.{and-left, and-right}
 use Rattle.plan.specs.Refusals.{verdict}
 use Rattle.plan.specs.Reading.{planOf, Held, reads}
@@ -26,6 +26,7 @@ use Rattle.bench.specs.Round.{Areas}
 use Rattle.bench.specs.RoundCall.{roundAsks, Plays}
 use Rattle.bench.specs.Settling.{pair, settleAsks}
 use Rattle.reach.specs.Reach.{reachAsks, Reaches}
+use Rattle.ways.specs.Calls.{wayAsks}
 use Rattle.door.specs.OnFile.{OnFile, Changes, Gives}
 use Rattle.door.specs.Own.{own, SettlesOwn}
 
@@ -115,3 +116,9 @@ module _ (file : List ℕ) (bytes : (i : ℕ) → getD file i 0 < 256) where
   pub reach-tells : (state : State) (device k n value set : ℕ) {kept : Type 0} → OnFile file (λ p. Reaches p state device k n value set) n kept → Tells file n
   reach-tells state device k n value set =
       tells (drop 1 (reachAsks plan state device k)) refl (λ p. Reaches p state device k n value set) n (λ o. o .answers)
+
+  -- crossings, chain and cut, whatever is right of their areas
+  pub way-tells : (state : State) (Fits : Type 0) (d k e : ℕ) (Right : Plan → ℕ → List ℕ → Type 0) (before after : List ℕ) (n value : ℕ)
+      → Gives file (λ p before n value after. Call·Tells (wayAsks p state Fits d k e) (Right p) before n value after) before n value after → Tells file n
+  way-tells state Fits d k e Right before after n value =
+      tells (drop 1 (wayAsks plan state Fits d k e)) refl (λ p. Call·Tells (wayAsks p state Fits d k e) (Right p) before n value after) n (λ o. o .answers)

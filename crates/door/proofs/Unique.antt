@@ -24,8 +24,14 @@ use Rattle.bench.specs.Settling.{Pair, pair}
 use Rattle.bench.proofs.Unique.{round-unique, settle-unique}
 use Rattle.reach.specs.Reach.{Reaches}
 use Rattle.reach.proofs.Unique.{reach-unique}
+use Rattle.ways.specs.Crossings.{TellsCrossings}
+use Rattle.ways.specs.Chain.{TellsChain}
+use Rattle.ways.specs.Cut.{TellsCut}
+use Rattle.ways.proofs.Unique.{crossings-unique, chain-unique, cut-unique}
 use Rattle.report.specs.Report.{Areas as Texts, lent}
 use Rattle.report.proofs.Unique.{report-unique}
+use Rattle.reasons.specs.Why.{TellsWhy}
+use Rattle.reasons.proofs.Unique.{why-unique}
 use Rattle.door.specs.Numbers.{nonzero, sideOf, Reacts}
 use Rattle.door.specs.OnFile.{OnFile, Changes, Gives}
 use Rattle.door.specs.Own.{own, SettlesOwn, ReportsOwn}
@@ -120,7 +126,20 @@ module _ (file : List ℕ) where
           let e = settle-unique (planOf file) (pair before own) allowance m n v w (pair a own) (pair b own) p q in
           (e .0, e .1, ap (λ (x : Pair). x .state) (e .2))
 
+  module _ (state : State) (source k : ℕ) where
+    pub bench-for-header-crossings-unique : OnceWith (List ℕ) (Gives file (λ plan. TellsCrossings plan state source k))
+    bench-for-header-crossings-unique = gives-once (List ℕ) (λ plan. TellsCrossings plan state source k) (crossings-unique (planOf file) state source k)
+
+    pub bench-for-header-chain-unique : (device : ℕ) → OnceWith (List ℕ) (Gives file (λ plan. TellsChain plan state k source device))
+    bench-for-header-chain-unique device = gives-once (List ℕ) (λ plan. TellsChain plan state k source device) (chain-unique (planOf file) state k source device)
+
+    pub bench-for-header-cut-unique : OnceWith (List ℕ) (Gives file (λ plan. TellsCut plan state source k))
+    bench-for-header-cut-unique = gives-once (List ℕ) (λ plan. TellsCut plan state source k) (cut-unique (planOf file) state source k)
+
   pub bench-for-header-report-unique : OnceWith (List ℕ) (ReportsOwn file)
   bench-for-header-report-unique before m n v w a b p q =
       let e = report-unique file (lent own own before) m n v w (lent own own a) (lent own own b) p q in
       (e .0, e .1, ap (λ (x : Texts). x .text) (e .2))
+
+  pub bench-for-header-why-unique : (given : ℕ) (bytes : List ℕ) (source k device : ℕ) → OnceWith (List ℕ) (TellsWhy file (nonzero given) bytes source k device)
+  bench-for-header-why-unique given bytes source k device = why-unique file (nonzero given) bytes source k device

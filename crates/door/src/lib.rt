@@ -15,6 +15,10 @@ ghost use Rattle.calls.specs.Calls.{Takes, Ticks, Links, Resets};
 ghost use Rattle.bench.specs.RoundCall.{Plays};
 ghost use Rattle.bench.specs.Round.{areas};
 ghost use Rattle.reach.specs.Reach.{Reaches};
+ghost use Rattle.ways.specs.Crossings.{TellsCrossings};
+ghost use Rattle.ways.specs.Chain.{TellsChain};
+ghost use Rattle.ways.specs.Cut.{TellsCut};
+ghost use Rattle.reasons.specs.Why.{TellsWhy};
 ghost use Rattle.door.specs.Numbers.{nonzero, sideOf, Reacts};
 ghost use Rattle.door.specs.OnFile.{OnFile, Changes, Gives};
 ghost use Rattle.door.specs.Own.{SettlesOwn, ReportsOwn};
@@ -335,6 +339,95 @@ pub extern "C" fn bench_for_header_report(file: &[u8], text: &mut [u8], used: &m
     let mut state = [0u32; bench::WORDS];
     let mut second = [0u32; bench::WORDS];
     let answer = report::report(file, &mut state, &mut second, text);
+    *used = answer.value;
+    answer.number
+}
+
+// ---- why an interrupt got to a device, or not
+
+// How many crossings away from a source each device is; the most goes to `most`.
+#[no_mangle]
+pub extern "C" fn bench_for_header_crossings(
+    plan: &[u8],
+    state: &[u32],
+    source: usize,
+    k: u32,
+    crossings: &mut [u32],
+    most: &mut u32,
+) -> u32
+    ensures { λ r. ⌜ Gives (now (plan .entry)) (λ p. TellsCrossings p (now (state .entry)) source k) (now (crossings .entry)) r (now (most .exit)) (now (crossings .exit)) ⌝ }
+{
+    let read = planfile::read(plan);
+    if read.number != 0 {
+        *most = 0;
+        return read.number;
+    }
+    let answer = ways::crossings(read.plan, state, source, k, crossings);
+    *most = answer.value;
+    answer.number
+}
+
+// The ports of a shortest chain from a source to a device; how many goes to `crossings`.
+#[no_mangle]
+pub extern "C" fn bench_for_header_chain(
+    plan: &[u8],
+    state: &[u32],
+    source: usize,
+    k: u32,
+    device: usize,
+    ports: &mut [u32],
+    crossings: &mut u32,
+) -> u32
+    ensures { λ r. ⌜ Gives (now (plan .entry)) (λ p. TellsChain p (now (state .entry)) k source device) (now (ports .entry)) r (now (crossings .exit)) (now (ports .exit)) ⌝ }
+{
+    let read = planfile::read(plan);
+    if read.number != 0 {
+        *crossings = 0;
+        return read.number;
+    }
+    let answer = ways::chain(read.plan, state, source, k, device, ports);
+    *crossings = answer.value;
+    answer.number
+}
+
+// The cause at each port that leads out of what a source reaches; how many there are goes to `count`.
+#[no_mangle]
+pub extern "C" fn bench_for_header_cut(
+    plan: &[u8],
+    state: &[u32],
+    source: usize,
+    k: u32,
+    causes: &mut [u32],
+    count: &mut u32,
+) -> u32
+    ensures { λ r. ⌜ Gives (now (plan .entry)) (λ p. TellsCut p (now (state .entry)) source k) (now (causes .entry)) r (now (count .exit)) (now (causes .exit)) ⌝ }
+{
+    let read = planfile::read(plan);
+    if read.number != 0 {
+        *count = 0;
+        return read.number;
+    }
+    let answer = ways::cut(read.plan, state, source, k, causes);
+    *count = answer.value;
+    answer.number
+}
+
+// The text that the program why prints for a plan file, a state file's bytes unless `given` is 0, and
+// three numbers; its length goes to `used`.
+#[no_mangle]
+pub extern "C" fn bench_for_header_why(
+    plan: &[u8],
+    given: u32,
+    state: &[u8],
+    source: u32,
+    k: u32,
+    device: u32,
+    text: &mut [u8],
+    used: &mut u32,
+) -> u32
+    ensures { λ r. ⌜ TellsWhy (now (plan .entry)) (nonzero given) (now (state .entry)) source k device (now (text .entry)) r (now (used .exit)) (now (text .exit)) ⌝ }
+{
+    let answer = reasons::why(plan, given != 0, state, source, k, device, text);
     *used = answer.value;
     answer.number
 }
