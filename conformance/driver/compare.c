@@ -24,7 +24,7 @@ static size comparisons[CALLS], hits[CALLS][2][28]; /* those of a link by its fl
 
 static const char *const names[CALLS] = {
     "code read", "code write", "react", "plan read", "start", "request", "acknowledge", "link", "reset", "tick", "round",
-    "settle", "reach", "report"};
+    "settle", "reach", "report", "crossings", "chain", "cut", "why"};
 
 /* Every number that a call can answer; the run has to hit each, for a link with either flag. */
 enum { END = 255 };
@@ -35,7 +35,9 @@ static const u8 numbers[CALLS][18] = {
     [REQUEST] = {0, OF_FILES, 2, 4, 5, 6, 7, 8, 9, END}, [ACKNOWLEDGES] = {0, OF_FILES, 2, 4, 5, 6, 13, 7, 8, 9, END},
     [LINK] = {0, OF_FILES, 2, 4, 7, 10, END}, [RESET] = {0, OF_FILES, 2, 4, END},
     [TICK] = {0, OF_FILES, 2, 4, 14, 7, END}, [ROUND] = {0, OF_FILES, 2, 3, END},
-    [SETTLE] = {0, OF_FILES, 2, 11, 12, END}, [REACH] = {0, OF_FILES, 2, 4, 5, 6, END}, [REPORT] = {0, 3, END}};
+    [SETTLE] = {0, OF_FILES, 2, 11, 12, END}, [REACH] = {0, OF_FILES, 2, 4, 5, 6, END}, [REPORT] = {0, 3, END},
+    [CROSSINGS] = {0, OF_FILES, 2, 3, 4, 5, 6, END}, [CHAIN] = {0, OF_FILES, 2, 3, 4, 5, 6, END},
+    [CUT] = {0, OF_FILES, 2, 3, 4, 5, 6, END}, [WHY] = {0, 3, END}};
 
 _Noreturn void fail(const char *what, size one, size other) {
     printf("judge: %s: %lu, %lu\n", what, one, other);
@@ -51,6 +53,11 @@ _Noreturn void fail(const char *what, size one, size other) {
 void must_be(const char *what, size wanted, size given) {
     if (wanted != given)
         fail(what, wanted, given);
+}
+
+void must_say(const char *what, const char *text, const struct printed *printed) {
+    must_be(what, strlen(text), printed->used);
+    must_be(what, 0, memcmp(text, printed->text, printed->used) != 0);
 }
 
 /* A call, and the numbers that it is given, for where it fails. */
@@ -272,16 +279,76 @@ u32 try_reach(const struct plan *plan, const struct state *state, size device, u
                                      by_bench(devices), by_bench(set)));
 }
 
+static u32 judge_way(enum call call, const u8 *plan, size plan_length, const u32 *state, size state_length,
+                     struct question asks, u32 *words, size length, u32 *value) {
+    switch (call) {
+    case CROSSINGS: return judge_crossings(plan, plan_length, state, state_length, asks.source, asks.k, words, length, value);
+    case CUT: return judge_cut(plan, plan_length, state, state_length, asks.source, asks.k, words, length, value);
+    default:
+        return judge_chain(plan, plan_length, state, state_length, asks.source, asks.k, asks.device, words, length, value);
+    }
+}
+
+static u32 bench_way(enum call call, const u8 *plan, size plan_length, const u32 *state, size state_length,
+                     struct question asks, u32 *words, size length, u32 *value) {
+    switch (call) {
+    case CROSSINGS: return bench_crossings(plan, plan_length, state, state_length, asks.source, asks.k, words, length, value);
+    case CUT: return bench_cut(plan, plan_length, state, state_length, asks.source, asks.k, words, length, value);
+    default:
+        return bench_chain(plan, plan_length, state, state_length, asks.source, asks.k, asks.device, words, length, value);
+    }
+}
+
+u32 try_way(enum call call, const struct plan *plan, const struct state *state, struct question asks, struct found *found) {
+    begin(call, GIVEN(plan->length, state->length, asks.source, asks.k, asks.device, found->length));
+    struct lent *file = lend("plan", INPUT, 1, plan->bytes, plan->length);
+    struct lent *area = lend("state", INPUT, 4, state->words, state->length);
+    struct lent *words = lend("words", AREA, 4, 0, found->length), *value = lend("value", VALUE, 4, 0, 1);
+    u32 judge = judge_way(call, by_judge(file), plan->length, by_judge(area), state->length, asks, by_judge(words),
+                          found->length, by_judge(value));
+    finish(judge, bench_way(call, by_bench(file), plan->length, by_bench(area), state->length, asks, by_bench(words),
+                            found->length, by_bench(value)));
+    memcpy(found->words, by_bench(words), words->bytes);
+    memcpy(&found->value, by_bench(value), value->bytes);
+    if (judge)
+        must_be("the value beside a refusal", 0, found->value);
+    return judge;
+}
+
+/* A text stands in front of its area, and behind it nothing is changed. Where there is none its length is 0. */
+static u32 take_text(u32 number, struct printed *printed, struct lent *text, struct lent *used) {
+    const u8 *bytes = by_bench(text);
+    memcpy(printed->text, bytes, text->bytes);
+    memcpy(&printed->used, by_bench(used), used->bytes);
+    if (printed->used > text->bytes)
+        fail("a text that is longer than its area (text, area)", printed->used, text->bytes);
+    if (memcmp(text->before + printed->used, bytes + printed->used, text->bytes - printed->used))
+        fail("something is changed behind a text (text, area)", printed->used, text->bytes);
+    if (number)
+        must_be("the length of a text that is refused", 0, printed->used);
+    return number;
+}
+
+u32 try_why(const struct plan *plan, const struct state_file *given, struct question asks, struct printed *printed) {
+    u32 source = asks.source, device = asks.device;
+    begin(WHY, GIVEN(plan->length, given->given, given->length, source, asks.k, device, printed->text_length));
+    struct lent *file = lend("plan", INPUT, 1, plan->bytes, plan->length);
+    struct lent *area = lend("state", INPUT, 1, given->bytes, given->length);
+    struct lent *text = lend("text", AREA, 1, 0, printed->text_length), *used = lend("length used", VALUE, 4, 0, 1);
+    u32 judge = judge_why(by_judge(file), plan->length, given->given, by_judge(area), given->length, source, asks.k, device,
+                          by_judge(text), printed->text_length, by_judge(used));
+    u32 bench = bench_why(by_bench(file), plan->length, given->given, by_bench(area), given->length, source, asks.k, device,
+                          by_bench(text), printed->text_length, by_bench(used));
+    return take_text(finish(judge, bench), printed, text, used);
+}
+
 u32 try_report(const struct plan *plan, struct printed *printed) {
     begin(REPORT, GIVEN(plan->length, printed->text_length));
     struct lent *file = lend("file", INPUT, 1, plan->bytes, plan->length);
     struct lent *text = lend("text", AREA, 1, 0, printed->text_length), *used = lend("length used", VALUE, 4, 0, 1);
     u32 judge = judge_report(by_judge(file), plan->length, by_judge(text), printed->text_length, by_judge(used));
     u32 bench = bench_report(by_bench(file), plan->length, by_bench(text), printed->text_length, by_bench(used));
-    finish(judge, bench);
-    memcpy(printed->text, by_bench(text), text->bytes);
-    memcpy(&printed->used, by_bench(used), used->bytes);
-    return bench;
+    return take_text(finish(judge, bench), printed, text, used);
 }
 
 static flag hit(enum call call, flag running) {

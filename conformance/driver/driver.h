@@ -11,6 +11,8 @@ _Noreturn void exit(int status);
 int memcmp(const void *one, const void *other, unsigned long bytes);
 void *memcpy(void *restrict to, const void *restrict from, unsigned long bytes);
 void *memset(void *to, int byte, unsigned long bytes);
+int snprintf(char *to, unsigned long bytes, const char *format, ...);
+unsigned long strlen(const char *text);
 unsigned long strtoul(const char *text, char **end, int base);
 
 /* The longest area lent: a text of twice the least length. */
@@ -40,6 +42,25 @@ struct printed {
     u8 text[ROOM];
 };
 
+/* What is asked about the way of interrupts of k: from which source, and, unless it is asked about all devices, to which. */
+struct question {
+    size source, device;
+    u32 k;
+};
+
+/* What is found out about it, in words and a value. The length is given, and may be wrong. */
+struct found {
+    size length;
+    u32 words[2 * CUT_WORDS], value;
+};
+
+/* A state as the bytes of a file, or none, which is a given of 0. Wrong lengths are tried too. */
+struct state_file {
+    u32 given;
+    size length;
+    u8 bytes[2 * 4 * STATE_WORDS];
+};
+
 /* What a word that a host is told is about. */
 enum { OF_INTERRUPT = 1, OF_ACKNOWLEDGE, OF_TIMEOUT, OF_TIME };
 
@@ -53,7 +74,7 @@ size wild(u32 limit);
 /* compare.c: a call to both. Every try_ compares all numbers and areas, counts, and gives what the bench answered. */
 enum call {
     CODE_READ, CODE_WRITE, REACT, PLAN_READ, START, REQUEST, ACKNOWLEDGES, LINK, RESET, TICK, ROUND, SETTLE, REACH, REPORT,
-    CALLS
+    CROSSINGS, CHAIN, CUT, WHY, CALLS
 };
 
 /* A call that changes a state, and what it takes beside plan and state: other is an identifier or a port, and running is what
@@ -66,6 +87,7 @@ struct change {
 
 _Noreturn void fail(const char *what, size one, size other);
 void must_be(const char *what, size wanted, size given);
+void must_say(const char *what, const char *text, const struct printed *printed); /* the text and nothing else */
 u32 value_given(u32 which); /* by the call just tried, from 0 on: plan read its block, settle its rounds, react kind, top, value */
 size compared(void);
 flag all_hit(void);
@@ -82,6 +104,12 @@ u32 try_round_of(struct network *known, const struct plan *plan, const struct st
 u32 try_settle(const struct plan *plan, struct state *state, u32 allowance);
 u32 try_reach(const struct plan *plan, const struct state *state, size device, u32 k);
 u32 try_report(const struct plan *file, struct printed *printed);
+u32 try_way(enum call call, const struct plan *plan, const struct state *state, struct question asks, struct found *found);
+u32 try_why(const struct plan *plan, const struct state_file *given, struct question asks, struct printed *printed);
+
+/* counts.c: counts and their names, in a table; and whether none is 0. */
+void counts_table(const char *const *names, const size *counts, u32 number);
+flag all_counted(const char *what, const char *const *names, const size *counts, u32 number); /* what: said before the name */
 
 /* Of each program with a main: says what was being tried, when something fails. */
 void say_where(void);
@@ -120,7 +148,9 @@ u32 *port_words(struct state *state, u32 device, u32 port);
 u32 *counter_word(struct state *state, u32 device);
 u32 *time_word(struct state *state, u32 device, u32 port);
 void sound_state(struct plan *plan, struct state *state);
+void set_running(struct plan *plan, struct state *state, u32 device, u32 port, flag running); /* what cannot wait there is lost */
 flag break_state(struct plan *plan, struct state *state, u32 clause);
+void state_bytes(const struct state *state, struct state_file *file); /* with any given but 0 */
 void states_table(void); /* what sound ones have of Time-Codes and of events, and how often each clause was broken */
 flag all_states_tried(void);
 
@@ -225,10 +255,18 @@ void try_events(const struct plan *plan);
 void events_table(void);
 flag all_events_tried(void);
 
-/* known.c, clock.c, profile.c, codes.c, trials.c, demand.c, cycle.c and drop.c: what is tried. */
+/* why.c: why an interrupt gets to a device, or does not. */
+size right_words(enum call call); /* of crossings, a chain or a cut */
+void ways_over(const struct plan *plan, const struct state *state, u32 number, u32 block); /* a file that is refused so */
+void try_whys(const struct plan *plan);
+void whys_table(void);
+flag all_whys_tried(void);
+
+/* known.c, clock.c, profile.c, chains.c, codes.c, trials.c, demand.c, cycle.c and drop.c: what is tried. */
 void known_values(void);
 void known_times(void);
 void known_events(void);
+void known_chains(void);
 void try_tables(void);
 void try_files(struct plan *plan);
 void try_calls(struct plan *plan);
@@ -236,6 +274,7 @@ void try_run(struct plan *plan, u32 rounds);
 void try_settling(struct plan *plan);
 void try_reports(struct plan *plan);
 void right_lengths(struct played *played);
+size wrong_length(size right); /* sometimes it is right all the same */
 void ticks_table(void);
 flag all_ticks_answered(void);
 struct change likely_change(struct plan *plan);

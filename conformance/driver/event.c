@@ -378,27 +378,13 @@ void try_events(const struct plan *given) {
 
 void events_table(void) {
     printf("sources of one identifier                      times\n");
-    for (u32 o = 0; o < OWNED; o++)
-        printf("  %-41s %8lu\n", owned_names[o], owned[o]);
+    counts_table(owned_names, owned, OWNED);
     printf("bits of events, with any calls                 times\n");
-    for (u32 f = 0; f < FATES; f++)
-        printf("  %-41s %8lu\n", fate_names[f], fates[f]);
+    counts_table(fate_names, fates, FATES);
     printf("T-08 tried, in up to %4u rounds               times\n", longest);
-    for (u32 w = 0; w < WAYS; w++)
-        printf("  %-41s %8lu\n", way_names[w], times[w]);
+    counts_table(way_names, times, WAYS);
     if (nearest != NOT_YET)
         printf("  rounds by which the last bit was clear before its last round, at least: %u\n", nearest);
-}
-
-/* Names of what was never counted. */
-static flag all_counted(const char *what, const char *const *names, const size *counts, u32 number) {
-    flag all = 1;
-    for (u32 i = 0; i < number; i++)
-        if (!counts[i]) {
-            printf("%s: %s\n", what, names[i]);
-            all = 0;
-        }
-    return all;
 }
 
 flag all_events_tried(void) {

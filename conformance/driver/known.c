@@ -19,10 +19,8 @@ static void three_in_a_row(void) {
 }
 
 static void known_report(void) {
-    static const char text[] = "network 3\n0 5 2 3\n";
     must_be("the report of the paper's plan", 0, try_report(&plan, &printed));
-    must_be("its length", sizeof text - 1, printed.used);
-    must_be("its text", 0, memcmp(text, printed.text, sizeof text - 1) != 0);
+    must_say("its text", "network 3\n0 5 2 3\n", &printed);
 }
 
 /* 32 nodes in pairs, each a source of everything, which are events: no text has more lines. */
@@ -202,12 +200,14 @@ static const struct fault {
 /* Every call over a file that is not accepted answers the file's number. */
 static void refused_by_all(u32 number) {
     must_be("a file with a fault", number, try_plan_read(&plan));
+    u32 block = value_given(0);
     for (enum call call = START; call <= TICK; call++)
         must_be("a call over it", number, try_change((struct change){.call = call}, &plan, &state));
     must_be("a link that is to run", number, try_change((struct change){.call = LINK, .running = 1}, &plan, &state));
     must_be("a round over it", number, try_round(&plan, &state, &played));
     must_be("settling over it", number, try_settle(&plan, &state, MOST_ALLOWED));
     must_be("reach over it", number, try_reach(&plan, &state, 0, 5));
+    ways_over(&plan, &state, number, block);
 }
 
 static void refused_files(void) {

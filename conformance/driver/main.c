@@ -20,6 +20,7 @@ static void play(size which) {
         known_values();
         known_times();
         known_events();
+        known_chains();
         try_tables();
     }
     make_plan(&plan);
@@ -42,6 +43,7 @@ static void play(size which) {
     both_of_two += drop.both;
     of_events += drop.event;
     try_events(&plan);
+    try_whys(&plan);
 }
 
 static flag tried(const char *what, size times) {
@@ -125,8 +127,9 @@ int main(int count, char **words) {
     report();
     time_table();
     events_table();
+    whys_table();
     if (whole && !(all_hit() && all_ticks_answered() && all_states_tried() && all_tried() && all_ports_tried() &&
-                   all_time_tried() && all_events_tried()))
+                   all_time_tried() && all_events_tried() && all_whys_tried()))
         return 1;
     printf("judge: ok\n");
     return 0;

@@ -51,18 +51,6 @@ void count_shapes(struct plan *given) {
         networks[s] += here[s];
 }
 
-/* What waits at a port, as far as it can wait there. */
-static void set_running(u32 device, u32 port, flag running) {
-    u32 *words = port_words(&state, device, port), permissions = port_entry(&plan, device, port)[2];
-    words[AT_RUNNING] = running;
-    if (!running)
-        *time_word(&state, device, port) &= AFTER_TIME;
-    if (!running || !(permissions & 1))
-        words[AT_INTERRUPTS] = 0;
-    if (!running || !(permissions & 4))
-        words[AT_ACKNOWLEDGES] = 0;
-}
-
 /* Both ports get any permissions, and run or stand still, with their other ends. */
 static void arrange(u32 node) {
     for (u32 p = 0; p < NODE_PORTS; p++) {
@@ -71,8 +59,8 @@ static void arrange(u32 node) {
             continue;
         entry[2] = pick(16);
         flag running = once_in(2);
-        set_running(node, p, running);
-        set_running(entry[0], entry[1], running);
+        set_running(&plan, &state, node, p, running);
+        set_running(&plan, &state, entry[0], entry[1], running);
     }
     seal(&plan, 1 + node);
 }

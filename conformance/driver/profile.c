@@ -279,12 +279,10 @@ static void known_bound(void) {
 
 /* A line for each source. */
 static void known_report(void) {
-    static const char text[] = "network 4\n0 5 2 4\n2 5 2 4\n";
     static struct printed printed = {.text_length = TEXT_BYTES};
     star(K, 1, 1u << K);
     must_be("the report of two sources", 0, try_report(&plan, &printed));
-    must_be("its length", sizeof text - 1, printed.used);
-    must_be("its text", 0, memcmp(text, printed.text, sizeof text - 1) != 0);
+    must_say("its text", "network 4\n0 5 2 4\n2 5 2 4\n", &printed);
 }
 
 void known_events(void) {

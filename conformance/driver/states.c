@@ -95,6 +95,17 @@ void sound_state(struct plan *plan, struct state *state) {
     count_havings(plan, state);
 }
 
+void set_running(struct plan *plan, struct state *state, u32 device, u32 port, flag running) {
+    u32 *words = port_words(state, device, port), permissions = port_entry(plan, device, port)[2];
+    words[AT_RUNNING] = running;
+    if (!running)
+        *time_word(state, device, port) &= AFTER_TIME;
+    if (!running || !(permissions & 1))
+        words[AT_INTERRUPTS] = 0;
+    if (!running || !(permissions & 4))
+        words[AT_ACKNOWLEDGES] = 0;
+}
+
 /* The clauses, in the order of the functions below. */
 static const char *const clauses[CLAUSES] = {
     "a timer of 0 whose bit is 1", "a timer above 65,535", "a timer whose bit is 0", "a bit turned round", "next above 31",
@@ -190,25 +201,22 @@ flag break_state(struct plan *plan, struct state *state, u32 clause) {
     return 0;
 }
 
+void state_bytes(const struct state *state, struct state_file *file) {
+    file->given = once_in(2) ? 1 : 1u << pick(32);
+    file->length = 4 * state->length;
+    for (size i = 0; i < state->length; i++)
+        put_number(file->bytes + 4 * i, 4, state->words[i]);
+}
+
 void states_table(void) {
     for (u32 h = 0; h < HAVINGS; h++)
         printf("%s%-*s %8lu\n", h ? "  " : "", h ? 41 : 43, having_names[h], having[h]);
     printf("states with one thing wrong                    times\n");
-    for (u32 c = 0; c < CLAUSES; c++)
-        printf("  %-41s %8lu\n", clauses[c], broken_so[c]);
+    counts_table(clauses, broken_so, CLAUSES);
 }
 
 flag all_states_tried(void) {
-    flag all = 1;
-    for (u32 h = 0; h < HAVINGS; h++)
-        if (!having[h]) {
-            printf("no state was so: %s\n", having_names[h]);
-            all = 0;
-        }
-    for (u32 c = 0; c < CLAUSES; c++)
-        if (!broken_so[c]) {
-            printf("no state was wrong so: %s\n", clauses[c]);
-            all = 0;
-        }
+    flag all = all_counted("no state was so", having_names, having, HAVINGS);
+    all &= all_counted("no state was wrong so", clauses, broken_so, CLAUSES);
     return all;
 }

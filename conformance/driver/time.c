@@ -214,24 +214,13 @@ void try_time(const struct plan *given) {
 
 void time_table(void) {
     printf("byte 10 of block 0 names                       times\n");
-    for (u32 n = 0; n < NAMES; n++)
-        printf("  %-41s %8lu\n", name_names[n], named[n]);
+    counts_table(name_names, named, NAMES);
     printf("time is distributed, in up to %2u rounds        times\n", longest);
-    for (u32 w = 0; w < WAYS; w++)
-        printf("  %-41s %8lu\n", way_names[w], times[w]);
+    counts_table(way_names, times, WAYS);
 }
 
 flag all_time_tried(void) {
-    flag all = 1;
-    for (u32 n = 0; n < NAMES; n++)
-        if (!named[n]) {
-            printf("byte 10 never named so: %s\n", name_names[n]);
-            all = 0;
-        }
-    for (u32 w = 0; w < WAYS; w++)
-        if (!times[w]) {
-            printf("time was never distributed so: %s\n", way_names[w]);
-            all = 0;
-        }
+    flag all = all_counted("byte 10 never named so", name_names, named, NAMES);
+    all &= all_counted("time was never distributed so", way_names, times, WAYS);
     return all;
 }

@@ -1,7 +1,7 @@
 /* What is tried on a network: files, calls from any state, runs of rounds, settling, reach and reports. */
 #include "driver.h"
 
-static size wrong_length(size right) {
+size wrong_length(size right) {
     const size lengths[] = {0, 1, right - 1, right + 1, right / 2, 2 * right, pick(2 * right)};
     return lengths[pick(sizeof lengths / sizeof *lengths)];
 }

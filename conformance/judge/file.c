@@ -5,7 +5,7 @@
 enum { FIRST_ENTRY = 12, ENTRY = 4, PEER_DEVICE = 0, PEER_PORT = 1, PERMISSIONS = 2, SPARE = 3, NOWHERE = 255 };
 enum { EVENTS = 6, MASTER = 10, BEHIND_FIELDS = FIRST_ENTRY + ENTRY * PORTS, CHECK_AT = 510 };
 
-static u32 number_at(const u8 *at, u32 bytes) {
+u32 number_at(const u8 *at, u32 bytes) {
     return bytes ? at[0] + 256 * number_at(at + 1, bytes - 1) : 0;
 }
 

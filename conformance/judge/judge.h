@@ -15,6 +15,7 @@ typedef unsigned long size;
 enum { DEVICES = 32, PORTS = 8, NODE_PORTS = 2, IDENTIFIERS = 32, TIMES = 64 };
 enum { BLOCK = 512, LONGEST_FILE = BLOCK * (1 + DEVICES) };
 enum { STATE_WORDS = 2368, SENT_WORDS = 256, TOLD_WORDS = 1088, TEXT_BYTES = 14347, MOST_ALLOWED = 4096, SENT_NONE = 256 };
+enum { CROSSINGS_WORDS = 32, CHAIN_WORDS = 32, CUT_WORDS = 256, WHY_BYTES = 5640, CHAIN_NONE = 256 };
 
 /* The words of a state. Of a device: the register and the timers. Behind all devices, of a port: these four. */
 enum { AT_INTERRUPTS, AT_ACKNOWLEDGES, AT_NEXT, AT_RUNNING, PORT_WORDS };
@@ -81,7 +82,9 @@ void mask_read(u32 mask, flag member[]);
 enum action react(flag router, flag running, const flag may_receive[], const flag event[], flag set[], u32 *counter,
                   struct code code);
 
-/* file.c: the number of the first fault in a plan file, or 0 with the plan in the network. */
+/* file.c: the number of the first fault in a plan file, or 0 with the plan in the network. A number stands in bytes with the lowest
+ * first. */
+u32 number_at(const u8 *at, u32 bytes);
 u32 block_check(const u8 *block);
 u32 file_read(struct network *net, const u8 *file, size length, u32 *block);
 
@@ -89,6 +92,7 @@ u32 file_read(struct network *net, const u8 *file, size length, u32 *block);
 void clear_device(struct device *device);
 void clear_waiting(struct port *port); /* of Time-Codes the last one sent too, so that the port's word is 0 */
 void start(struct network *net);
+flag state_read(struct network *net, const u32 *words, size length); /* of a plan that is there; 0 where it is not sound */
 u32 network_read(struct network *net, const u8 *plan, size plan_length, const u32 *state, size state_length);
 void state_write(const struct network *net, u32 *words);
 
@@ -99,10 +103,29 @@ void play_round(struct network *net, struct told *told);
 void build_round(struct network *net, u32 *next, u32 *sent, u32 *told, u32 *count); /* the same, into its areas */
 u32 settle(struct network *net, u32 allowance, u32 *rounds);
 
-/* reach.c: the least crossings by which a code of a kind gets from one device to each, UNREACHED for none; the number of
- * devices reached. Where distances are given as within, only devices that these reach are entered; null is no such limit. */
+/* reach.c: does a code of a kind that the port sends get into the device at its other end? */
+flag passes(const struct port *port, enum kind kind);
+
+/* The least crossings by which a code of a kind gets from one device to each, UNREACHED for none; the number of devices reached.
+ * Where distances are given as within, only devices that these reach are entered; null is no such limit. */
 enum { UNREACHED = DEVICES };
 u32 crossings(const struct network *net, u32 start, enum kind kind, const u32 *within, u32 distance[DEVICES]);
+
+/* The number that answers a question about the way of interrupts of k from a source to a device, or 0. */
+u32 way_refused(const struct network *net, size source, u32 k, size device);
+
+/* Why a port that leads out of what is reached does not lead its code there: the first of these that is so, in this order. */
+enum cause { NOT_OUT, STOPPED, MAY_NOT_SEND, MAY_NOT_RECEIVE, DOES_NOT_FORWARD, CAUSES };
+
+/* text.c: what texts are made of. */
+struct text {
+    u8 *bytes;
+    u32 used;
+};
+void print(struct text *text, const char *word);
+void print_number(struct text *text, u32 number);
+void print_numbers(struct text *text, const u32 *numbers, u32 count); /* with a space between two */
+void print_bad(struct text *text, u32 number, u32 block); /* of a file that is not accepted */
 
 /* The calls, as in include/bench.h. */
 u32 judge_code_read(u8 byte, u32 *top, u32 *value);
@@ -122,5 +145,13 @@ u32 judge_settle(const u8 *plan, size plan_length, u32 *state, size state_length
 u32 judge_reach(const u8 *plan, size plan_length, const u32 *state, size state_length, size device, u32 k, u32 *devices,
                 u32 *set);
 u32 judge_report(const u8 *file, size length, u8 *text, size text_length, u32 *text_used);
+u32 judge_crossings(const u8 *plan, size plan_length, const u32 *state, size state_length, size source, u32 k, u32 *crossings,
+                    size crossings_length, u32 *most);
+u32 judge_chain(const u8 *plan, size plan_length, const u32 *state, size state_length, size source, u32 k, size device,
+                u32 *ports, size ports_length, u32 *crossings);
+u32 judge_cut(const u8 *plan, size plan_length, const u32 *state, size state_length, size source, u32 k, u32 *causes,
+              size causes_length, u32 *count);
+u32 judge_why(const u8 *plan, size plan_length, u32 given, const u8 *state, size state_length, u32 source, u32 k, u32 device,
+              u8 *text, size text_length, u32 *used);
 
 #endif

@@ -2,8 +2,7 @@
  * is a shortest one. */
 #include "judge.h"
 
-/* Does a code of this kind that the port sends get into the device at the other end? */
-static flag passes(const struct port *port, enum kind kind) {
+flag passes(const struct port *port, enum kind kind) {
     return port->peer && port->running && port->may_send[kind] && port->peer->may_receive[kind];
 }
 
@@ -30,6 +29,14 @@ u32 crossings(const struct network *net, u32 start, enum kind kind, const u32 *w
     return last;
 }
 
+u32 way_refused(const struct network *net, size source, u32 k, size device) {
+    if (source >= net->devices || device >= net->devices)
+        return 4;
+    if (k >= IDENTIFIERS)
+        return 5;
+    return net->device[source].source[k] ? 0 : 6;
+}
+
 u32 judge_reach(const u8 *plan, size plan_length, const u32 *state, size state_length, size device, u32 k, u32 *devices,
                 u32 *set) {
     struct network net;
@@ -39,12 +46,9 @@ u32 judge_reach(const u8 *plan, size plan_length, const u32 *state, size state_l
     u32 number = network_read(&net, plan, plan_length, state, state_length);
     if (number)
         return number;
-    if (device >= net.devices)
-        return 4;
-    if (k >= IDENTIFIERS)
-        return 5;
-    if (!net.device[device].source[k])
-        return 6;
+    number = way_refused(&net, device, k, device);
+    if (number)
+        return number;
     *devices = crossings(&net, device, INTERRUPT, 0, distance);
     for (u32 d = 0; d < DEVICES; d++)
         *set |= (u32)(distance[d] != UNREACHED) << d;

@@ -1,22 +1,6 @@
 /* The text that the program settle prints. */
 #include "judge.h"
 
-struct text {
-    u8 *bytes;
-    u32 used;
-};
-
-static void print(struct text *text, const char *word) {
-    while (*word)
-        text->bytes[text->used++] = *word++;
-}
-
-static void print_number(struct text *text, u32 number) {
-    if (number >= 10)
-        print_number(text, number / 10);
-    text->bytes[text->used++] = '0' + number % 10;
-}
-
 static u32 holders(const struct network *net, u32 k) {
     u32 count = 0;
     for (u32 d = 0; d < net->devices; d++)
@@ -50,9 +34,7 @@ static void print_network(struct text *text, struct network *net) {
         for (u32 k = 0; k < IDENTIFIERS; k++) {
             if (!net->device[d].source[k])
                 continue;
-            print_number(text, d);
-            print(text, " ");
-            print_number(text, k);
+            print_numbers(text, (const u32[]){d, k}, 2);
             print(text, " ");
             print_settling(text, net, d, k);
             print(text, "\n");
@@ -67,15 +49,10 @@ u32 judge_report(const u8 *file, size length, u8 *text, size text_length, u32 *t
     if (text_length < TEXT_BYTES)
         return 3;
     u32 number = file_read(&net, file, length, &block);
-    if (number) {
-        print(&printed, "bad ");
-        print_number(&printed, number);
-        print(&printed, " ");
-        print_number(&printed, block);
-        print(&printed, "\n");
-    } else {
+    if (number)
+        print_bad(&printed, number, block);
+    else
         print_network(&printed, &net);
-    }
     *text_used = printed.used;
     return 0;
 }

@@ -115,7 +115,7 @@ static flag ends_agree(const struct device *device) {
     return 1;
 }
 
-static flag state_read(struct network *net, const u32 *words, size length) {
+flag state_read(struct network *net, const u32 *words, size length) {
     if (length != STATE_WORDS)
         return 0;
     flag sound = 1;
