@@ -1,5 +1,5 @@
 -- `ways::picks::pick` meets its contract. The invariant: none of the ports before port p is one, so that the others decide. Assumes nothing.
-use mathlib.Core.Path.{_≡_}
+use mathlib.Core.Path.{_≡_, refl}
 use mathlib.Core.Bool.{Bool, true, false}
 use mathlib.Core.List.{List}
 use Prim.Native.Nat.{ℕ, suc, _+_, _-_, _*_, _≤_, _<_}
@@ -34,6 +34,10 @@ module _ (role to far : List ℕ) (n d p : ℕ) (v : Left role to far n d p) whe
   unfolding pick
   last h = let e : p ≡ 7 = omega arith in rw e at (v .same)
 
+-- no port was looked at yet
+first : (role to far : List ℕ) (n d p : ℕ) → p ≡ 0 → Left role to far n d p
+first role to far n d p z = record { within = omega (arith, z); same = rw (z, add-zero) }
+
 abbrev Inv-loop : tie.InvT-loop
 Inv-loop role to far n d p₀ p = Left role to far n d p
 
@@ -41,7 +45,7 @@ abbrev μ-loop : tie.MeasureT-loop
 μ-loop role to far n d p₀ p = 7 - p
 
 loop-holds : tie.Need-loop-holds Inv-loop μ-loop
-loop-holds c = record { within = omega arith; same = rw add-zero }
+loop-holds c = first _ _ _ _ _ _ refl
 
 nearer-requires : tie.Need-nearer-requires Inv-loop μ-loop
 nearer-requires c κs = search needs
