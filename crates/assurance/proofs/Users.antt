@@ -95,8 +95,9 @@ module _ (plan : Plan) (k source D : ℕ) (s : State) (at : ℕ → State) (give
     as-many = holders-size (devices plan) k set end same ∙ sym (size-within (devices plan) 32 set (few plan (given .held)) absent)
 
   -- whatever reach answers before the request, it is not refused, and at the end as many devices hold k as its value says
-  pub as-many-as-reach-says : (number value set : ℕ) → Reaches plan s source k number value set → (number ≡ 0) × (holders (devices plan) k end ≡ value)
-  as-many-as-reach-says number value set x =
+  pub as-many-as-reach-says : (number value set examined : ℕ) → Reaches plan s source k number value set examined
+      → (number ≡ 0) × (holders (devices plan) k end ≡ value)
+  as-many-as-reach-says number value set examined x =
       let asked = holds (callAsks plan 0 source k s) refl (given .taken) refl in
       let done : number ≡ 0 =
       ordered-once (reachAsks plan s source k) number 0 (x .answers)

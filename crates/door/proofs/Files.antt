@@ -113,9 +113,9 @@ module _ (file : List ℕ) (bytes : (i : ℕ) → getD file i 0 < 256) where
   pub round-tells : (old : State) (before after : Areas) (n value : ℕ) → Gives file (λ p. Plays p old) before n value after → Tells file n
   round-tells old before after n value = tells (drop 1 (roundAsks plan old before)) refl (λ p. Plays p old before n value after) n (λ o. o .answers)
 
-  pub reach-tells : (state : State) (device k n value set : ℕ) {kept : Type 0} → OnFile file (λ p. Reaches p state device k n value set) n kept → Tells file n
-  reach-tells state device k n value set =
-      tells (drop 1 (reachAsks plan state device k)) refl (λ p. Reaches p state device k n value set) n (λ o. o .answers)
+  pub reach-tells : (state : State) (device k n value set examined : ℕ) {kept : Type 0} → OnFile file (λ p. Reaches p state device k n value set examined) n kept → Tells file n
+  reach-tells state device k n value set examined =
+      tells (drop 1 (reachAsks plan state device k)) refl (λ p. Reaches p state device k n value set examined) n (λ o. o .answers)
 
   -- crossings, chain and cut, whatever is right of their areas
   pub way-tells : (state : State) (Fits : Type 0) (d k e : ℕ) (Right : Plan → ℕ → List ℕ → Type 0) (before after : List ℕ) (n value : ℕ)

@@ -108,12 +108,12 @@ module _ (file : List ℕ) where
     pub bench-for-header-reset-unique : Once (Changes file (λ plan. Resets plan device))
     bench-for-header-reset-unique = changes-once (λ plan. Resets plan device) (reset-unique (planOf file) device)
 
-    pub bench-for-header-reach-unique : (state : State) (k m n v w x y : ℕ)
-        → OnFile file (λ plan. Reaches plan state device k m v x) m ((v ≡ 0) × (x ≡ 0))
-        → OnFile file (λ plan. Reaches plan state device k n w y) n ((w ≡ 0) × (y ≡ 0)) → (m ≡ n) × (v ≡ w) × (x ≡ y)
-    bench-for-header-reach-unique state k m n v w x y =
-        on-file-once file (λ plan. Reaches plan state device k m v x) (λ plan. Reaches plan state device k n w y) m n
-        (reach-unique (planOf file) state device k m n v w x y) (λ e p q. (e, p .0 ∙ sym (q .0), p .1 ∙ sym (q .1)))
+    pub bench-for-header-reach-ports-unique : (state : State) (k m n v w x y a b : ℕ)
+        → OnFile file (λ plan. Reaches plan state device k m v x a) m ((v ≡ 0) × (x ≡ 0) × (a ≡ 0))
+        → OnFile file (λ plan. Reaches plan state device k n w y b) n ((w ≡ 0) × (y ≡ 0) × (b ≡ 0)) → (m ≡ n) × (v ≡ w) × (x ≡ y) × (a ≡ b)
+    bench-for-header-reach-ports-unique state k m n v w x y a b =
+        on-file-once file (λ plan. Reaches plan state device k m v x a) (λ plan. Reaches plan state device k n w y b) m n
+        (reach-unique (planOf file) state device k m n v w x y a b) (λ e p q. (e, p .0 ∙ sym (q .0), p .1 ∙ sym (q .1), p .2 ∙ sym (q .2)))
 
   pub bench-for-header-round-unique : (old : State) → OnceWith Areas (Gives file (λ plan. Plays plan old))
   bench-for-header-round-unique old = gives-once Areas (λ plan. Plays plan old) (round-unique (planOf file) old)

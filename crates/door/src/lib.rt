@@ -306,27 +306,31 @@ pub extern "C" fn bench_for_header_settle(
     answer.number
 }
 
-// The devices that interrupts of k reach from a device: how many, and the set of them.
+// The devices that interrupts of k reach from a device: how many, the set of them, and how many ports
+// were examined.
 #[no_mangle]
-pub extern "C" fn bench_for_header_reach(
+pub extern "C" fn bench_for_header_reach_ports(
     plan: &[u8],
     state: &[u32],
     device: usize,
     k: u32,
     devices: &mut u32,
     set: &mut u32,
+    examined: &mut u32,
 ) -> u32
-    ensures { λ r. ⌜ OnFile (now (plan .entry)) (λ p. Reaches p (now (state .entry)) device k r (now (devices .exit)) (now (set .exit))) r ((now (devices .exit) ≡ 0) × (now (set .exit) ≡ 0)) ⌝ }
+    ensures { λ r. ⌜ OnFile (now (plan .entry)) (λ p. Reaches p (now (state .entry)) device k r (now (devices .exit)) (now (set .exit)) (now (examined .exit))) r ((now (devices .exit) ≡ 0) × (now (set .exit) ≡ 0) × (now (examined .exit) ≡ 0)) ⌝ }
 {
     let read = planfile::read(plan);
     if read.number != 0 {
         *devices = 0;
         *set = 0;
+        *examined = 0;
         return read.number;
     }
     let answer = reach::reach(read.plan, state, device, k);
     *devices = answer.value;
     *set = answer.set;
+    *examined = answer.examined;
     answer.number
 }
 

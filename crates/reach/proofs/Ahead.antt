@@ -33,3 +33,7 @@ module _ (plan : Plan) (s : State) (k q : ℕ) where
       by-test true e h =
           let f = simp facts at e in
           record { runs = f .0 .0 .0; sends = f .0 .0 .1; joined = f .0 .1; receives = f .1; there = refl }
+
+-- in another state too, if the port runs in it
+pub leads-there : (plan : Plan) (s t : State) (kind k q e : ℕ) → running t q ≡ 1 → Leads plan s kind k q e → Leads plan t kind k q e
+leads-there plan s t kind k q e runs l = record { runs = runs; sends = l .sends; joined = l .joined; receives = l .receives; there = l .there }

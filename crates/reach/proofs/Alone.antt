@@ -3,12 +3,16 @@ use mathlib.Core.Path.{_≡_, refl, sym, ap, _∙_}
 use Prim.Native.Nat.{ℕ, _+_, _*_, _<_}
 use native.Mathlib.Decide.{ℕ-discrete}
 use native.Mathlib.Omega.{arith}
+use borrow.Author.Tests.{ne-eqb}
+use Rattle.lists.proofs.Sums.{sum-changed, sum-const}
 use Rattle.bits.specs.Set.{bit, join, sizeBelow, size}
 use Rattle.bits.proofs.Sets.{bit-two, bit-zero, same-members, join-same, join-other, join-lt, size-join}
 use Rattle.plan.specs.declared.Plan.{Plan}
 use Rattle.state.specs.State.{State, running}
+use Rattle.state.specs.Network.{portsOf}
 use Rattle.reach.specs.Walk.{Leads, Walk, stay, cross}
-use Rattle.reach.specs.Reach.{Reached, Reaches}
+use Rattle.reach.specs.Reach.{Reached, examinedAt, portsExamined, Reaches}
+use Rattle.reach.proofs.Examined.{own-part}
 
 -- nothing is in the set 0, so one device is in the set of one
 size-none : sizeBelow 32 0 ≡ 0
@@ -18,6 +22,16 @@ size-none = refl
 size-one : (d : ℕ) → d < 32 → size (join 0 d) ≡ 1
 unfolding size
 size-one d h = omega (arith, size-join 32 0 d (bit-zero d) h h, size-none)
+
+own-ports : (plan : Plan) (d : ℕ) → d < 32 → portsExamined plan d (join 0 d) ≡ portsOf plan d
+unfolding portsExamined
+own-ports plan d h =
+    omega (
+      arith,
+      own-part plan d (join 0 d),
+      sum-const 32 0,
+      sum-changed 32 d (examinedAt plan d (join 0 d)) (λ _. 0) h (λ e l n. simp (ne-eqb e d n, join-other 0 d e n, bit-zero e)),
+    )
 
 -- no walk leaves a device whose ports lead nowhere
 pub walks-stay : (plan : Plan) (s : State) (kind k d : ℕ) → ((p e : ℕ) → p < 8 → Leads plan s kind k (8 * d + p) e → ⊥)
@@ -47,9 +61,11 @@ module _ (plan : Plan) (s : State) (d k : ℕ) (still : (p : ℕ) → p < 8 → 
           ]
         ])
 
-  -- so the call, where it is not refused, answers 1 and that set
-  pub reaches-itself : (number value set : ℕ) → Reaches plan s d k number value set → number ≡ 0 → (value ≡ 1) × (set ≡ join 0 d)
-  reaches-itself number value set x done =
+  -- so the call, where it is not refused, answers 1 and that set, and has examined the ports of the device
+  pub reaches-itself : (number value set examined : ℕ) → Reaches plan s d k number value set examined → number ≡ 0
+      → (value ≡ 1) × (set ≡ join 0 d) × (examined ≡ portsOf plan d)
+  reaches-itself number value set examined x done =
       let made = x .made done in
       let one = set-of-one set (made .0) in
-      (made .1 ∙ ap size one ∙ size-one d (small set (made .0)), one)
+      let h = small set (made .0) in
+      (made .1 ∙ ap size one ∙ size-one d h, one, made .2 ∙ ap (portsExamined plan d) one ∙ own-ports plan d h)

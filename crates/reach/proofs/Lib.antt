@@ -2,6 +2,7 @@ pub mod Ahead
 pub mod VisitLaws
 pub mod Returns
 pub mod Found
+pub mod Examined
 pub mod Alone
 pub mod Deciding
 pub mod Distances

@@ -10,7 +10,7 @@ use Rattle.bits.specs.Set.{bit, size}
 use Rattle.bits.proofs.Sets.{bit-two, same-members}
 use Rattle.plan.specs.declared.Plan.{Plan}
 use Rattle.state.specs.State.{State}
-use Rattle.reach.specs.Reach.{Reached, sourceAsks, reachAsks, Reaches}
+use Rattle.reach.specs.Reach.{Reached, portsExamined, sourceAsks, reachAsks, Reaches}
 use Rattle.reach.specs.Visits.{aheadAll}
 
 module _ (plan : Plan) (s : State) (d k : ℕ) where
@@ -29,19 +29,19 @@ module _ (plan : Plan) (s : State) (d k : ℕ) where
         ]
       ])
 
-  pub reach-unique : (m n v w x y : ℕ) → Reaches plan s d k m v x → Reaches plan s d k n w y → (m ≡ n) × (v ≡ w) × (x ≡ y)
-  reach-unique m n v w x y p q =
+  pub reach-unique : (m n v w x y a b : ℕ) → Reaches plan s d k m v x a → Reaches plan s d k n w y b → (m ≡ n) × (v ≡ w) × (x ≡ y) × (a ≡ b)
+  reach-unique m n v w x y a b p q =
       let e = ordered-once (reachAsks plan s d k) m n (p .answers) (q .answers) in
       elim (ℕ-discrete m 0) [
         | yes z ↦
-            let a = p .made z in
-            let b = q .made (sym e ∙ z) in
-            let same = reached-once x y (a .0) (b .0) in
-            (e, a .1 ∙ ap size same ∙ sym (b .1), same)
+            let one = p .made z in
+            let other = q .made (sym e ∙ z) in
+            let same = reached-once x y (one .0) (other .0) in
+            (e, one .1 ∙ ap size same ∙ sym (other .1), same, one .2 ∙ ap (portsExamined plan d) same ∙ sym (other .2))
         | no z ↦
-            let a = p .kept z in
-            let b = q .kept (λ f. z (e ∙ f)) in
-            (e, a .1 ∙ sym (b .1), a .0 ∙ sym (b .0))
+            let one = p .kept z in
+            let other = q .kept (λ f. z (e ∙ f)) in
+            (e, one .1 ∙ sym (other .1), one .0 ∙ sym (other .0), one .2 ∙ sym (other .2))
       ]
 
 -- ---- what other crates use

@@ -1,5 +1,5 @@
 -- RULES, "Reach": the walk by visits. It goes from a device to its ports, and from a port to the device that it leads to, and never
--- enters a device again.
+-- enters a device again; and it counts the ports that it examines.
 use mathlib.Core.Bool.{Bool, cond, _&&_}
 use mathlib.Core.List.{List}
 use Prim.Native.Nat.{ℕ, zero, suc, _+_, _*_, _/_}
@@ -12,6 +12,7 @@ use Rattle.plan.specs.Fields.{nobody}
 use Rattle.plan.specs.declared.Plan.{Plan}
 use Rattle.state.specs.State.{State, words, running}
 use Rattle.state.specs.Network.{peerIn}
+use Rattle.reach.specs.declared.visits.Seen.{Seen}
 
 -- ---- by what stands in the arrays of a plan
 
@@ -31,24 +32,38 @@ module _ (permissions : List ℕ) (peers : List (List ℕ)) (s : State) (k : ℕ
 
 -- ---- by what is ahead of each port
 
--- a visit takes the set of the devices found so far, and gives it with those that it finds; the first number is how deep visits may go
-module _ (role : List ℕ) (to : ℕ → ℕ) where
-  unfoldable mutual
-    -- device d joins, if it exists and was not met before, and a router passes on
-    pub deviceVisit : ℕ → ℕ → ℕ → ℕ
-    deviceVisit zero d set = set
-    deviceVisit (suc depth) d set =
-        cond (ltb d 32 && eqb (bit set d) 0) (cond (eqb (getD role d 0) 1) (portVisit depth d 0 (join set d)) (join set d)) set
+-- device d exists and is not in the set
+abbrev pub isNew : ℕ → ℕ → Bool
+isNew set d = ltb d 32 && eqb (bit set d) 0
 
-    -- the ports of device d from port p on: what each leads to is visited
-    pub portVisit : ℕ → ℕ → ℕ → ℕ → ℕ
-    portVisit zero d p set = set
-    portVisit (suc depth) d p set = cond (ltb p 8) (portVisit depth d (p + 1) (deviceVisit depth (to (8 * d + p)) set)) set
+-- what was seen: devices, as a set, and how many ports were examined
+abbrev pub seen : ℕ → ℕ → Seen
+seen set examined = record { set = set; examined = examined }
+
+-- one port more was examined, and those that the visit behind it did
+abbrev pub onward : Seen → Seen → Seen
+onward before behind = seen (behind .set) (before .examined + 1 + behind .examined)
+
+-- The visit of a device takes the set of the devices met so far; it gives the set with those that it finds, and the ports that it examined.
+-- That of a port goes on from what was seen by the ports before it. The first number is how deep visits may go.
+module _ (role ports : List ℕ) (to : ℕ → ℕ) where
+  unfoldable mutual
+    -- device d joins, if it is new, and a router passes on
+    pub deviceVisit : ℕ → ℕ → ℕ → Seen
+    deviceVisit zero d set = seen set 0
+    deviceVisit (suc depth) d set =
+        cond (isNew set d) (cond (eqb (getD role d 0) 1) (portVisit depth d 0 (seen (join set d) 0)) (seen (join set d) 0)) (seen set 0)
+
+    -- the ports of device d from port p on: each is examined, and what it leads to is visited
+    pub portVisit : ℕ → ℕ → ℕ → Seen → Seen
+    portVisit zero d p before = before
+    portVisit (suc depth) d p before =
+        cond (ltb p (getD ports d 0)) (portVisit depth d (p + 1) (onward before (deviceVisit depth (to (8 * d + p)) (before .set)))) before
 
 -- ---- by a plan: from the source alone, which passes on whatever it is; no walk is as deep as 330, ten for each device and for the source
 
 abbrev pub aheadIn : Plan → State → ℕ → ℕ → ℕ
 aheadIn plan s k = ahead (plan .core .permissions) (plan .peers) s k
 
-unfoldable pub visited : Plan → State → ℕ → ℕ → ℕ
-visited plan s d k = portVisit (plan .core .role) (aheadIn plan s k) 330 d 0 (join 0 d)
+unfoldable pub visited : Plan → State → ℕ → ℕ → Seen
+visited plan s d k = portVisit (plan .core .role) (plan .core .ports) (aheadIn plan s k) 330 d 0 (seen (join 0 d) 0)

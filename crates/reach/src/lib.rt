@@ -10,9 +10,9 @@ use plan::Plan;
 pub use visits::ahead_all;
 
 // The devices that interrupts of identifier k reach from a device, by running and permitted links,
-// through routers. Refused by 1, 2, 4, 5 and 6.
+// through routers, and how many ports were examined. Refused by 1, 2, 4, 5 and 6.
 pub fn reach(plan: Plan, state: &[u32], device: usize, k: u32) -> Reach
-    ensures { λ r. ⌜ Reaches plan (now (state .entry)) device k (r .number) (r .value) (r .set) ⌝ }
+    ensures { λ r. ⌜ Reaches plan (now (state .entry)) device k (r .number) (r .value) (r .set) (r .examined) ⌝ }
 {
     let number = state::refusal(plan, state);
     if number != 0 {
@@ -25,13 +25,24 @@ pub fn reach(plan: Plan, state: &[u32], device: usize, k: u32) -> Reach
         return answer::refused(asked);
     }
     let role = core.role;
+    let ports = core.ports;
     let peers = plan::peers_of(plan);
-    let start = bits::join(0, device as u32);
-    let set = visits::port(&role, &core.permissions, &peers, state, k, device, 0, start);
+    let alone = bits::join(0, device as u32);
+    let seen = visits::each_port(
+        &role,
+        &ports,
+        &core.permissions,
+        &peers,
+        state,
+        k,
+        device,
+        alone,
+    );
     Reach {
         number: 0,
-        value: bits::count(set),
-        set: set,
+        value: bits::count(seen.set),
+        set: seen.set,
+        examined: seen.examined,
     }
 }
 

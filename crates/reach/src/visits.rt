@@ -1,13 +1,15 @@
-// The walk by visits. A visit takes the set of the devices found so far and gives it with those
-// that it finds. The plan's arrays and the state are lent, so that no visit copies them.
+// The walk by visits. A visit takes the set of the devices met so far and gives it with those that it
+// finds, and counts the ports that it examines. The plan's arrays and the state are lent, so that no
+// visit copies them.
 ghost use mathlib.Core.Path.{_≡_};
-ghost use Prim.Native.Nat.{_+_, _-_, _≤_, _<_};
+ghost use mathlib.Core.Bool.{true};
+ghost use Prim.Native.Nat.{_+_, _<_};
 ghost use lib.Dec.{eqb};
 ghost use lib.ListN.{length, getD};
 ghost use Rattle.device.specs.Permissions.{maySend, mayReceive};
 ghost use Rattle.state.specs.State.{words, portAt, runningAt};
-ghost use Rattle.reach.specs.inner.Depth.{left, Finds};
-ghost use Rattle.reach.specs.Visits.{ahead as Visits·ahead, aheadAll, deviceVisit, portVisit};
+ghost use Rattle.reach.specs.inner.Depth.{left, Few, Finds};
+ghost use Rattle.reach.specs.Visits.{ahead as Visits·ahead, aheadAll, isNew, seen, deviceVisit, portVisit};
 
 // As wide as a port's number here is.
 const NOBODY: usize = plan::NOBODY as usize;
@@ -73,50 +75,79 @@ pub fn ahead_all(
     all
 }
 
-// Device d joins the set, if it exists and was not met before, and a router passes on.
-fn device(
-    role: &[u8; 32],
-    permissions: &[u8; 256],
-    peers: &[[u16; 8]; 32],
-    state: &[u32],
-    k: u32,
-    d: usize,
-    set: u32,
-) -> u32
-    requires { ⌜ length (now state) ≡ words ⌝ }
-    ensures { λ r. ⌜ Finds (λ depth. deviceVisit (now (role .entry)) (Visits·ahead (now (permissions .entry)) (now (peers .entry)) (now (state .entry)) k) depth d set) (left set) r ⌝ }
-{
-    if 31 < d {
-        return set;
-    }
-    if bits::get(set, d as u32) == 1 {
-        return set;
-    }
-    let joined = bits::join(set, d as u32);
-    if role[d] != 1 {
-        return joined;
-    }
-    port(role, permissions, peers, state, k, d, 0, joined)
+// What visits have seen: the devices met so far, as a set, and how many ports were examined.
+pub(crate) struct Seen {
+    pub set: u32,
+    pub examined: u32,
 }
 
-// The ports of device d from port p on: what each leads to is visited.
-pub(crate) fn port(
+fn found(set: u32, examined: u32) -> Seen
+    ensures { λ r. ⌜ r ≡ seen set examined ⌝ }
+{
+    Seen {
+        set: set,
+        examined: examined,
+    }
+}
+
+// Does device d exist, and was it not met before?
+fn is_new(set: u32, d: usize) -> bool
+    ensures { λ r. ⌜ r ≡ isNew set d ⌝ }
+{
+    if 31 < d {
+        return false;
+    }
+    bits::get(set, d as u32) == 0
+}
+
+// Device d, which is new, joins the set, and a router passes on. The ports examined are those of this
+// visit alone.
+fn device(
     role: &[u8; 32],
+    ports: &[u8; 32],
     permissions: &[u8; 256],
     peers: &[[u16; 8]; 32],
     state: &[u32],
     k: u32,
     d: usize,
-    p: usize,
     set: u32,
-) -> u32
-    requires { ⌜ (length (now state) ≡ words) × (d < 32) × (p ≤ 8) ⌝ }
-    ensures { λ r. ⌜ Finds (λ depth. portVisit (now (role .entry)) (Visits·ahead (now (permissions .entry)) (now (peers .entry)) (now (state .entry)) k) depth d p set) (left set + (9 - p)) r ⌝ }
+) -> Seen
+    requires { ⌜ (length (now state) ≡ words) × Few (now ports) × (isNew set d ≡ true) ⌝ }
+    ensures { λ r. ⌜ Finds (λ depth. deviceVisit (now (role .entry)) (now (ports .entry)) (Visits·ahead (now (permissions .entry)) (now (peers .entry)) (now (state .entry)) k) depth d set) (left set) r ⌝ }
 {
-    if p == 8 {
-        return set;
+    let joined = bits::join(set, d as u32);
+    // A node passes nothing on: none of its ports is examined.
+    if role[d] != 1 {
+        return found(joined, 0);
     }
-    let next = ahead(permissions, peers, state, k, 8 * d + p);
-    let more = device(role, permissions, peers, state, k, next, set);
-    port(role, permissions, peers, state, k, d, p + 1, more)
+    each_port(role, ports, permissions, peers, state, k, d, joined)
+}
+
+// Each port of device d is examined, and what it leads to is visited, but for a device that was met
+// before: so no port counts twice.
+pub(crate) fn each_port(
+    role: &[u8; 32],
+    ports: &[u8; 32],
+    permissions: &[u8; 256],
+    peers: &[[u16; 8]; 32],
+    state: &[u32],
+    k: u32,
+    d: usize,
+    start: u32,
+) -> Seen
+    requires { ⌜ (length (now state) ≡ words) × Few (now ports) × (d < 32) ⌝ }
+    ensures { λ r. ⌜ Finds (λ depth. portVisit (now (role .entry)) (now (ports .entry)) (Visits·ahead (now (permissions .entry)) (now (peers .entry)) (now (state .entry)) k) depth d 0 (seen start 0)) (left start + 9) r ⌝ }
+{
+    let mut set = start;
+    let mut examined = 0u32;
+    for p in 0..areas::wide(ports[d]) {
+        let next = ahead(permissions, peers, state, k, 8 * d + p);
+        examined = examined + 1;
+        if is_new(set, next) {
+            let behind = device(role, ports, permissions, peers, state, k, next, set);
+            examined = examined + behind.examined;
+            set = behind.set;
+        }
+    }
+    found(set, examined)
 }

@@ -7,6 +7,7 @@ use native.Mathlib.Decide.{decLt, ℕ-discrete}
 use native.Mathlib.Omega.{arith}
 use lib.Bits.{bitAnd}
 use lib.Dec.{eqb}
+use lib.ListN.{List·getD-eq-default}
 use borrow.Author.Tests.{ltb-true, ltb-false, lt-ltb, eqb-true, eqb-false, eq-eqb, ne-eqb, not-true}
 use Rattle.lists.proofs.Facts.{facts}
 use Rattle.lists.proofs.Tests.{and-left, and-right}
@@ -60,6 +61,14 @@ module _ (plan : Plan) (held : Held plan) where
   -- a node has two at most
   pub node-ports : (d : ℕ) → d < devices plan → router plan d ≡ false → portsOf plan d ≤ 2
   node-ports d h node = let says = device-says d h in says .2 (omega (arith, says .0, eqb-false (role plan d) 1 node))
+
+  -- no device has more than eight, whether it is there or not
+  pub most-ports : (d : ℕ) → portsOf plan d ≤ 8
+  most-ports d =
+      dite (decLt d (devices plan)) (λ h. device-says d h .1)
+      (λ h. dite (decLt d 32)
+      (λ l. omega (arith, right-absent (plan .core) (plan .peers) d few (omega arith) (says .rows d l) .ports))
+      (λ l. omega (arith, List·getD-eq-default (plan .core .ports) 0 {n = d} (omega (arith, held-shaped plan held .ports .long)))))
 
   -- a device with k in one of its masks is a node, and has k in just one
   pub masked : (d k : ℕ) → d < devices plan → 1 ≤ bit (source plan d) k + bit (handler plan d) k → (role plan d ≡ 0) × (bit (source plan d) k + bit (handler plan d) k ≡ 1)

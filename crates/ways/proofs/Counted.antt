@@ -37,8 +37,8 @@ module _ (plan : Plan) (held : Held plan) (s : State) (k d : ℕ) (h : d < devic
       omega (
         arith,
         far .1 .most n e a,
-        farthest-below plan held s k d (far .0) (visited plan s d k) h (far .1) (visits-reach plan s d k small),
-        size-le 32 (visited plan s d k),
+        farthest-below plan held s k d (far .0) (visited plan s d k .set) h (far .1) (visits-reach plan held s d k small),
+        size-le 32 (visited plan s d k .set),
       )
 
   -- who is reached is so by fewer
