@@ -81,18 +81,19 @@ enum { BENCH_NAMED, BENCH_LINK_ERROR, BENCH_IGNORED, BENCH_FORWARDED, BENCH_TOLD
 
 /* The stack that each call needs, in bytes, and each program, from its arguments down: measured by painting it and rounded up
  * (tests/stack.sh, which fails where one needs more). It covers the first call of a process, where memcpy, memmove and memset
- * may still have to be bound. */
+ * may still have to be bound. That of reach is for both its calls. */
 enum {
     BENCH_STACK_CODE_READ = 256, BENCH_STACK_CODE_WRITE = 256, BENCH_STACK_REACT = 256, BENCH_STACK_PLAN_READ = 9216,
     BENCH_STACK_START = 10240, BENCH_STACK_REQUEST = 11264, BENCH_STACK_ACKNOWLEDGE = 11264, BENCH_STACK_LINK = 10240,
     BENCH_STACK_RESET = 10240, BENCH_STACK_TICK = 10240, BENCH_STACK_ROUND = 10240, BENCH_STACK_SETTLE = 19456,
-    BENCH_STACK_REACH = 28672, BENCH_STACK_REPORT = 44032, BENCH_STACK_CROSSINGS = 12288, BENCH_STACK_CHAIN = 16384,
+    BENCH_STACK_REACH = 10240, BENCH_STACK_REPORT = 44032, BENCH_STACK_CROSSINGS = 12288, BENCH_STACK_CHAIN = 16384,
     BENCH_STACK_CUT = 14336, BENCH_STACK_WHY = 27648,
     BENCH_STACK_PROGRAM_SETTLE = 73728, BENCH_STACK_PROGRAM_DECODE = 92160, BENCH_STACK_PROGRAM_WHY = 176128
 };
 
 /* ---- the archive's own symbols: for the functions below, which test what is lent, and for no other caller in C. One that had
- * other parameters once has a number behind its name, so that an object compiled with an older header does not link. */
+ * other parameters once has a number behind its name, or another name, so that an object compiled with an older header does not
+ * link. */
 
 bench_u32 bench_for_header_code_read_2(bench_u8 byte, bench_u32 *top, bench_u32 *value);
 bench_u32 bench_for_header_code_write(bench_u32 kind, bench_u32 value, bench_u32 *byte);
@@ -116,8 +117,9 @@ bench_u32 bench_for_header_round(const bench_u8 *plan, bench_size plan_length, c
                                  bench_u32 *told, bench_size told_length, bench_u32 *count);
 bench_u32 bench_for_header_settle(const bench_u8 *plan, bench_size plan_length, bench_u32 *state, bench_size state_length,
                                   bench_u32 allowance, bench_u32 *rounds);
-bench_u32 bench_for_header_reach(const bench_u8 *plan, bench_size plan_length, const bench_u32 *state,
-                                 bench_size state_length, bench_size device, bench_u32 k, bench_u32 *devices, bench_u32 *set);
+bench_u32 bench_for_header_reach_ports(const bench_u8 *plan, bench_size plan_length, const bench_u32 *state,
+                                       bench_size state_length, bench_size device, bench_u32 k, bench_u32 *devices,
+                                       bench_u32 *set, bench_u32 *examined);
 bench_u32 bench_for_header_report(const bench_u8 *file, bench_size file_length, bench_u8 *text, bench_size text_length,
                                   bench_u32 *used);
 bench_u32 bench_for_header_crossings(const bench_u8 *plan, bench_size plan_length, const bench_u32 *state,
@@ -350,23 +352,33 @@ static inline bench_u32 bench_settle(const bench_u8 *plan, bench_size plan_lengt
     return number;
 }
 
-/* The devices that interrupts of k reach from a device: how many goes to *devices, and the set of them, bit d for device
- * d, to *set. 20 to 27; 2; 4; 5; 6. */
+/* The devices that interrupts of k reach from a device: how many goes to *devices, and the set of them, bit d for device d, to
+ * *set. To *examined goes what it took: how many ports were examined, those of the source and of every router that is reached,
+ * each once, and unconnected ones too; at most 250. 20 to 27; 2; 4; 5; 6. */
+static inline bench_u32 bench_reach_ports(const bench_u8 *plan, bench_size plan_length, const bench_u32 *state,
+                                          bench_size state_length, bench_size device, bench_u32 k, bench_u32 *devices,
+                                          bench_u32 *set, bench_u32 *examined) {
+    const struct bench_lent all[] = {bench_bytes(plan, plan_length), bench_words(state, state_length), bench_place(devices),
+                                     bench_place(set), bench_place(examined)};
+    bench_u32 counted, reached, ports, number;
+    if (!bench_apart(all, 5)) {
+        bench_put_none(all, 5, 2, devices);
+        bench_put_none(all, 5, 3, set);
+        bench_put_none(all, 5, 4, examined);
+        return 3;
+    }
+    number = bench_for_header_reach_ports(plan, plan_length, state, state_length, device, k, &counted, &reached, &ports);
+    bench_put(devices, counted);
+    bench_put(set, reached);
+    bench_put(examined, ports);
+    return number;
+}
+
+/* The same for whoever does not ask how many ports were examined. */
 static inline bench_u32 bench_reach(const bench_u8 *plan, bench_size plan_length, const bench_u32 *state,
                                     bench_size state_length, bench_size device, bench_u32 k, bench_u32 *devices,
                                     bench_u32 *set) {
-    const struct bench_lent all[] = {bench_bytes(plan, plan_length), bench_words(state, state_length), bench_place(devices),
-                                     bench_place(set)};
-    bench_u32 counted, reached, number;
-    if (!bench_apart(all, 4)) {
-        bench_put_none(all, 4, 2, devices);
-        bench_put_none(all, 4, 3, set);
-        return 3;
-    }
-    number = bench_for_header_reach(plan, plan_length, state, state_length, device, k, &counted, &reached);
-    bench_put(devices, counted);
-    bench_put(set, reached);
-    return number;
+    return bench_reach_ports(plan, plan_length, state, state_length, device, k, devices, set, 0);
 }
 
 /* The text that the program settle prints for a file, accepted or not, in front of its area; its length goes to

@@ -334,7 +334,9 @@ static inline u32 cause(const struct plan *plan, const u32 *s, u32 q) {
     return plan->permissions[plan->peers[q]] & 2 ? 0 : BENCH_MAY_NOT_RECEIVE;
 }
 
-static u32 visit(const struct plan *plan, const u32 *s, u32 d, u32 set) {
+/* In depth. No device is visited twice, so that each port that is looked at counts once. */
+static u32 visit(const struct plan *plan, const u32 *s, u32 d, u32 set, u32 *examined) {
+    *examined += plan->ports[d];
     for (u32 q = 8 * d; q < 8 * d + plan->ports[d]; q++) {
         if (cause(plan, s, q))
             continue;
@@ -343,7 +345,7 @@ static u32 visit(const struct plan *plan, const u32 *s, u32 d, u32 set) {
             continue;
         set |= 1u << ahead;
         if (plan->role[ahead])
-            set = visit(plan, s, ahead, set);
+            set = visit(plan, s, ahead, set, examined);
     }
     return set;
 }
@@ -475,15 +477,15 @@ static u32 source_refusal(const u8 *file, usize length, const u32 *state, usize 
     return number ? number : plan->source[source] >> k & 1 ? 0 : 6;
 }
 
-u32 plain_reach(const u8 *file, usize length, const u32 *state, usize state_length, usize device, u32 k, u32 *devices,
-                u32 *set) {
+u32 plain_reach_ports(const u8 *file, usize length, const u32 *state, usize state_length, usize device, u32 k, u32 *devices,
+                      u32 *set, u32 *examined) {
     struct plan plan;
     u32 number = source_refusal(file, length, state, device, k, &plan);
     (void)state_length;
-    *devices = *set = 0;
+    *devices = *set = *examined = 0;
     if (number)
         return number;
-    *set = visit(&plan, state, device, 1u << device);
+    *set = visit(&plan, state, device, 1u << device, examined);
     *devices = __builtin_popcount(*set);
     return 0;
 }
@@ -523,7 +525,7 @@ u32 plain_cut(const u8 *file, usize length, const u32 *state, usize state_length
     *count = 0;
     if (number)
         return number;
-    u32 set = visit(&plan, state, source, 1u << source);
+    u32 examined = 0, set = visit(&plan, state, source, 1u << source, &examined);
     memset(causes, 0, causes_length * sizeof *causes);
     for (u32 q = 0; q < 8 * plan.devices; q++) {
         u32 peer = plan.peers[q];

@@ -19,8 +19,8 @@ u32 plain_tick(const u8 *file, usize length, u32 *state, usize state_length, usi
 u32 plain_round(const u8 *file, usize length, const u32 *old, usize old_length, u32 *next, usize next_length, u32 *sent,
                 usize sent_length, u32 *told, usize told_length, u32 *count);
 u32 plain_settle(const u8 *file, usize length, u32 *state, usize state_length, u32 allowance, u32 *rounds);
-u32 plain_reach(const u8 *file, usize length, const u32 *state, usize state_length, usize device, u32 k, u32 *devices,
-                u32 *set);
+u32 plain_reach_ports(const u8 *file, usize length, const u32 *state, usize state_length, usize device, u32 k, u32 *devices,
+                      u32 *set, u32 *examined);
 u32 plain_report(const u8 *file, usize length, u8 *text, usize text_length, u32 *text_used);
 u32 plain_crossings(const u8 *file, usize length, const u32 *state, usize state_length, usize source, u32 k, u32 *crossings,
                     usize crossings_length, u32 *most);

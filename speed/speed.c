@@ -23,7 +23,7 @@ struct bench {
     __typeof__(plain_tick) *tick;
     __typeof__(plain_round) *round;
     __typeof__(plain_settle) *settle;
-    __typeof__(plain_reach) *reach;
+    __typeof__(plain_reach_ports) *reach_ports;
     __typeof__(plain_report) *report;
     __typeof__(plain_crossings) *crossings;
     __typeof__(plain_chain) *chain;
@@ -33,7 +33,7 @@ __typeof__(plain_plan_read) judge_plan_read;
 __typeof__(plain_tick) judge_tick;
 __typeof__(plain_round) judge_round;
 __typeof__(plain_settle) judge_settle;
-__typeof__(plain_reach) judge_reach;
+__typeof__(plain_reach_ports) judge_reach_ports;
 __typeof__(plain_report) judge_report;
 __typeof__(plain_crossings) judge_crossings;
 __typeof__(plain_chain) judge_chain;
@@ -41,9 +41,12 @@ __typeof__(plain_cut) judge_cut;
 
 enum { OURS, PLAIN, JUDGE, ALL };
 static const struct bench benches[ALL] = {
-    {bench_plan_read, bench_tick, bench_round, bench_settle, bench_reach, bench_report, bench_crossings, bench_chain, bench_cut},
-    {plain_plan_read, plain_tick, plain_round, plain_settle, plain_reach, plain_report, plain_crossings, plain_chain, plain_cut},
-    {judge_plan_read, judge_tick, judge_round, judge_settle, judge_reach, judge_report, judge_crossings, judge_chain, judge_cut},
+    {bench_plan_read, bench_tick, bench_round, bench_settle, bench_reach_ports, bench_report, bench_crossings, bench_chain,
+     bench_cut},
+    {plain_plan_read, plain_tick, plain_round, plain_settle, plain_reach_ports, plain_report, plain_crossings, plain_chain,
+     plain_cut},
+    {judge_plan_read, judge_tick, judge_round, judge_settle, judge_reach_ports, judge_report, judge_crossings, judge_chain,
+     judge_cut},
 };
 
 /* What a call is given: a plan, and the state before it. */
@@ -53,7 +56,7 @@ static u32 before[BENCH_STATE];
 
 /* What it gives. */
 static struct given {
-    u32 number, value, set;
+    u32 number, value, set, examined;
     u32 state[BENCH_STATE], sent[BENCH_SENT], told[BENCH_TOLD];
     u32 crossings[BENCH_CROSSINGS], ports[BENCH_CHAIN], causes[BENCH_CUT];
     u8 text[BENCH_TEXT];
@@ -83,7 +86,7 @@ static void settle(const struct bench *b, struct given *g) {
 }
 
 static void reach(const struct bench *b, struct given *g) {
-    g->number = b->reach(file, length, before, BENCH_STATE, 0, 5, &g->value, &g->set);
+    g->number = b->reach_ports(file, length, before, BENCH_STATE, 0, 5, &g->value, &g->set, &g->examined);
 }
 
 static void report(const struct bench *b, struct given *g) {

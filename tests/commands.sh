@@ -32,6 +32,7 @@ example why
 example 'example incident'
 example 'example cycle'
 example 'example event'
+example 'example sweep'
 
 # The state that the second example of why is about is made by the line before it.
 line=$(sed -n 's/^    \(bin\/example snapshot .*\)$/\1/p' README.md)

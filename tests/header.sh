@@ -28,8 +28,14 @@ line crates/door/src/lib.rt | grep -o 'pub extern "C" fn [a-z_0-9]*([^)]*) -> [a
 line include/bench.h >"$work/header"
 grep -o 'bench_u32 bench_for_header_[a-z_0-9]*([^)]*);' "$work/header" | tr -d ';' | diff "$work/exported" -
 # A number behind a name of the archive: the function had other parameters once, and what was compiled for those must not link. The
-# name that people call has no number.
-sed 's/_[0-9](/(/' "$work/exported" >"$work/called"
+# name that people call has no number. bench_reach alone has no function of the archive: it is bench_reach_ports for those who do
+# not ask for the last value, so that what they wrote before there was one still compiles. It has to stand behind that one, and to
+# take the same but for the last parameter.
+sed 's/_[0-9](/(/
+    /_reach_ports(/ {
+        p
+        s/_ports(\(.*\), [^,]*)$/(\1)/
+    }' "$work/exported" >"$work/called"
 grep -o 'static inline bench_u32 bench_[a-z_]*([^)]*) {' "$work/header" |
     sed 's/^static inline //; s/ {$//; s/ bench_/ bench_for_header_/' | diff "$work/called" -
 

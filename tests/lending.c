@@ -73,6 +73,10 @@ static bench_u32 reach(places at, lengths n) {
     return bench_reach(at[0], n[0], at[1], n[1], NODE, IDENTIFIER, at[2], at[3]);
 }
 
+static bench_u32 reach_ports(places at, lengths n) {
+    return bench_reach_ports(at[0], n[0], at[1], n[1], NODE, IDENTIFIER, at[2], at[3], at[4]);
+}
+
 static bench_u32 report(places at, lengths n) {
     return bench_report(at[0], n[0], at[1], n[1], at[2]);
 }
@@ -119,6 +123,7 @@ static const struct call {
      {20, 2, 3, 3, 3}},
     {"settle", settle, {PLAN, STATE, VALUE}, {0, BENCH_STATE}, 0, {20, 2}},
     {"reach", reach, {PLAN, STATE, VALUE, VALUE}, {0, BENCH_STATE}, 0, {20, 2}},
+    {"reach, ports", reach_ports, {PLAN, STATE, VALUE, VALUE, VALUE}, {0, BENCH_STATE}, 0, {20, 2}},
     {"report", report, {PLAN, TEXT, VALUE}, {0, BENCH_TEXT}, 0, {0, 3}},
     {"crossings", crossings, {PLAN, STATE, OUT, VALUE}, {0, BENCH_STATE, BENCH_CROSSINGS}, 0, {20, 2, 3}},
     {"chain", chain, {PLAN, STATE, OUT, VALUE}, {0, BENCH_STATE, BENCH_CHAIN}, 0, {20, 2, 3}},

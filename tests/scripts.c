@@ -200,6 +200,16 @@ static void settle_all(void) {
         print_times();
 }
 
+/* Whom interrupts of an identifier reach from a device: unless that is refused, how many devices they are, the set of them, and
+ * the ports examined. */
+static void find_reach(void) {
+    u32 device = number(), k = number(), answer = try_reach(&plan, &state, device, k);
+    printf("%s: %u", line, answer);
+    if (!answer)
+        printf(" %u %u %u", value_given(0), value_given(1), value_given(2));
+    printf("\n");
+}
+
 static const char *const kinds[] = {"time", "interrupt", "acknowledge", "reserved"};
 static const char *const actions[] = {"named", "link-error", "ignored", "forwarded", "told"};
 
@@ -263,8 +273,9 @@ static const struct word {
 } words[] = {
     {"--", print_title}, {"#", pass_over}, {"plan", take_plan}, {"loads", change_loads}, {"events", change_events},
     {"start", start_afresh}, {"request", ask}, {"acknowledge", acknowledge}, {"link", link}, {"reset", reset}, {"tick", tick},
-    {"last", put_last}, {"waits", put_waiting}, {"rounds", play_rounds}, {"settle", settle_all}, {"byte", read_byte},
-    {"arrives", arrive_anyhow}, {"comes", arrive_timed}, {"lengths", try_lengths}, {"report", print_report},
+    {"last", put_last}, {"waits", put_waiting}, {"rounds", play_rounds}, {"settle", settle_all}, {"reach", find_reach},
+    {"byte", read_byte}, {"arrives", arrive_anyhow}, {"comes", arrive_timed}, {"lengths", try_lengths},
+    {"report", print_report},
 };
 
 static const struct word *word_of_line(void) {

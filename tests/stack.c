@@ -24,7 +24,7 @@ static _Alignas(16) bench_u8 stack[STACK];
 /* What the calls are given. */
 static bench_u8 file[BENCH_FILE + 1], text[BENCH_TEXT];
 static bench_size length, device, handler;
-static bench_u32 k, value, set, bits, counter, kind, top, answer;
+static bench_u32 k, value, set, examined, bits, counter, kind, top, answer;
 static bench_u32 before[BENCH_STATE], state[BENCH_STATE], next[BENCH_STATE], sent[BENCH_SENT], told[BENCH_TOLD];
 static bench_u32 away[BENCH_CROSSINGS], ports[BENCH_CHAIN], causes[BENCH_CUT];
 
@@ -87,6 +87,10 @@ static void reach(void) {
     answer = bench_reach(file, length, state, BENCH_STATE, device, k, &value, &set);
 }
 
+static void reach_ports(void) {
+    answer = bench_reach_ports(file, length, state, BENCH_STATE, device, k, &value, &set, &examined);
+}
+
 static void report(void) {
     answer = bench_report(file, length, text, BENCH_TEXT, &value);
 }
@@ -132,6 +136,7 @@ static struct call {
     {"bench_round", round, BENCH_STACK_ROUND, 0, 0, 0, 0},
     {"bench_settle", settle, BENCH_STACK_SETTLE, 0, 0, 0, 0},
     {"bench_reach", reach, BENCH_STACK_REACH, 0, 0, 0, 0},
+    {"bench_reach_ports", reach_ports, BENCH_STACK_REACH, 0, 0, 0, 0},
     {"bench_report", report, BENCH_STACK_REPORT, 0, 0, 0, 0},
     {"bench_crossings", crossings, BENCH_STACK_CROSSINGS, 0, 0, 0, 0},
     {"bench_chain", chain, BENCH_STACK_CHAIN, 0, 0, 0, 0},
@@ -237,7 +242,7 @@ static void measure_plan(void) {
     measure_all();
 }
 
-/* The last device becomes a router of eight ports: at the end of a row of routers nothing goes deeper than its last port. */
+/* The last device becomes a router of eight ports: no walk goes deeper than a row of 31 routers. */
 static void lengthen(void) {
     bench_u8 *block = file + 512 * file[1];
     bench_u32 sum = 0;
