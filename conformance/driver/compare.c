@@ -268,15 +268,51 @@ u32 try_settle(const struct plan *plan, struct state *state, u32 allowance) {
     return bench;
 }
 
+/* No reach examines more ports than a node and 31 routers have. More than that stands where the count goes, so that a place which
+ * neither of the two writes is seen. */
+enum { MOST_EXAMINED = NODE_PORTS + (DEVICES - 1) * PORTS };
+static const u32 no_count = MOST_EXAMINED + 1;
+
+/* Reach without the count answers what the one with it has just answered. What stands in its places before is something else. */
+static void same_without_count(struct lent *plan, struct lent *state, size device, u32 k, u32 number) {
+    u32 devices = ~value_given(0), set = ~value_given(1);
+    must_be("the number of reach without the count", number,
+            bench_reach(by_bench(plan), plan->bytes, by_bench(state), state->bytes / state->width, device, k, &devices, &set));
+    must_be("the devices of reach without the count", value_given(0), devices);
+    must_be("the set of reach without the count", value_given(1), set);
+}
+
+/* What T-10 counts, by the bytes of the plan and the set alone: byte 3 of the source's block and of those of reached routers. */
+static u32 ports_of(const struct plan *plan, size source, u32 set) {
+    u32 ports = 0;
+    for (u32 d = 0; d < DEVICES; d++) {
+        const u8 *block = plan->bytes + BLOCK * (1 + d);
+        if (set >> d & 1 && (d == source || block[2] == 1))
+            ports += block[3];
+    }
+    return ports;
+}
+
+static u32 check_examined(const struct plan *plan, size source, u32 number) {
+    u32 examined = value_given(2);
+    must_be("the ports examined, by the bytes", number ? 0 : ports_of(plan, source, value_given(1)), examined);
+    if (examined > MOST_EXAMINED)
+        fail("more ports were examined than there are (ports, most)", examined, MOST_EXAMINED);
+    return number;
+}
+
 u32 try_reach(const struct plan *plan, const struct state *state, size device, u32 k) {
     begin(REACH, GIVEN(plan->length, state->length, device, k));
     struct lent *file = lend("plan", INPUT, 1, plan->bytes, plan->length);
     struct lent *area = lend("state", INPUT, 4, state->words, state->length);
     struct lent *devices = lend("devices", VALUE, 4, 0, 1), *set = lend("set", VALUE, 4, 0, 1);
-    u32 judge = judge_reach(by_judge(file), plan->length, by_judge(area), state->length, device, k, by_judge(devices),
-                            by_judge(set));
-    return finish(judge, bench_reach(by_bench(file), plan->length, by_bench(area), state->length, device, k,
-                                     by_bench(devices), by_bench(set)));
+    struct lent *examined = lend("ports examined", VALUE, 4, &no_count, 1);
+    u32 judge = judge_reach_ports(by_judge(file), plan->length, by_judge(area), state->length, device, k, by_judge(devices),
+                                  by_judge(set), by_judge(examined));
+    u32 bench = bench_reach_ports(by_bench(file), plan->length, by_bench(area), state->length, device, k, by_bench(devices),
+                                  by_bench(set), by_bench(examined));
+    same_without_count(file, area, device, k, bench);
+    return check_examined(plan, device, finish(judge, bench));
 }
 
 static u32 judge_way(enum call call, const u8 *plan, size plan_length, const u32 *state, size state_length,

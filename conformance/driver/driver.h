@@ -262,6 +262,12 @@ void try_whys(const struct plan *plan);
 void whys_table(void);
 flag all_whys_tried(void);
 
+/* examined.c: how many ports reach has examined. A reach by examine is compared, and it is counted what came up. */
+u32 examine(struct plan *plan, struct state *state, size device, u32 k);
+void known_examined(void);
+void examined_table(void);
+flag all_examined_tried(void);
+
 /* known.c, clock.c, profile.c, chains.c, codes.c, trials.c, demand.c, cycle.c and drop.c: what is tried. */
 void known_values(void);
 void known_times(void);

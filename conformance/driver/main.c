@@ -21,6 +21,7 @@ static void play(size which) {
         known_times();
         known_events();
         known_chains();
+        known_examined();
         try_tables();
     }
     make_plan(&plan);
@@ -128,8 +129,9 @@ int main(int count, char **words) {
     time_table();
     events_table();
     whys_table();
+    examined_table();
     if (whole && !(all_hit() && all_ticks_answered() && all_states_tried() && all_tried() && all_ports_tried() &&
-                   all_time_tried() && all_events_tried() && all_whys_tried()))
+                   all_time_tried() && all_events_tried() && all_whys_tried() && all_examined_tried()))
         return 1;
     printf("judge: ok\n");
     return 0;

@@ -184,9 +184,9 @@ void try_settling(struct plan *plan) {
         size device = d, k = pick(32);
         if (d % 4 == 0)
             sound_state(plan, &state);
-        try_reach(plan, &state, device, k);
+        examine(plan, &state, device, k);
         likely_host(plan, REQUEST, &device, &k);
-        try_reach(plan, &state, device, k);
+        examine(plan, &state, device, k);
     }
 }
 

@@ -234,7 +234,7 @@ static void ask_all(struct question asks) {
     read_records(&course);
     for (u32 d = 0; d < course.plan.bytes[1]; d++)
         crossings(&course.records, d, INTERRUPT, 0, away[d]);
-    must_be("reach", 0, try_reach(&course.plan, &course.state, asks.source, asks.k));
+    must_be("reach", 0, examine(&course.plan, &course.state, asks.source, asks.k));
     u32 count = value_given(0);
     set = value_given(1);
     must_be("crossings", 0, ask(CROSSINGS, asks, &crossed));

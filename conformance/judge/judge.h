@@ -142,8 +142,8 @@ u32 judge_tick(const u8 *plan, size plan_length, u32 *state, size state_length, 
 u32 judge_round(const u8 *plan, size plan_length, const u32 *old, size old_length, u32 *next, size next_length, u32 *sent,
                 size sent_length, u32 *told, size told_length, u32 *count);
 u32 judge_settle(const u8 *plan, size plan_length, u32 *state, size state_length, u32 allowance, u32 *rounds);
-u32 judge_reach(const u8 *plan, size plan_length, const u32 *state, size state_length, size device, u32 k, u32 *devices,
-                u32 *set);
+u32 judge_reach_ports(const u8 *plan, size plan_length, const u32 *state, size state_length, size device, u32 k, u32 *devices,
+                      u32 *set, u32 *examined);
 u32 judge_report(const u8 *file, size length, u8 *text, size text_length, u32 *text_used);
 u32 judge_crossings(const u8 *plan, size plan_length, const u32 *state, size state_length, size source, u32 k, u32 *crossings,
                     size crossings_length, u32 *most);

@@ -6,8 +6,11 @@ flag passes(const struct port *port, enum kind kind) {
     return port->peer && port->running && port->may_send[kind] && port->peer->may_receive[kind];
 }
 
-u32 crossings(const struct network *net, u32 start, enum kind kind, const u32 *within, u32 distance[DEVICES]) {
+/* The search. T-10: each port is counted when it is looked at, before it is known whether it leads anywhere. */
+static u32 search(const struct network *net, u32 start, enum kind kind, const u32 *within, u32 distance[DEVICES],
+                  u32 *examined) {
     u32 line[DEVICES], first = 0, last = 0;
+    *examined = 0;
     for (u32 d = 0; d < DEVICES; d++)
         distance[d] = UNREACHED;
     distance[start] = 0;
@@ -17,6 +20,7 @@ u32 crossings(const struct network *net, u32 start, enum kind kind, const u32 *w
         if (!from->router && from->number != start)
             continue; /* a node passes nothing on */
         for (u32 p = 0; p < from->ports; p++) {
+            ++*examined;
             if (!passes(&from->port[p], kind))
                 continue;
             u32 to = from->port[p].peer->device->number;
@@ -29,6 +33,11 @@ u32 crossings(const struct network *net, u32 start, enum kind kind, const u32 *w
     return last;
 }
 
+u32 crossings(const struct network *net, u32 start, enum kind kind, const u32 *within, u32 distance[DEVICES]) {
+    u32 examined;
+    return search(net, start, kind, within, distance, &examined);
+}
+
 u32 way_refused(const struct network *net, size source, u32 k, size device) {
     if (source >= net->devices || device >= net->devices)
         return 4;
@@ -37,19 +46,20 @@ u32 way_refused(const struct network *net, size source, u32 k, size device) {
     return net->device[source].source[k] ? 0 : 6;
 }
 
-u32 judge_reach(const u8 *plan, size plan_length, const u32 *state, size state_length, size device, u32 k, u32 *devices,
-                u32 *set) {
+u32 judge_reach_ports(const u8 *plan, size plan_length, const u32 *state, size state_length, size device, u32 k, u32 *devices,
+                      u32 *set, u32 *examined) {
     struct network net;
     u32 distance[DEVICES];
     *devices = 0;
     *set = 0;
+    *examined = 0;
     u32 number = network_read(&net, plan, plan_length, state, state_length);
     if (number)
         return number;
     number = way_refused(&net, device, k, device);
     if (number)
         return number;
-    *devices = crossings(&net, device, INTERRUPT, 0, distance);
+    *devices = search(&net, device, INTERRUPT, 0, distance, examined);
     for (u32 d = 0; d < DEVICES; d++)
         *set |= (u32)(distance[d] != UNREACHED) << d;
     return 0;
