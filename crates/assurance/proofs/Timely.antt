@@ -18,7 +18,7 @@ use Rattle.state.specs.Network.{devices, exists, router, peer}
 use Rattle.state.specs.Sound.{Sound}
 use Rattle.state.specs.Queue.{queueTimeAll}
 use Rattle.state.proofs.Words.{length-put, word-same, word-other, word-past, put-word}
-use Rattle.state.proofs.Plans.{FarEnd, few, owned, past-absent, absent-loose, far-end}
+use Rattle.state.proofs.Plans.{FarEnd, few, owned, past-absent, joined-exists, far-end}
 use Rattle.state.proofs.Waits.{not-absent}
 use Rattle.state.proofs.Times.{queue-times-left, queue-times-cases, queue-times-waits}
 use Rattle.bench.specs.Round.{World, ofInterrupt, ofTime, toldWord, nothing, sentWords, timeGoes, sentBytes, arrives, reached, afterTimers, afterSending}
@@ -154,8 +154,7 @@ module _ (plan : Plan) (held : Held plan) (master : ℕ) (there : master < devic
             omega (arith, x .sound .ports q h there .flag)
 
         peer-back : (j : ℕ) → j < 256 → peer plan j < 256 → peer plan (peer plan j) ≡ j
-        peer-back j h l =
-            far-end plan held j h (not-absent (exists plan j) (λ e. omega (arith, absent-loose plan held j h e))) l .back
+        peer-back j h l = far-end plan held j h (joined-exists plan held j h l) l .back
 
     pub came-gets : {e j : ℕ} → Came e j → Gets e
     came-gets {e} {j} a =

@@ -1,6 +1,6 @@
 -- How many crossings away a device is can be decided; some device is the farthest, and those within its distance are those reached.
 use mathlib.Core.Path.{_≡_, refl, sym, subst}
-use mathlib.Core.Bool.{true, not-eq-not, Bool-discrete}
+use mathlib.Core.Bool.{true, Bool-discrete}
 use mathlib.Core.Logic.{_⊎_, inl, inr, Dec·and, Dec·not}
 use Prim.Native.Nat.{ℕ, zero, suc, _+_, _*_, _/_, _%_, _≤_, _<_}
 use native.Mathlib.Decide.{map-dec, decLt, decLe, ℕ-discrete, le-ind}
@@ -11,8 +11,8 @@ use Rattle.plan.specs.Fields.{nobody}
 use Rattle.plan.specs.Reading.{Held}
 use Rattle.plan.specs.declared.Plan.{Plan}
 use Rattle.state.specs.State.{State, running}
-use Rattle.state.specs.Network.{devices, router, exists, peer, permissions}
-use Rattle.state.proofs.Plans.{few, owned, absent-loose, far-end}
+use Rattle.state.specs.Network.{devices, router, peer, permissions}
+use Rattle.state.proofs.Plans.{few, owned, joined-exists, far-end}
 use Rattle.reach.specs.Walk.{Leads, Any, WalkOver, stay, cross}
 use Rattle.reach.specs.Reach.{Reached}
 use Rattle.reach.specs.Away.{AwayOver, FarthestOver, Away, Farthest}
@@ -35,7 +35,7 @@ module _ (plan : Plan) (s : State) (kind k q : ℕ) where
   -- a port leads to a device of the plan
   leads-device : Held plan → (e : ℕ) → q < 256 → Leads plan s kind k q e → e < devices plan
   leads-device held e h l =
-      let there : exists plan q ≡ true = not-eq-not {b = true} .0 (λ x. omega (arith, l .joined, absent-loose plan held q h x)) in
+      let there = joined-exists plan held q h (l .joined) in
       rw (l .there) (owned plan held (peer plan q) (l .joined) (far-end plan held q h there (l .joined) .far))
 
 -- ---- walks from a device of the plan

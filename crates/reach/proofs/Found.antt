@@ -1,6 +1,6 @@
 -- The walk by visits finds exactly the devices that are reached.
 use mathlib.Core.Path.{_≡_, refl}
-use mathlib.Core.Bool.{true, not-eq-not}
+use mathlib.Core.Bool.{true}
 use mathlib.Core.Logic.{inl, inr}
 use Prim.Native.Nat.{ℕ, _+_, _*_, _/_, _%_, _^_, _<_}
 use native.Mathlib.Omega.{arith}
@@ -11,7 +11,7 @@ use Rattle.plan.specs.Reading.{Held}
 use Rattle.plan.specs.declared.Plan.{Plan}
 use Rattle.state.specs.State.{State}
 use Rattle.state.specs.Network.{router, portsOf, exists}
-use Rattle.state.proofs.Plans.{most-ports, absent-loose}
+use Rattle.state.proofs.Plans.{most-ports, joined-exists}
 use Rattle.reach.specs.Walk.{Leads, WalkOver, Walk, stay, cross}
 use Rattle.reach.specs.Reach.{Reached}
 use Rattle.reach.specs.Visits.{seen, aheadIn, visited}
@@ -35,7 +35,7 @@ module _ (plan : Plan) (held : Held plan) (s : State) (d k : ℕ) where
   has-port m p e h l leads =
       let device : (8 * m + p) / 8 ≡ m = omega arith in
       let port : (8 * m + p) % 8 ≡ p = omega arith in
-      let there : exists plan (8 * m + p) ≡ true = not-eq-not {b = true} .0 (λ x. omega (arith, leads .joined, absent-loose plan held (8 * m + p) (omega arith) x)) in
+      let there : exists plan (8 * m + p) ≡ true = joined-exists plan held (8 * m + p) (omega arith) (leads .joined) in
       ltb-true p (portsOf plan m) (rw (device, port) at there)
 
   module _ (h : d < 32) where

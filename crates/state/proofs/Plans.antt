@@ -1,6 +1,6 @@
 -- What a held plan says, for the states of its network: how many devices, whose the ports and the masks are, where connections lead, and the loads.
 use mathlib.Core.Path.{_≡_, refl, ap}
-use mathlib.Core.Bool.{Bool, true, false, not, _&&_}
+use mathlib.Core.Bool.{Bool, true, false, not, _&&_, not-eq-not}
 use mathlib.Core.Logic.{_≢_, dite}
 use Prim.Native.Nat.{ℕ, _+_, _*_, _/_, _%_, _≤_, _<_}
 use native.Mathlib.Decide.{decLt, ℕ-discrete}
@@ -103,6 +103,10 @@ module _ (plan : Plan) (held : Held plan) where
       let p = q % 8 in
       no-port (right-ports (plan .core) (plan .peers) d few (says .rows d (omega arith)) p (omega arith) (byte (entryOf (plan .core) (plan .peers) d p)) (λ j l. refl))
       (ltb-false p (at (plan .core .ports) d) e) .0
+
+  -- so one that is connected exists
+  pub joined-exists : (q : ℕ) → q < 256 → peer plan q < nobody → exists plan q ≡ true
+  joined-exists q h l = not-eq-not {b = true} .0 (λ e. omega (arith, l, absent-loose q h e))
 
   pub far-end : (q : ℕ) → q < 256 → exists plan q ≡ true → peer plan q < nobody → FarEnd plan q
   unfolding joins

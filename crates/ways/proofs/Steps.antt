@@ -1,6 +1,6 @@
 -- What the tables of ports say of crossings: a step forward is a crossing from the source on, and a step back one on a chain to its end.
 use mathlib.Core.Path.{_≡_, refl, sym, ap, subst, _∙_}
-use mathlib.Core.Bool.{Bool, true, false, cond, _&&_, not-eq-not}
+use mathlib.Core.Bool.{Bool, true, false, cond, _&&_}
 use mathlib.Core.List.{List, [], _∷_, _++_}
 use mathlib.Core.Logic.{_⊎_, inl, inr}
 use Prim.Native.Nat.{ℕ, suc, _+_, _*_, _/_, _%_, _<_}
@@ -15,8 +15,8 @@ use Rattle.plan.specs.Fields.{nobody}
 use Rattle.plan.specs.Reading.{Held}
 use Rattle.plan.specs.declared.Plan.{Plan}
 use Rattle.state.specs.State.{State, words}
-use Rattle.state.specs.Network.{router, exists, peer}
-use Rattle.state.proofs.Plans.{FarEnd, absent-loose, far-end}
+use Rattle.state.specs.Network.{router, peer}
+use Rattle.state.proofs.Plans.{FarEnd, joined-exists, far-end}
 use Rattle.reach.specs.Walk.{Leads, Walk, stay, cross}
 use Rattle.reach.specs.Visits.{aheadAll, aheadIn}
 use Rattle.reach.proofs.Ahead.{leads-ahead, ahead-leads}
@@ -111,9 +111,7 @@ module _ (plan : Plan) (s : State) (k : ℕ) (fits : length s ≡ words) where
     back-at q h = getD-table 256 (behind (plan .peers) ahead) q 0 h
 
     other-end : (q : ℕ) → q < 256 → peer plan q < nobody → FarEnd plan q
-    other-end q h l =
-        let there : exists plan q ≡ true = not-eq-not {b = true} .0 (λ x. omega (arith, l, absent-loose plan held q h x)) in
-        far-end plan held q h there l
+    other-end q h l = far-end plan held q h (joined-exists plan held q h l) l
 
     -- where a port leads, its device is behind the port at the other end
     leads-back : (q x : ℕ) → q < 256 → Leads plan s 0 k q x → (peer plan q / 8 ≡ x) × (getD back (peer plan q) 0 ≡ q / 8)
