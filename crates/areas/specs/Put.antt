@@ -1,10 +1,11 @@
--- RULES, "Areas": a word is put into an area whole, or not at all, and so an area is copied.
+-- RULES, "Areas": a word is put into an area whole, or not at all, and so an area is copied; and whether all of one is 0.
 use mathlib.Core.Path.{_≡_}
-use mathlib.Core.Bool.{cond}
+use mathlib.Core.Bool.{Bool, cond}
 use mathlib.Core.List.{List, _++_}
 use Prim.Native.Nat.{ℕ, _+_}
 use lib.Dec.{eqb, leb}
-use lib.ListN.{length, take, drop}
+use lib.ListN.{length, getD, take, drop}
+use Rattle.lists.specs.Table.{every}
 
 -- the area with the word at a place, if the whole word has room there
 unfoldable pub putAt : List ℕ → ℕ → List ℕ → List ℕ
@@ -26,3 +27,7 @@ over written before = written ++ drop (length written) before
 -- an area is copied into one of its length; one of another length stays as it was
 unfoldable pub copied : List ℕ → List ℕ → List ℕ
 copied from to = cond (eqb (length to) (length from)) from to
+
+-- every word of the area is 0
+unfoldable pub allZero : List ℕ → Bool
+allZero area = every (length area) (λ i. eqb (getD area i 0) 0)

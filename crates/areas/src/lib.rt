@@ -4,7 +4,7 @@ ghost use mathlib.Core.Path.{_≡_};
 ghost use Prim.Native.Nat.{_+_, _<_};
 ghost use lib.Dec.{leb};
 ghost use lib.ListN.{length};
-ghost use Rattle.areas.specs.Put.{Puts, copied};
+ghost use Rattle.areas.specs.Put.{Puts, copied, allZero};
 ghost use Rattle.lists.specs.Table.{table};
 
 // Puts the word at a place of the area, and answers the place after it. A word with no room for all
@@ -57,6 +57,20 @@ pub fn fill(area: &mut [u32], value: u32)
         area[i] = value;
         i += 1;
     }
+}
+
+// Is every word of the area 0? All are joined into one, several at a time, where a search for one that is
+// not would look at each.
+pub fn zeros(area: &[u32]) -> bool
+    ensures { λ r. ⌜ r ≡ allZero (now (area .entry)) ⌝ }
+{
+    let mut all: u32 = 0;
+    let mut i = 0;
+    while i < area.len() {
+        all = all | area[i];
+        i += 1;
+    }
+    all == 0
 }
 
 // ---- a number of a lent area as a wider one

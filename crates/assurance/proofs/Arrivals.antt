@@ -13,24 +13,27 @@ use Rattle.device.specs.Permissions.{maySend, mayReceive}
 use Rattle.device.specs.Reaction.{isUsed}
 use Rattle.plan.specs.Reading.{Held}
 use Rattle.plan.specs.declared.Plan.{Plan}
-use Rattle.state.specs.State.{State, register, waiting, running}
+use Rattle.state.specs.State.{State, registerAt, register, waiting, running}
 use Rattle.state.specs.Network.{devices, router, peer, permissions, events, loadOf}
 use Rattle.state.specs.Sound.{Sound}
 use Rattle.state.proofs.Plans.{few}
 use Rattle.bench.specs.Round.{World, nothing, sentBytes, arrives, reached}
-use Rattle.bench.proofs.RoundSound.{Opens, arrives-sound}
+use Rattle.bench.proofs.RoundSound.{barsAt, Opens, arrives-sound}
 use Rattle.laws.specs.Alike.{Alike, SendsIt}
-use Rattle.laws.proofs.Apart.{Both, about, arrives-aside, alike-same}
+use Rattle.laws.proofs.Apart.{Both, about, arrives-aside, alike-front, alike-same}
 use Rattle.assurance.proofs.Choices.{sends-small, sends-inside, sent-waits}
 use Rattle.assurance.proofs.Fits.{alike-back, Fit, fit-alike, fit-took}
 use Rattle.assurance.proofs.Taking.{Took, took, took-late}
-use Rattle.assurance.proofs.Entering.{arrives-meets, arrives-turns}
+use Rattle.assurance.proofs.Entering.{Unmoved, unmoved-turn, arrives-meets, arrives-turns}
 use Rattle.assurance.proofs.Turns.{SameTurn, turn-same, turn-then}
 
 -- what changed does not concern identifier k, and no port's turn
 record Aside (k : ℕ) (v t : State) : Type 0 where
   like : Alike k v t
   turns : (q : ℕ) → q < 256 → SameTurn v t q
+
+unmoved-aside : (k : ℕ) → k < 32 → {v t : State} → Unmoved v t → Aside k v t
+unmoved-aside k l x = record { like = alike-front k l (λ i h. sym (x .front i (omega arith))); turns = unmoved-turn x }
 
 module _ (plan : Plan) (kind k : ℕ) (s₀ s : State) where
   -- the code gets into device d, at port j
@@ -40,6 +43,7 @@ module _ (plan : Plan) (kind k : ℕ) (s₀ s : State) where
     pub sender : SendsIt plan k s kind (peer plan j)
     pub runs : running s₀ j ≡ 1
     pub may : mayReceive kind (permissions plan j) ≡ true
+    pub unbarred : bit (barsAt plan kind j) k ≡ 0
 
   -- at port j the code is taken in
   record Enters (j : ℕ) (v t : State) : Type 0 where
@@ -141,6 +145,7 @@ module _ (plan : Plan) (kind k : ℕ) (s₀ : State) (takers : ℕ → Type 0) (
                     sender = e .sender;
                     runs = sym (x .fit .runs j (omega arith)) ∙ e .opens .runs;
                     may = e .opens .may;
+                    unbarred = e .opens .unbarred;
                   },
                 )
             | no ne ↦ x .begins d h (sym (entered-other d (omega arith) ne) ∙ b)
@@ -196,7 +201,7 @@ module _ (plan : Plan) (kind k : ℕ) (s₀ : State) (takers : ℕ → Type 0) (
               | inl c ↦
                   let e : SendsIt plan k s kind (peer plan j) = rw (of-kind held g l f (c .0) (peer plan j) (c .1) (c .2)) at (c .2) in
                   arrives-meets plan j (omega arith) w k (λ t. Aside k (w .state) t ⊎ Enters plan kind k s₀ s j (w .state) t) (sentBytes plan s) l kind g e
-                  (λ shut. inl (record { like = alike-same k (w .state); turns = λ q b. turn-same (w .state) q }))
+                  (λ shut t y. inl (unmoved-aside k l y))
                   (λ o. inr (record { sender = e; opens = o; taken = took plan kind k g l (j / 8) j (omega arith) (w .state) (x .size) (router plan (j / 8)) }))
               | inr none ↦
                   let same : Both k (w .state) (w .state) = record { like = alike-same k (w .state); left = x .size; right = x .size } in
@@ -235,8 +240,8 @@ module _ (plan : Plan) (kind k : ℕ) (s₀ : State) (takers : ℕ → Type 0) (
                 let n = few plan held in
                 let two = bit-two (register (v .state) (j / 8)) k in
                 arrives-meets plan j (omega arith) v k (λ t. bit (register t (j / 8)) k ≡ 1 - kind) (sentBytes plan s) l kind g (c .sender)
-                (λ shut. elim (ℕ-discrete (bit (register (v .state) (j / 8)) k) kind) [
-                  | yes o ↦ absurd (shut (record { runs = x .runs j (omega arith) ∙ c .runs; may = c .may; used = used; stood = o }))
+                (λ shut t y. rw (y .front (registerAt (j / 8)) (omega arith)) (elim (ℕ-discrete (bit (register (v .state) (j / 8)) k) kind) [
+                  | yes o ↦ absurd (shut (record { runs = x .runs j (omega arith) ∙ c .runs; may = c .may; unbarred = c .unbarred; used = used; stood = o }))
                   | no ne ↦ omega arith
-                ])
+                ]))
                 (λ o. took plan kind k g l (j / 8) j (omega arith) (v .state) (x .sound .size) (router plan (j / 8)) .held)

@@ -50,7 +50,7 @@ record Link (plan : Plan) (s : State) (d e : ℕ) : Type 0 where
   own : port / 8 ≡ d
   there : peer plan port / 8 ≡ e
 
-module _ (plan : Plan) (held : Held plan) {s : State} (x : Sound plan s) (permits : Permits plan s) (k : ℕ) where
+module _ (plan : Plan) (held : Held plan) {s : State} (x : Sound plan s) (k : ℕ) (permits : Permits plan k s) where
   module _ {d e : ℕ} (link : Link plan s d e) where
     link-there : exists plan (link .port) ≡ true
     link-there = runs-there plan held x (link .port) (link .small) (link .runs)
@@ -104,6 +104,7 @@ module _ (plan : Plan) (held : Held plan) {s : State} (x : Sound plan s) (permit
           sends = permits kind (link .port) g (link .small) (link .runs) .0;
           joined = back .small;
           receives = permits kind (back .port) g (back .small) (back .runs) .1;
+          admits = permits kind (back .port) g (back .small) (back .runs) .2;
           there = sym (link .there);
         })
         over
@@ -163,7 +164,7 @@ module _ {plan : Plan} {k from to : ℕ} {s : State} (x : Answers plan k from to
 
   pub two-nodes : TwoNodes plan k from to s
   two-nodes =
-      let link = last-link plan (x .held) (x .sound) (x .permits) k 0 from (x .there) (x .reached .1) (λ e. differ (sym e)) .1 in
+      let link = last-link plan (x .held) (x .sound) k (x .permits) 0 from (x .there) (x .reached .1) (λ e. differ (sym e)) .1 in
       let whole : 8 * to + link .port % 8 ≡ link .port = omega (arith, link .own) in
       record {
         there = handler-there;
@@ -175,23 +176,23 @@ module _ {plan : Plan} {k from to : ℕ} {s : State} (x : Answers plan k from to
   -- the acknowledge gets back to the source
   source-found : (n : ℕ) × Back plan k from to s n from
   source-found =
-      way-back plan (x .held) (x .sound) (x .permits) k 0 from (x .there) 1 to handler-there (omega arith) (Gets plan k from s) (λ n e w. (n, w))
+      way-back plan (x .held) (x .sound) k (x .permits) 0 from (x .there) 1 to handler-there (omega arith) (Gets plan k from s) (λ n e w. (n, w))
       (x .reached .1) stay (inr (inl refl))
 
   all-there : OneWay plan s from → FoundBack plan k from to s
   all-there one e w =
-      gets-too plan (x .held) (x .sound) (x .permits) k 0 from (x .there) 1 to handler-there (omega arith) (Gets plan k from s) (λ n e w. (n, w))
+      gets-too plan (x .held) (x .sound) k (x .permits) 0 from (x .there) 1 to handler-there (omega arith) (Gets plan k from s) (λ n e w. (n, w))
       (one-link one) differ (source-found .1) (w .1)
 
   -- from the source or a router that was reached, the interrupt gets to whatever is at the other end of a link
   way-over : {n e : ℕ} → Walk plan s 1 k to n e → Gets plan k from s e → (e ≡ from) ⊎ (router plan e ≡ true) → Back plan k from to s n e
   way-over stay got on = stay
   way-over (cross {n = n} {d = d} w before p l leads any) got on =
-      let link = link-back plan (x .held) (x .sound) (x .permits) k (crossed-link plan (x .held) (x .sound) (x .permits) k 1 to handler-there w l leads) in
+      let link = link-back plan (x .held) (x .sound) k (x .permits) (crossed-link plan (x .held) (x .sound) k (x .permits) 1 to handler-there w l leads) in
       let next : Gets plan k from s d =
       elim on [
-        | inl own ↦ (1, along plan (x .held) (x .sound) (x .permits) k 0 from (x .there) (omega arith) (rw own at link) stay (inl refl) tt)
-        | inr r ↦ (_, along plan (x .held) (x .sound) (x .permits) k 0 from (x .there) (omega arith) link (got .1) (inr r) tt)
+        | inl own ↦ (1, along plan (x .held) (x .sound) k (x .permits) 0 from (x .there) (omega arith) (rw own at link) stay (inl refl) tt)
+        | inr r ↦ (_, along plan (x .held) (x .sound) k (x .permits) 0 from (x .there) (omega arith) link (got .1) (inr r) tt)
       ] in
       let way : Back plan k from to s n d = elim before [ inl z ↦ rw (z, none-away w z) stay | inr r ↦ way-over w next (inr r) ] in
       cross way before p l leads got
@@ -200,7 +201,7 @@ module _ {plan : Plan} {k from to : ℕ} {s : State} (x : Answers plan k from to
   module _ (one : OneWay plan s to) where
     got-too : (n e : ℕ) → Walk plan s 1 k to n e → Any e → Gets plan k from s e
     got-too n e w any =
-        gets-too plan (x .held) (x .sound) (x .permits) k 1 to handler-there 0 from (x .there) (omega arith) Any (λ n e w. tt)
+        gets-too plan (x .held) (x .sound) k (x .permits) 1 to handler-there 0 from (x .there) (omega arith) Any (λ n e w. tt)
         (one-link one) (λ e. differ (sym e)) (x .reached .1) w
 
     no-detour : {n e : ℕ} → Walk plan s 1 k to n e → Back plan k from to s n e

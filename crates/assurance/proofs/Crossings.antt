@@ -79,6 +79,7 @@ module _ (plan : Plan) (held : Held plan) (kind k from : ℕ) (h : from < device
         sends = leads .sends;
         joined = leads .joined;
         receives = leads .receives;
+        admits = leads .admits;
         there = leads .there;
       })
       (into (suc n) e (cross w on p l leads over) over)

@@ -214,7 +214,7 @@ module _ {plan : Plan} {k from D last : ℕ} {s : State} {at : ℕ → State} (g
       (out given .gone (window D) (le-refl _) (le-refl _))
 
   -- so a handler that was reached may acknowledge
-  pub may-answer : window D ≤ last → Permits plan s → bit (events plan) k ≡ 0 → {to D' : ℕ} {back : ℕ → State} → bit (handler plan to) k ≡ 1 → Gets plan k from s to
+  pub may-answer : window D ≤ last → Permits plan k s → bit (events plan) k ≡ 0 → {to D' : ℕ} {back : ℕ → State} → bit (handler plan to) k ≡ 1 → Gets plan k from s to
       → FarthestBack plan k from to s D' → Course plan k (window D') (called plan 1 to k (at last)) back
       → ((e : ℕ) → e < devices plan → last + window D' < loadOf plan e k) → Sooner plan k from to D' last s at back
   may-answer over permits no-event handles reached far course loads =

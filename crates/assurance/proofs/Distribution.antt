@@ -13,7 +13,7 @@ use Rattle.device.specs.Reaction.{nextTime}
 use Rattle.plan.specs.Reading.{Held}
 use Rattle.plan.specs.declared.Plan.{Plan}
 use Rattle.plan.proofs.BothWays.{held-master-node}
-use Rattle.state.specs.State.{State, word, portsEnd, portAt, runningAt, running, counterAt, counter, timeAt, timeWaits, lately}
+use Rattle.state.specs.State.{State, word, portsEnd, portAt, runningAt, running, counterAt, counter, timeAt, timeWaits, lately, dropsStart}
 use Rattle.state.specs.Network.{devices, role, router, peer}
 use Rattle.state.specs.Sound.{Sound}
 use Rattle.state.specs.Start.{started}
@@ -31,10 +31,11 @@ use Rattle.flood.proofs.Spreads.{flooded}
 use Rattle.assurance.specs.Demand3.{Played}
 use Rattle.assurance.specs.Distribution.{Others, none, then, tick, carrying, timeCrossing, Crosses, SendsTime, InStep, Beat, Arrives, Beats, still, rest, beat, EachArrives, Distributes, DistributesAll}
 use Rattle.assurance.proofs.Taking.{took, called-took}
+use Rattle.assurance.proofs.Entering.{loses-unmoved}
 use Rattle.assurance.proofs.Choices.{runs-there, runs-joined}
 use Rattle.assurance.proofs.Posted.{posts-sound, posts-early, posts-time-on, posts-counter}
 use Rattle.assurance.proofs.Flags.{round-runs}
-use Rattle.assurance.proofs.Timely.{byte-goes, left-waiting, Gets, gets-device, Timely, has, Goes, goes-inside, goes-only, sent-value, came-leads, came-gets, Going, going-keeps, going-count, going, gets-in}
+use Rattle.assurance.proofs.Timely.{GoesAt, byte-goes, left-waiting, Gets, gets-device, Timely, has, Goes, goes-only, sent-value, came-leads, came-gets, Going, going-keeps, going-count, going, gets-in}
 
 -- ---- what hosts do meanwhile leaves every word behind the ports
 
@@ -123,21 +124,19 @@ module _ (plan : Plan) (held : Held plan) (master D : ℕ) where
       (λ q h. ap (λ n. n % 128) (y .behind (timeAt q) (omega arith)) ∙ g .idle q h)
 
   module _ {a : State} (g : InStep plan master D a) where
-    none-goes : (q : ℕ) → timeGoes a q ≡ true → ⊥
-    none-goes q goes =
-        let some = goes-waits a q goes in
-        dite (decLt q 256) (λ h. omega (arith, some, g .idle q h))
-        (λ n. omega (arith, some, ap (λ w. w % 128) (word-past a (timeAt q) (omega (arith, g .sound .size)))))
+    none-goes : (q : ℕ) → GoesAt plan a q → ⊥
+    none-goes q goes = omega (arith, goes-waits a q (goes .1), g .idle q (omega (arith, goes .0, few plan held)))
 
-    -- so that what arrives changes no word behind the ports
-    round-behind : (i : ℕ) → portsEnd ≤ i → word (round plan a .next) i ≡ word (afterSending plan a .state) i
+    -- so that what arrives changes no word between the ports and the drops
+    round-behind : (i : ℕ) → portsEnd ≤ i → i < dropsStart → word (round plan a .next) i ≡ word (afterSending plan a .state) i
     unfolding round reached
-    round-behind i h =
+    round-behind i h front =
         let n = few plan held in
         Loops·keeps (Round·arrives plan (sentBytes plan a)) (λ w. Sound plan (w .state) × (word (w .state) i ≡ word (afterSending plan a .state) i)) (8 * devices plan)
         (λ j w b y. (
           arrives-sound plan held (sentBytes plan a) j (omega arith) w (y .0),
-          arrives-any plan (sentBytes plan a) j (omega arith) w (λ u. word (u .state) i ≡ word (afterSending plan a .state) i) (λ none big. y .1)
+          arrives-any plan (sentBytes plan a) j (omega arith) w (λ u. word (u .state) i ≡ word (afterSending plan a .state) i) (λ none no big. y .1)
+              (λ kind k f l e b. loses-unmoved kind j w .front i front ∙ y .1)
               (λ value l e. absurd (none-goes (peer plan j) (byte-goes plan held a (peer plan j) (omega arith))))
               (λ kind k f l e o. took plan kind k f l (j / 8) j (omega arith) (w .state) (y .0 .size) (router plan (j / 8)) .behind i h ∙ y .1),
         ))
@@ -146,8 +145,8 @@ module _ (plan : Plan) (held : Held plan) (master D : ℕ) where
     round-in-step : InStep plan master D (round plan a .next)
     round-in-step =
         in-step-on a _ g (round-sound plan held a (g .sound)) (λ q h. round-runs plan held q h a (g .sound))
-        (λ e h. round-behind (counterAt e) (omega arith) ∙ posts-counter plan held (g .sound) e h)
-        (λ q h. ap (λ n. n % 128) (round-behind (timeAt q) (omega arith)) ∙ elim (left-waiting plan held a (g .sound) q h) [ inl z ↦ z | inr o ↦ o .0 ∙ g .idle q h ])
+        (λ e h. round-behind (counterAt e) (omega arith) (omega arith) ∙ posts-counter plan held (g .sound) e h)
+        (λ q h. ap (λ n. n % 128) (round-behind (timeAt q) (omega arith) (omega arith)) ∙ elim (left-waiting plan held a (g .sound) q h) [ inl z ↦ z | inr o ↦ o .0 ∙ g .idle q h ])
 
   -- after any number of rounds, with what hosts do between them
   rests : {s : State} (last : ℕ) (at : ℕ → State) → InStep plan master D s → Played plan (Others plan) last s at → (t : ℕ) → t ≤ last → InStep plan master D (at t)
@@ -336,7 +335,7 @@ module _ (plan : Plan) (held : Held plan) (master D : ℕ) (s : State) (last : �
         inside = elim (f .only q l) [ inl z ↦ absurd (omega arith) | inr o ↦ let there = device (o .1 .0) in omega arith ]
 
         by-test : (g : Bool) → timeGoes a q ≡ g → GoesOut q ⊎ ((timeWaits b q ≡ v + 1) × (lately b q < lately a q))
-        by-test true g = inl g
+        by-test true g = inl (inside, g)
         by-test false g =
             let o = goes-late a q (omega arith) g in
             let early = posts-early plan held (f .sound) q (o .0) inside (o .1) in
@@ -354,7 +353,7 @@ module _ (plan : Plan) (held : Held plan) (master D : ℕ) (s : State) (last : �
         record {
           keeps = λ {d} z. (z .0, counted d ∙ kept d (small (z .0)) (z .1));
           waited = λ {q} g.
-              (omega (arith, goes-inside plan held master there s x c c-small a f q g, few plan held), goes-only plan held master there s x c c-small a f q g .0);
+              (omega (arith, g .0, few plan held), goes-only plan held master there s x c c-small a f q g .0);
           bounded = λ {q} z. omega arith;
           served = λ {q} z. elim (served q (z .0) (z .1)) [ inl g ↦ inl g | inr o ↦ inr ((z .0, o .0), o .1) ];
           arrives = λ {q} {e} g leads.
@@ -371,7 +370,7 @@ module _ (plan : Plan) (held : Held plan) (master D : ℕ) (s : State) (last : �
           waiting = λ {q} z. elim (y .fresh q (z .0)) [
             | inl same ↦ elim (left-waiting plan held a (f .sound) q (z .0)) [
               | inl empty ↦ absurd (omega (arith, timed q, same, empty, z .1))
-              | inr o ↦ inl ((z .0, sym (o .0) ∙ sym same ∙ sym (timed q) ∙ z .1), λ g. false≢true (sym (o .1) ∙ g))
+              | inr o ↦ inl ((z .0, sym (o .0) ∙ sym same ∙ sym (timed q) ∙ z .1), λ g. false≢true (sym (o .1) ∙ g .1))
             ]
             | inr o ↦ inr (
               λ was. omega (arith, was .1, o .1, posts-counter plan held (f .sound) (q / 8) (small (o .3))),
@@ -394,9 +393,9 @@ module _ (plan : Plan) (held : Held plan) (master D : ℕ) (s : State) (last : �
     unfolding round toldIn
     untold-in e n l m not = y .untold e n l m not
 
-  spread : Flooded N timeCrossing last D (λ t. sight (at t)) (λ t q. timeGoes (at t) q ≡ true)
+  spread : Flooded N timeCrossing last D (λ t. sight (at t)) (λ t q. GoesAt plan (at t) q)
   spread =
-      flooded N timeCrossing last (omega arith) (λ t. sight (at t)) (λ t q. timeGoes (at t) q ≡ true) (record { start = start; step = step }) D
+      flooded N timeCrossing last (omega arith) (λ t. sight (at t)) (λ t q. GoesAt plan (at t) q) (record { start = start; step = step }) D
       (given .within)
 
   -- ---- what hosts are told of it, in the first t rounds
@@ -429,7 +428,7 @@ module _ (plan : Plan) (held : Held plan) (master D : ℕ) (s : State) (last : �
 
   -- in one of the first t rounds the link at port q carried it
   Carried : ℕ → ℕ → Type 0
-  Carried q t = (u : ℕ) × (u < t) × ((timeGoes (at u) q ≡ true) ⊎ (timeGoes (at u) (peer plan q) ≡ true))
+  Carried q t = (u : ℕ) × (u < t) × (GoesAt plan (at u) q ⊎ GoesAt plan (at u) (peer plan q))
 
   module _ (q : ℕ) (l : q < 256) (get : Reached (q / 8)) (on : Relays N (q / 8)) (runs : running s q ≡ 1) where
     is-router : (t : ℕ) → t ≤ last → counter (at t) (q / 8) ≡ c → router plan (q / 8) ≡ true
@@ -518,7 +517,7 @@ module _ (plan : Plan) (held : Held plan) (master D : ℕ) (s : State) (last : �
       let one : has plan held master there s x c c-small (counter (at 0) master) ≡ 1 = rw (first-value, eq-eqb v v refl) in
       omega arith
 
-  sends-time : (t : ℕ) → t < last → (q : ℕ) → timeGoes (at t) q ≡ true → SendsTime plan (at t) q
+  sends-time : (t : ℕ) → t < last → (q : ℕ) → GoesAt plan (at t) q → SendsTime plan (at t) q
   sends-time t h q g = omega (arith, sent-value plan held master there s x c c-small (at t) (f t h) q g)
 
   arrives : Arrives plan master D s last at

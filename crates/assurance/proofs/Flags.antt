@@ -18,10 +18,10 @@ use Rattle.assurance.proofs.Posted.{posts-sound, posts-runs}
 module _ (plan : Plan) (held : Held plan) (q : ℕ) (small : q < 256) where
   module _ (s : State) (x : Sound plan s) where
     -- as in s
-    abbrev Same : World → Type 0
+    abbrev pub Same : World → Type 0
     Same w = Sound plan (w .state) × (running (w .state) q ≡ running s q)
 
-    arrives-same : (p : ℕ) (w : World) → p < 8 * devices plan → Same w → Same (arrives plan (sentBytes plan s) p w)
+    pub arrives-same : (p : ℕ) (w : World) → p < 8 * devices plan → Same w → Same (arrives plan (sentBytes plan s) p w)
     arrives-same p w b y =
         let n = few plan held in (
           arrives-sound plan held (sentBytes plan s) p (omega arith) w (y .0),

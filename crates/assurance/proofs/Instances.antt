@@ -8,7 +8,7 @@ use native.Mathlib.Decide.{decLt}
 use native.Mathlib.Nat.{le-trans}
 use native.Mathlib.Omega.{arith}
 use lib.Dec.{eqb, ltb}
-use lib.ListN.{length, getD, List·getD-eq-default}
+use lib.ListN.{length, getD, replicate, getD-replicate, List·getD-eq-default}
 use Rattle.lists.specs.Loop.{upTo}
 use Rattle.lists.specs.Table.{every}
 use Rattle.lists.proofs.Facts.{facts}
@@ -23,7 +23,7 @@ use Rattle.plan.specs.inner.Memory.{at, right}
 use Rattle.plan.proofs.Shape.{Numbers}
 use Rattle.plan.proofs.BothWays.{right-held}
 use Rattle.state.specs.State.{State, registerAt, portAt, runningAt, running}
-use Rattle.state.specs.Network.{devices}
+use Rattle.state.specs.Network.{devices, bars}
 use Rattle.state.specs.Start.{started}
 use Rattle.state.specs.Sound.{Sound}
 use Rattle.state.proofs.Plans.{few}
@@ -67,13 +67,14 @@ shaped plan =
     && fits 32 4294967296 (plan .core .source)
     && fits 32 4294967296 (plan .core .handler)
     && fits 256 256 (plan .core .permissions)
+    && fits 512 4294967296 (plan .barred)
     && eqb (length (plan .peers)) 32
     && every 32 (λ d. fits 8 65536 (getD (plan .peers) d []))
 
 pub tested-held : (plan : Plan) → shaped plan ≡ true → right plan ≡ true → Held plan
 tested-held plan e =
     let f = simp facts at e in
-    let g = f .0 .0 .0 in
+    let g = f .0 .0 .0 .0 in
     right-held plan (record {
       events = g .0 .0 .0 .0 .0;
       loads = numbers (omega arith) (g .0 .0 .0 .0 .1);
@@ -81,10 +82,16 @@ tested-held plan e =
       ports = numbers (omega arith) (g .0 .0 .1);
       source = numbers (omega arith) (g .0 .1);
       handler = numbers (omega arith) (g .1);
-      permissions = numbers (omega arith) (f .0 .0 .1);
+      permissions = numbers (omega arith) (f .0 .0 .0 .1);
+      barred = numbers (omega arith) (f .0 .0 .1);
       rows = f .0 .1;
       row = λ d h. numbers (omega arith) (f .1 d h);
     })
+
+-- where nothing is barred, k is not
+pub none-barred : (plan : Plan) → plan .barred ≡ replicate 512 0 → (k kind q : ℕ) → kind < 2 → q < 256 → bit (bars plan kind q) k ≡ 0
+none-barred plan e k kind q g h =
+    ap (λ l. bit (getD l (2 * q + kind) 0) k) e ∙ ap (λ v. bit v k) (getD-replicate 512 (2 * q + kind) 0 0 (omega arith)) ∙ bit-zero k
 
 -- ---- what is so of a held plan
 

@@ -15,7 +15,7 @@ use Rattle.bits.specs.declared.Found.the-variants.{At, Nowhere}
 use Rattle.bits.proofs.Sets.{bit-two, leave-same, leave-other}
 use Rattle.plan.specs.Reading.{Held}
 use Rattle.plan.specs.declared.Plan.{Plan}
-use Rattle.state.specs.State.{State, words, word, put, registerAt, timerAt, portsAt, portWords, portAt, register, timer, waiting, nextAt, next, runningAt, running, counterAt, counter, timeAt, time, timeWaits, lately}
+use Rattle.state.specs.State.{State, words, word, put, registerAt, timerAt, portsAt, portWords, portAt, register, timer, waiting, nextAt, next, runningAt, running, counterAt, counter, timeAt, time, timeWaits, lately, dropsAt, drops}
 use Rattle.state.specs.Network.{devices, router}
 use Rattle.state.specs.Sound.{Sound}
 use Rattle.state.proofs.Words.{length-put, word-same, word-other}
@@ -144,6 +144,15 @@ module _ (plan : Plan) (held : Held plan) {s : State} (x : Sound plan s) where
       untouched (Round·posts s) (λ t. running t q) (8 * devices plan)
       (λ j t b. turn-other s j t (portAt q runningAt) (omega arith) (omega arith) (omega arith) (omega arith)) falls
       ∙ falls-left (portAt q runningAt) (omega arith)
+
+  -- what ports dropped stays
+  pub posts-drops : (kind q : ℕ) → kind < 2 → q < 256 → drops posts kind q ≡ drops s kind q
+  unfolding posted
+  posts-drops kind q g h =
+      let n = few plan held in
+      untouched (Round·posts s) (λ t. drops t kind q) (8 * devices plan)
+      (λ j t b. turn-other s j t (dropsAt q kind) (omega arith) (omega arith) (omega arith) (omega arith)) falls
+      ∙ falls-left (dropsAt q kind) (omega arith)
 
   -- a word that only the turn of port q changes
   posts-own : (q i : ℕ) (change : ℕ → ℕ) → q < 8 * devices plan → portsAt ≤ i

@@ -13,7 +13,7 @@ use Rattle.lists.proofs.Tables.{length-table, getD-table}
 use Rattle.device.specs.Reaction.{nextTime}
 use Rattle.plan.specs.Reading.{Held}
 use Rattle.plan.specs.declared.Plan.{Plan}
-use Rattle.state.specs.State.{State, words, word, put, portsEnd, portAt, runningAt, running, counterAt, counter, timeAt, time, timeWaits, lately}
+use Rattle.state.specs.State.{State, words, word, put, portsEnd, portAt, runningAt, running, counterAt, counter, timeAt, time, timeWaits, lately, dropsStart}
 use Rattle.state.specs.Network.{devices, exists, router, peer}
 use Rattle.state.specs.Sound.{Sound}
 use Rattle.state.specs.Queue.{queueTimeAll}
@@ -23,7 +23,7 @@ use Rattle.state.proofs.Waits.{not-absent}
 use Rattle.state.proofs.Times.{queue-times-left, queue-times-cases, queue-times-waits}
 use Rattle.bench.specs.Round.{World, ofInterrupt, ofTime, toldWord, nothing, sentWords, timeGoes, sentBytes, arrives, reached, afterTimers, afterSending}
 use Rattle.bench.proofs.Stepped.{goes-waits, post-time, sends-time}
-use Rattle.bench.proofs.RoundSound.{taking, takes, counts, isNew, arrives-any, arrives-sound}
+use Rattle.bench.proofs.RoundSound.{taking, loses, takes, counts, isNew, arrives-any, arrives-sound}
 use Rattle.laws.specs.Telling.{times}
 use Rattle.laws.proofs.Apart.{sent-at}
 use Rattle.laws.proofs.Telling.{once, times-more, times-other, falls-told}
@@ -31,18 +31,22 @@ use Rattle.flood.specs.Flood.{Net, Relays, here, cross}
 use Rattle.assurance.specs.Distribution.{carrying, Crosses}
 use Rattle.assurance.proofs.Taking.{took}
 use Rattle.assurance.proofs.Choices.{runs-there, runs-joined}
-use Rattle.assurance.proofs.Entering.{counts-turns}
+use Rattle.assurance.proofs.Entering.{loses-unmoved, counts-turns}
 use Rattle.assurance.proofs.Posted.{posts-sound, posts-runs, posts-time-gone, posts-time-on, posts-counter}
 
 -- ---- of any state
 
+-- a Time-Code goes out at a port of a device
+abbrev pub GoesAt : Plan → State → ℕ → Type 0
+GoesAt plan s q = (q < 8 * devices plan) × (timeGoes s q ≡ true)
+
 module _ (plan : Plan) (held : Held plan) (s : State) where
   -- where the byte of a Time-Code is sent, one goes
-  pub byte-goes : (q : ℕ) → getD (sentBytes plan s) q nothing < 64 → timeGoes s q ≡ true
+  pub byte-goes : (q : ℕ) → getD (sentBytes plan s) q nothing < 64 → GoesAt plan s q
   unfolding sentBytes
   byte-goes q small =
       let n = few plan held in
-      dite (decLt q (8 * devices plan)) (λ h. sends-time s q (omega (arith, sent-at {k = 0} (omega arith) plan held s q h)))
+      dite (decLt q (8 * devices plan)) (λ h. (h, sends-time s q (omega (arith, sent-at {k = 0} (omega arith) plan held s q h))))
       (λ n. dite (decLt q sentWords)
       (λ h. let none : getD (sentBytes plan s) q nothing ≡ nothing = getD-table sentWords _ q nothing h ∙ rw (le-ltb q (8 * devices plan) (omega arith)) in absurd (omega arith))
       (λ h. let none : getD (sentBytes plan s) q nothing ≡ nothing = List·getD-eq-default (sentBytes plan s) nothing (rw length-table (omega arith)) in absurd (omega arith)))
@@ -102,24 +106,16 @@ module _ (plan : Plan) (held : Held plan) (master : ℕ) (there : master < devic
     -- ---- what is sent
 
     abbrev pub Goes : ℕ → Type 0
-    Goes q = timeGoes s q ≡ true
-
-    -- only from a port of a device
-    pub goes-inside : (q : ℕ) → Goes q → q < 8 * devices plan
-    goes-inside q g =
-        let some = goes-waits s q g in
-        dite (decLt q 256)
-        (λ h. elim (x .only q h) [ inl z ↦ absurd (omega arith) | inr y ↦ let o = gets-device (y .1 .0 .1) in omega arith ])
-        (λ n. absurd (omega (arith, some, ap (λ w. w % 128) (word-past s (timeAt q) (omega (arith, x .sound .size))))))
+    Goes = GoesAt plan s
 
     pub goes-only : (q : ℕ) → Goes q → (timeWaits s q ≡ v + 1) × Sends-on (q / 8)
     goes-only q g =
-        let some = goes-waits s q g in
-        elim (x .only q (omega (arith, goes-inside q g, few plan held))) [ inl z ↦ absurd (omega arith) | inr y ↦ y ]
+        let some = goes-waits s q (g .1) in
+        elim (x .only q (omega (arith, g .0, few plan held))) [ inl z ↦ absurd (omega arith) | inr y ↦ y ]
 
     -- its byte is the value
     pub sent-value : (q : ℕ) → Goes q → getD (sentBytes plan s) q nothing ≡ v
-    sent-value q g = sent-at {k = 0} (omega arith) plan held s q (goes-inside q g) ∙ post-time s q g ∙ omega (arith, goes-only q g .0)
+    sent-value q g = sent-at {k = 0} (omega arith) plan held s q (g .0) ∙ post-time s q (g .1) ∙ omega (arith, goes-only q g .0)
 
     -- ---- after sending
 
@@ -140,7 +136,7 @@ module _ (plan : Plan) (held : Held plan) (master : ℕ) (there : master < devic
     -- its sender leads there, so that device gets it
     pub came-leads : {e j : ℕ} → Came e j → (peer plan j < 256) × (running s₀ (peer plan j) ≡ 1) × (e ≡ peer plan (peer plan j) / 8)
     came-leads {e} {j} a =
-        let far = goes-inside (peer plan j) (a .sender) in
+        let far = a .sender .0 in
         let small : peer plan j < 256 = omega (arith, far, few plan held) in
         let w = goes-only (peer plan j) (a .sender) .0 in
         let some : running s (peer plan j) ≢ 0 = λ z. omega (arith, x .sound .clock .stopped (peer plan j) small z) in
@@ -194,26 +190,26 @@ module _ (plan : Plan) (held : Held plan) (master : ℕ) (there : master < devic
 
     -- ---- one arrival
 
-    -- words behind the ports are as they were, and no word of a Time-Code is told
+    -- words between the ports and the drops are as they were, and no word of a Time-Code is told
     going-same : {w u : World} → Going w → Sound plan (u .state) → ((q : ℕ) → q < 256 → running (u .state) q ≡ running (w .state) q)
-        → ((i : ℕ) → portsEnd ≤ i → word (u .state) i ≡ word (w .state) i) → ((e n : ℕ) → times (toldWord ofTime e n) (u .told) ≡ times (toldWord ofTime e n) (w .told)) → Going u
+        → ((i : ℕ) → portsEnd ≤ i → i < dropsStart → word (u .state) i ≡ word (w .state) i) → ((e n : ℕ) → times (toldWord ofTime e n) (u .told) ≡ times (toldWord ofTime e n) (w .told)) → Going u
     going-same y sound runs same told =
-        let counts : (e : ℕ) → counter _ e ≡ counter _ e = λ e. same (counterAt e) (omega arith) in
-        let times : (q : ℕ) → time _ q ≡ time _ q = λ q. same (timeAt q) (omega arith) in
+        let counts : (e : ℕ) → e < 32 → counter _ e ≡ counter _ e = λ e h. same (counterAt e) (omega arith) (omega arith) in
+        let times : (q : ℕ) → q < 256 → time _ q ≡ time _ q = λ q h. same (timeAt q) (omega arith) (omega arith) in
         record {
           sound = sound;
           runs = λ q h. runs q h ∙ y .runs q h;
-          late = λ q h. ap (λ n. n / 128 % 2) (times q) ∙ y .late q h;
-          counted = λ e h. elim (y .counted e h) [ inl o ↦ inl (counts e ∙ o) | inr o ↦ inr (counts e ∙ o .0, o .1) ];
+          late = λ q h. ap (λ n. n / 128 % 2) (times q h) ∙ y .late q h;
+          counted = λ e h. elim (y .counted e h) [ inl o ↦ inl (counts e h ∙ o) | inr o ↦ inr (counts e h ∙ o .0, o .1) ];
           fresh = λ q h. elim (y .fresh q h) [
-            | inl o ↦ inl (ap (λ n. n % 128) (times q) ∙ o)
-            | inr o ↦ inr (ap (λ n. n % 128) (times q) ∙ o .0, o .1, counts (q / 8) ∙ o .2, o .3, o .4)
+            | inl o ↦ inl (ap (λ n. n % 128) (times q h) ∙ o)
+            | inr o ↦ inr (ap (λ n. n % 128) (times q h) ∙ o .0, o .1, counts (q / 8) (omega arith) ∙ o .2, o .3, o .4)
           ];
-          relays = λ q h r on is. elim (y .relays q h r on (sym (counts (q / 8)) ∙ is)) [
+          relays = λ q h r on is. elim (y .relays q h r on (sym (counts (q / 8) (omega arith)) ∙ is)) [
             | inl o ↦ inl o
-            | inr o ↦ inr (elim o [ inl a ↦ inl (ap (λ n. n % 128) (times q) ∙ a) | inr a ↦ inr a ])
+            | inr o ↦ inr (elim o [ inl a ↦ inl (ap (λ n. n % 128) (times q h) ∙ a) | inr a ↦ inr a ])
           ];
-          told = λ e get node. rw (told e v, counts e) (y .told e get node);
+          told = λ e get node. rw (told e v, counts e (omega (arith, gets-device (get .1), few plan held))) (y .told e get node);
           untold = λ e n h l not. told e n ∙ y .untold e n h l not;
         }
 
@@ -234,7 +230,13 @@ module _ (plan : Plan) (held : Held plan) (master : ℕ) (there : master < devic
       taken : (kind k : ℕ) → kind < 2 → k < 32 → Sound plan (takes plan kind k j (router plan d) w .state) → Going (takes plan kind k j (router plan d) w)
       taken kind k g l sound =
           going-same y sound (λ q h. took plan kind k g l d j room (w .state) (y .sound .size) (router plan d) .runs q)
-          (taken-behind kind k g l) (λ e n. times-other (toldWord ofTime e n) (toldWord (ofInterrupt + kind) d k) (omega (arith, room)) (router plan d) (w .told))
+          (λ n h o. taken-behind kind k g l n h) (λ e n. times-other (toldWord ofTime e n) (toldWord (ofInterrupt + kind) d k) (omega (arith, room)) (router plan d) (w .told))
+
+      -- one that is dropped
+      lost : (kind : ℕ) → Sound plan (loses kind j w .state) → Going (loses kind j w)
+      lost kind sound =
+          let left = loses-unmoved kind j w .front in
+          going-same y sound (λ q h. left (portAt q runningAt) (omega arith)) (λ n h o. left n o) (λ e n. refl)
 
       -- the Time-Code: the counter takes its value
       abbrev t : State
@@ -408,7 +410,8 @@ module _ (plan : Plan) (held : Held plan) (master : ℕ) (there : master < devic
       pub going-arrives : Going (arrives plan (sentBytes plan s) j w)
       going-arrives =
           let n = few plan held in
-          arrives-any plan (sentBytes plan s) j room w (λ u. Sound plan (u .state) → Going u) (λ none big sound. y)
+          arrives-any plan (sentBytes plan s) j room w (λ u. Sound plan (u .state) → Going u) (λ none no big sound. y)
+          (λ kind k g l e b sound. lost kind sound)
           (λ value h e sound.
           let g = byte-goes plan held s (peer plan j) (omega arith) in
           let is : value ≡ v = sym e ∙ sent-value (peer plan j) g in
@@ -419,7 +422,8 @@ module _ (plan : Plan) (held : Held plan) (master : ℕ) (there : master < devic
       -- who has it keeps it
       arrives-keeps : (e : ℕ) → e < 32 → counter (w .state) e ≡ v → counter (arrives plan (sentBytes plan s) j w .state) e ≡ v
       arrives-keeps e h is =
-          arrives-any plan (sentBytes plan s) j room w (λ u. counter (u .state) e ≡ v) (λ none big. is)
+          arrives-any plan (sentBytes plan s) j room w (λ u. counter (u .state) e ≡ v) (λ none no big. is)
+          (λ kind k g l o b. loses-unmoved kind j w .front (counterAt e) (omega arith) ∙ is)
           (λ value b o.
           let g = byte-goes plan held s (peer plan j) (omega arith) in
           let same : value ≡ v = sym o ∙ sent-value (peer plan j) g in
@@ -435,7 +439,8 @@ module _ (plan : Plan) (held : Held plan) (master : ℕ) (there : master < devic
 
       arrives-here : Goes (peer plan j) → counter (arrives plan (sentBytes plan s) j w .state) d ≡ v
       arrives-here g =
-          arrives-any plan (sentBytes plan s) j room w (λ u. counter (u .state) d ≡ v) (λ none big. absurd (omega (arith, sent-value (peer plan j) g)))
+          arrives-any plan (sentBytes plan s) j room w (λ u. counter (u .state) d ≡ v) (λ none no big. absurd (omega (arith, sent-value (peer plan j) g)))
+          (λ kind k f l e b. absurd (omega (arith, sent-value (peer plan j) g)))
           (λ value h e. let is : value ≡ v = sym e ∙ sent-value (peer plan j) g in rw is (counts-here (record { inside = small; here = refl; sender = g })))
           (λ kind k f l e o. absurd (omega (arith, sent-value (peer plan j) g)))
 

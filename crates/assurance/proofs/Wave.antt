@@ -14,6 +14,7 @@ use Rattle.state.specs.Network.{devices, exists, peer, events, loadOf}
 use Rattle.state.specs.Sound.{Sound}
 use Rattle.state.proofs.Plans.{FarEnd, few, owned, far-end}
 use Rattle.bench.specs.Round.{round, afterSending}
+use Rattle.bench.proofs.RoundSound.{bars-at}
 use Rattle.laws.specs.Alike.{Alike, SendsIt}
 use Rattle.reach.specs.Walk.{Leads}
 use Rattle.flood.specs.Flood.{Step}
@@ -86,7 +87,7 @@ module _ (plan : Plan) (held : Held plan) (kind k : ℕ) (g : kind < 2) (l : k <
         sym (f .runs j (m .joined)) ∙ sym (f .sound .ports q h there .both-ends (m .joined)) ∙ f .runs q h ∙ m .runs in (
           rw (m .there) o,
           gets-in plan kind k s₀ takers s held g l u f loads (afterSending plan s) fits used e j (omega arith)
-              (record { inside = m .joined; there = sym (m .there); sender = rw (end .back) x; runs = flag; may = m .receives }),
+              (record { inside = m .joined; there = sym (m .there); sender = rw (end .back) x; runs = flag; may = m .receives; unbarred = ap (λ v. bit v k) (bars-at plan held j kind (m .joined) g) ∙ m .admits }),
         )
 
     came-leads : (e j : ℕ) → Came plan kind k s₀ s e j → Leads plan s₀ kind k (peer plan j) e
@@ -100,6 +101,7 @@ module _ (plan : Plan) (held : Held plan) (kind k : ℕ) (g : kind < 2) (l : k <
           sends = waits-may plan held (f .sound) (peer plan j) h kind k g b;
           joined = rw back (c .inside);
           receives = rw back (c .may);
+          admits = rw back (ap (λ v. bit v k) (sym (bars-at plan held j kind (c .inside) g)) ∙ c .unbarred);
           there = rw back (sym (c .there));
         }
 

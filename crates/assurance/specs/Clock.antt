@@ -23,9 +23,9 @@ HearsIn plan kind d k at turn = (t : ℕ) × (turn ≡ suc t) × List·Memᴰ (t
 -- node `to`, d crossings away from the source, is told in round `turn`, and acknowledges `wait` rounds later
 module _ (plan : Plan) (k from to d D D' turn wait : ℕ) (s : State) (at back : ℕ → State) where
   pub record Waits : Type 0 where
-    -- demand 3's conditions, on links that grant everything, for an identifier that is no event
+    -- demand 3's conditions, on links that grant everything and do not bar k, for an identifier that is no event
     pub request : Window plan k from D s at
-    pub permits : Permits plan s
+    pub permits : Permits plan k s
     pub no-event : bit (events plan) k ≡ 0
     -- a handler of k, d crossings away, is told
     pub handles : bit (handler plan to) k ≡ 1

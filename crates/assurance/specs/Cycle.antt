@@ -22,8 +22,8 @@ use Rattle.assurance.specs.Return.{Permits, Told, Gets, Back, AwayBack, 
 pub record Cycle (plan : Plan) (k from to D D' gap : ℕ) (s : State) (at back : ℕ → State) : Type 0 where
   -- all that demand 3 asks: k is unset and waits nowhere, the request is taken, and its window is kept
   pub request : Window plan k from D s at
-  -- both ends of each link that runs grant all four permissions
-  pub permits : Permits plan s
+  -- both ends of each link that runs grant all four permissions, and do not bar k
+  pub permits : Permits plan k s
   -- k is no event: it is acknowledged
   pub no-event : bit (events plan) k ≡ 0
   -- between the two windows the same holds as in them
@@ -119,7 +119,7 @@ AnyCycles =
 pub record Sooner (plan : Plan) (k from to D' until : ℕ) (s : State) (at back : ℕ → State) : Type 0 where
   pub held : Held plan
   pub at-rest : AtRest plan k s
-  pub permits : Permits plan s
+  pub permits : Permits plan k s
   pub no-event : bit (events plan) k ≡ 0
   -- a source's request is taken, and for `until` rounds nobody requests or acknowledges k
   pub taken : Ordered (callAsks plan 0 from k s) 0

@@ -9,7 +9,7 @@ use Rattle.device.specs.Permissions.{maySend, mayReceive}
 use Rattle.plan.specs.Reading.{Held}
 use Rattle.plan.specs.declared.Plan.{Plan}
 use Rattle.state.specs.State.{State, register, timer, waiting, running}
-use Rattle.state.specs.Network.{devices, router, peer, permissions, source, handler, events}
+use Rattle.state.specs.Network.{devices, router, peer, permissions, bars, source, handler, events}
 use Rattle.state.specs.Sound.{Sound}
 use Rattle.calls.specs.Calls.{callAsks, called}
 use Rattle.bench.specs.Round.{ofInterrupt, ofAcknowledge, ofTimeout}
@@ -18,11 +18,12 @@ use Rattle.reach.specs.Walk.{WalkOver, Walk}
 use Rattle.reach.specs.Away.{AwayOver, FarthestOver, Farthest}
 use Rattle.assurance.specs.Demand3.{Course, crossing, window, SendsK}
 
--- both ends of each link that runs grant all four permissions: whatever port runs may send and may receive codes of either kind
-abbrev pub Permits : Plan → State → Type 0
-Permits plan s =
+-- both ends of each link that runs grant all four permissions and bar k in neither kind: whatever port runs may send and may receive codes of either
+-- kind, and does not drop those of k
+abbrev pub Permits : Plan → ℕ → State → Type 0
+Permits plan k s =
     (kind q : ℕ) → kind < 2 → q < 256 → running s q ≡ 1
-    → (maySend kind (permissions plan q) ≡ true) × (mayReceive kind (permissions plan q) ≡ true)
+    → (maySend kind (permissions plan q) ≡ true) × (mayReceive kind (permissions plan q) ≡ true) × (bit (bars plan kind q) k ≡ 0)
 
 -- what the host of device d is told of k in so many rounds of a course: how often of an interrupt, of an acknowledge, of a timeout
 pub record Told (plan : Plan) (k d rounds : ℕ) (at : ℕ → State) (interrupts acknowledges timeouts : ℕ) : Type 0 where
@@ -53,10 +54,10 @@ FoundBack plan k from to s = (e : ℕ) → Gets plan k from s e → (n : ℕ) ×
 -- node `to` acknowledges in state s what node `from` requested; `at t` is the state t rounds later
 module _ (plan : Plan) (k from to D' : ℕ) (s : State) (at : ℕ → State) where
   pub record Given : Type 0 where
-    -- the plan is that of an accepted file, and the state any sound one; the links that run grant everything
+    -- the plan is that of an accepted file, and the state any sound one; the links that run grant everything and do not bar k
     pub held : Held plan
     pub sound : Sound plan s
-    pub permits : Permits plan s
+    pub permits : Permits plan k s
     -- the interrupt of a source of k is wherever it can get to, nowhere else, and waits nowhere
     pub place : k < 32
     pub there : from < devices plan
@@ -116,11 +117,11 @@ abbrev pub OneWay : Plan → State → ℕ → Type 0
 OneWay plan s d =
     (p q : ℕ) → p < 8 → q < 8 → running s (8 * d + p) ≡ 1 → running s (8 * d + q) ≡ 1 → peer plan (8 * d + p) / 8 ≡ peer plan (8 * d + q) / 8
 
--- a handler of k that the interrupt of a source gets to, over links that grant everything
+-- a handler of k that the interrupt of a source gets to, over links that grant everything and do not bar k
 pub record Answers (plan : Plan) (k from to : ℕ) (s : State) : Type 0 where
   pub held : Held plan
   pub sound : Sound plan s
-  pub permits : Permits plan s
+  pub permits : Permits plan k s
   pub there : from < devices plan
   pub requests : bit (source plan from) k ≡ 1
   pub handles : bit (handler plan to) k ≡ 1

@@ -18,7 +18,7 @@ use Rattle.plan.specs.Fields.{nobody}
 use Rattle.plan.specs.Reading.{Held}
 use Rattle.plan.specs.declared.Plan.{Plan}
 use Rattle.plan.proofs.BothWays.{held-few}
-use Rattle.state.specs.State.{State, words, word, put, deviceWords, portsAt, portsEnd, registerAt, timerAt, timer, counterAt, timeAt}
+use Rattle.state.specs.State.{State, words, word, put, deviceWords, portsAt, portsEnd, registerAt, timerAt, timer, counterAt, timeAt, dropsStart}
 use Rattle.state.specs.Network.{devices, portsOf, peer}
 use Rattle.state.specs.Sound.{Sound}
 use Rattle.bench.specs.Round.{World, nothing, sentWords, fall, sentBytes, arrives, round}
@@ -112,6 +112,7 @@ sound-blank plan h {s} x =
           (by-behind (λ i. registerAt (devices plan) ≤ i → (portsAt ≤ i → portsPast (devices plan) ≤ i) → Behind (devices plan) i → word s i ≡ 0)
           (λ d l a b c. x .clock .no-counter d (omega (arith, c .0 (omega arith))) l)
           (λ q l a b c. x .clock .no-word q l (past-absent plan h q l (omega (arith, c .1 (omega arith)))))
+          (λ q kind l m a b c. x .guard .no-count q kind l m (rw (le-ltb (q / 8) (devices plan) (omega (arith, c .2 (omega arith))))))
           (λ i l a b c. word-past s i (omega (arith, x .size))));
     }
 
@@ -140,32 +141,38 @@ copies-more {i = i} {v} {t = t} x l h e =
       left = λ j o. word-other t i v j (λ z. o (omega arith) (omega arith)) ∙ x .left j (λ a b. o a (omega arith));
     }
 
--- what is so of every place that is theirs, and of every other, is so of all; those of devices, of ports, of counters, and of the ports' Time-Codes
+-- what is so of every place that is theirs, and of every other, is so of all; those of devices, of ports, of counters, of the ports' Time-Codes, and of
+-- their drops
 by-theirs : {n : ℕ} (P : ℕ → Type 0) → n ≤ 32 → ((i : ℕ) → i < registerAt n → P i) → ((i : ℕ) → portsAt ≤ i → i < portsPast n → P i)
     → ((i : ℕ) → portsEnd ≤ i → i < counterAt n → P i) → ((i : ℕ) → timeAt 0 ≤ i → i < timeAt (8 * n) → P i)
+    → ((i : ℕ) → dropsStart ≤ i → i < dropsStart + 16 * n → P i)
     → ((i : ℕ) → registerAt n ≤ i → (portsAt ≤ i → portsPast n ≤ i) → Behind n i → P i) → (i : ℕ) → P i
-by-theirs {n} P few devices ports counters times others i =
+by-theirs {n} P few devices ports counters times counts others i =
     dite (decLt i (registerAt n)) (devices i)
-    (λ a. dite (decLt i portsAt) (λ m. others i (omega arith) (λ o. absurd (omega arith)) (λ o. absurd (omega arith), λ o. absurd (omega arith)))
+    (λ a. dite (decLt i portsAt) (λ m. others i (omega arith) (λ o. absurd (omega arith)) (λ o. absurd (omega arith), λ o. absurd (omega arith), λ o. absurd (omega arith)))
     (λ b. dite (decLt i (portsPast n)) (ports i (omega arith))
-    (λ c. dite (decLt i portsEnd) (λ m. others i (omega arith) (λ _. omega arith) (λ o. absurd (omega arith), λ o. absurd (omega arith)))
+    (λ c. dite (decLt i portsEnd) (λ m. others i (omega arith) (λ _. omega arith) (λ o. absurd (omega arith), λ o. absurd (omega arith), λ o. absurd (omega arith)))
     (λ d. dite (decLt i (counterAt n)) (counters i (omega arith))
-    (λ e. dite (decLt i (timeAt 0)) (λ m. others i (omega arith) (λ _. omega arith) (λ _. omega arith, λ o. absurd (omega arith)))
-    (λ f. dite (decLt i (timeAt (8 * n))) (times i (omega arith)) (λ g. others i (omega arith) (λ _. omega arith) (λ _. omega arith, λ _. omega arith))))))))
+    (λ e. dite (decLt i (timeAt 0)) (λ m. others i (omega arith) (λ _. omega arith) (λ _. omega arith, λ o. absurd (omega arith), λ o. absurd (omega arith)))
+    (λ f. dite (decLt i (timeAt (8 * n))) (times i (omega arith))
+    (λ g. dite (decLt i dropsStart) (λ m. others i (omega arith) (λ _. omega arith) (λ _. omega arith, λ _. omega arith, λ o. absurd (omega arith)))
+    (λ j. dite (decLt i (dropsStart + 16 * n)) (counts i (omega arith)) (λ k. others i (omega arith) (λ _. omega arith) (λ _. omega arith, λ _. omega arith, λ _. omega arith))))))))))
 
 -- the words of the devices and of their ports are brought over
-pub brought : {n : ℕ} {old next one two three after : State} → n ≤ 32 → Blank n old → Blank n next → Copies 0 (deviceWords * n) old next one
-    → Copies portsAt (portsPast n) old one two → Copies portsEnd (counterAt n) old two three → Copies (timeAt 0) (timeAt (8 * n)) old three after → after ≡ old
+pub brought : {n : ℕ} {old next one two three four after : State} → n ≤ 32 → Blank n old → Blank n next → Copies 0 (deviceWords * n) old next one
+    → Copies portsAt (portsPast n) old one two → Copies portsEnd (counterAt n) old two three → Copies (timeAt 0) (timeAt (8 * n)) old three four
+    → Copies dropsStart (dropsStart + 16 * n) old four after → after ≡ old
 unfolding word
-brought {n} {old} {next} {one} {two} {three} {after} few x y a b c d =
-    ext-getD 0 after old (d .size ∙ c .size ∙ b .size ∙ a .size ∙ y .size ∙ sym (x .size))
+brought {n} {old} {next} {one} {two} {three} {four} {after} few x y a b c d e =
+    ext-getD 0 after old (e .size ∙ d .size ∙ c .size ∙ b .size ∙ a .size ∙ y .size ∙ sym (x .size))
     (λ i h. by-theirs (λ i. word after i ≡ word old i) few
-    (λ i l. d .left i (λ p q. omega arith) ∙ c .left i (λ p q. omega arith) ∙ b .left i (λ p q. omega arith) ∙ a .there i (omega arith) l)
-    (λ i l m. d .left i (λ p q. omega arith) ∙ c .left i (λ p q. omega arith) ∙ b .there i l m)
-    (λ i l m. d .left i (λ p q. omega arith) ∙ c .there i l m)
-    (λ i l m. d .there i l m)
+    (λ i l. e .left i (λ p q. omega arith) ∙ d .left i (λ p q. omega arith) ∙ c .left i (λ p q. omega arith) ∙ b .left i (λ p q. omega arith) ∙ a .there i (omega arith) l)
+    (λ i l m. e .left i (λ p q. omega arith) ∙ d .left i (λ p q. omega arith) ∙ c .left i (λ p q. omega arith) ∙ b .there i l m)
+    (λ i l m. e .left i (λ p q. omega arith) ∙ d .left i (λ p q. omega arith) ∙ c .there i l m)
+    (λ i l m. e .left i (λ p q. omega arith) ∙ d .there i l m)
+    (λ i l m. e .there i l m)
     (λ i l m o.
-    d .left i (λ p q. omega (arith, o .1 p)) ∙ c .left i (λ p q. omega (arith, o .0 p)) ∙ b .left i (λ p q. omega (arith, m p)) ∙ a .left i (λ p q. omega arith)
+    e .left i (λ p q. omega (arith, o .2 p)) ∙ d .left i (λ p q. omega (arith, o .1 p)) ∙ c .left i (λ p q. omega (arith, o .0 p)) ∙ b .left i (λ p q. omega (arith, m p)) ∙ a .left i (λ p q. omega arith)
     ∙ y .blank i l m o ∙ sym (x .blank i l m o)) i)
 
 -- ---- where nothing is sent

@@ -78,8 +78,8 @@ pub count-fits : {plan : Plan} {old : State} {before : List ℕ} {next : State} 
     → count ≤ toldWords
 count-fits {plan} {old} h p = omega (arith, p .number, told-fits plan old h)
 
--- the plan of its two parts
+-- the plan of its three parts
 pub played-plan : {plan : Plan} {peers : List (List ℕ)} {old : State} {before : List ℕ} {next : State} {sent told : List ℕ} {count : ℕ} → peers ≡ plan .peers
-    → Played (record { core = plan .core; peers = peers }) old before next sent told count → Played plan old before next sent told count
+    → Played (record { core = plan .core; peers = peers; barred = plan .barred }) old before next sent told count → Played plan old before next sent told count
 played-plan {plan} {old = old} {before} {next} {sent} {told} {count} e p =
-    subst (λ (l : List (List ℕ)). Played (record { core = plan .core; peers = l }) old before next sent told count) e p
+    subst (λ (l : List (List ℕ)). Played (record { core = plan .core; peers = l; barred = plan .barred }) old before next sent told count) e p

@@ -41,9 +41,9 @@ module _ {n : ℕ} {s : State} where
       record {
         only = λ _. (
           λ q kind l k. dite (decLt q (8 * n)) (λ g. both-kinds (λ j. waiting s j q ≡ 0) (h q g .0) (h q g .1) kind k)
-              (λ g. b .blank (portAt q kind) (omega arith) (λ _. omega arith) (λ o. absurd (omega arith), λ o. absurd (omega arith))),
+              (λ g. b .blank (portAt q kind) (omega arith) (λ _. omega arith) (λ o. absurd (omega arith), λ o. absurd (omega arith), λ o. absurd (omega arith))),
           λ q l. dite (decLt q (8 * n)) (λ g. h q g .2)
-              (λ g. rw (b .blank (timeAt q) (omega arith) (λ _. omega arith) (λ _. omega arith, λ _. omega arith))),
+              (λ g. rw (b .blank (timeAt q) (omega arith) (λ _. omega arith) (λ _. omega arith, λ _. omega arith, λ o. absurd (omega arith)))),
         );
         all = λ _. refl;
       }
@@ -149,15 +149,15 @@ module _ (plan : Plan) (before : Pair) (allowance : ℕ) where
             kept = λ _ n. absurd (n z);
           }
 
--- ---- the plan of its two parts
+-- ---- the plan of its three parts
 
-pub held-parts : (plan : Plan) {peers : List (List ℕ)} → peers ≡ plan .peers → Held plan → Held (record { core = plan .core; peers = peers })
-held-parts plan e h = subst (λ (l : List (List ℕ)). Held (record { core = plan .core; peers = l })) (sym e) h
+pub held-parts : (plan : Plan) {peers : List (List ℕ)} → peers ≡ plan .peers → Held plan → Held (record { core = plan .core; peers = peers; barred = plan .barred })
+held-parts plan e h = subst (λ (l : List (List ℕ)). Held (record { core = plan .core; peers = l; barred = plan .barred })) (sym e) h
 
-pub sound-parts : {plan : Plan} {peers : List (List ℕ)} {s : State} → peers ≡ plan .peers → Sound plan s → Sound (record { core = plan .core; peers = peers }) s
-sound-parts {plan} {s = s} e h = subst (λ (l : List (List ℕ)). Sound (record { core = plan .core; peers = l }) s) (sym e) h
+pub sound-parts : {plan : Plan} {peers : List (List ℕ)} {s : State} → peers ≡ plan .peers → Sound plan s → Sound (record { core = plan .core; peers = peers; barred = plan .barred }) s
+sound-parts {plan} {s = s} e h = subst (λ (l : List (List ℕ)). Sound (record { core = plan .core; peers = l; barred = plan .barred }) s) (sym e) h
 
 pub ends-plan : {plan : Plan} {peers : List (List ℕ)} {s : State} {allowance number value : ℕ} {now : Pair} → peers ≡ plan .peers
-    → Ends (record { core = plan .core; peers = peers }) s allowance number value now → Ends plan s allowance number value now
+    → Ends (record { core = plan .core; peers = peers; barred = plan .barred }) s allowance number value now → Ends plan s allowance number value now
 ends-plan {plan} {s = s} {allowance} {number} {value} {now} e p =
-    subst (λ (l : List (List ℕ)). Ends (record { core = plan .core; peers = l }) s allowance number value now) e p
+    subst (λ (l : List (List ℕ)). Ends (record { core = plan .core; peers = l; barred = plan .barred }) s allowance number value now) e p

@@ -19,11 +19,11 @@ use Rattle.codes.specs.Codes.{byteOf}
 use Rattle.codes.specs.declared.Code.{Code}
 use Rattle.device.specs.Reaction.{reacts}
 use Rattle.device.specs.declared.Reaction.{Reaction}
-use Rattle.device.specs.declared.Action.the-variants.{Forwarded, Told}
+use Rattle.device.specs.declared.Action.the-variants.{Forwarded, Told, Dropped}
 use Rattle.plan.specs.declared.Plan.{Plan}
 use Rattle.state.specs.State.{State, put, word, registerAt, timerAt, portAt, register, timer, waiting, nextAt, next, counterAt, counter, timeAt, timeWaits, lately}
 use Rattle.state.specs.Network.{router, peer, loadOf}
-use Rattle.bench.specs.Round.{World, nothing, ofTimeout, toldWord, fall, firstWaits, goes, timeGoes, chosen, sentWord, sends, unqueued, stamped, posts, timed, forwarded, tells, sideAt, acted, arrived, arrives}
+use Rattle.bench.specs.Round.{World, nothing, ofTimeout, toldWord, fall, firstWaits, goes, timeGoes, chosen, sentWord, sends, unqueued, stamped, posts, timed, forwarded, lost, tells, sideAt, acted, arrived, arrives}
 use Rattle.state.proofs.Words.{word-other}
 use Rattle.bench.proofs.Following.{world}
 
@@ -241,12 +241,16 @@ module _ (load : ℕ → ℕ) (permissions : List ℕ) (q : ℕ) (s : State) whe
   unfolding acted
   acted-tells code t told e = rw e
 
-  pub arrived-acts : (isRouter : Bool) (events byte : ℕ) (r : Reaction) (told : List ℕ)
-      → r ≡ reacts (sideAt isRouter permissions events q s) (register s (q / 8)) (counter s (q / 8)) byte
-      → arrived load permissions q isRouter events byte (world s told)
+  pub acted-loses : (code : Code) (t : State) (told : List ℕ) → t ≡ lost q code s → acted load permissions q (Dropped code) (world s told) ≡ world t told
+  unfolding acted
+  acted-loses code t told e = rw e
+
+  pub arrived-acts : (barred : List ℕ) (isRouter : Bool) (events byte : ℕ) (r : Reaction) (told : List ℕ)
+      → r ≡ reacts (sideAt isRouter permissions barred events q s) (register s (q / 8)) (counter s (q / 8)) byte
+      → arrived load permissions q barred isRouter events byte (world s told)
       ≡ acted load permissions q (r .action) (world (put (put s (counterAt (q / 8)) (r .counter)) (registerAt (q / 8)) (r .register)) told)
   unfolding arrived
-  arrived-acts isRouter events byte r told e =
+  arrived-acts barred isRouter events byte r told e =
       ap (λ (x : Reaction). acted load permissions q (x .action) (world (put (put s (counterAt (q / 8)) (x .counter)) (registerAt (q / 8)) (x .register)) told)) (sym e)
 
 module _ (plan : Plan) (sent : List ℕ) (q byte : ℕ) (e : byte ≡ getD sent (peer plan q) nothing) (w : World) where
@@ -254,6 +258,6 @@ module _ (plan : Plan) (sent : List ℕ) (q byte : ℕ) (e : byte ≡ getD sent 
   unfolding arrives
   arrives-nothing h = rw (← e, le-ltb byte nothing h, arrives)
 
-  pub arrives-byte : byte < nothing → arrives plan sent q w ≡ arrived (loadOf plan (q / 8)) (plan .core .permissions) q (router plan (q / 8)) (plan .core .events) byte w
+  pub arrives-byte : byte < nothing → arrives plan sent q w ≡ arrived (loadOf plan (q / 8)) (plan .core .permissions) q (plan .barred) (router plan (q / 8)) (plan .core .events) byte w
   unfolding arrives
   arrives-byte h = rw (← e, lt-ltb byte nothing h, arrives)

@@ -14,7 +14,7 @@ use Rattle.codes.specs.declared.Code.{Code}
 use Rattle.codes.specs.declared.Code.the-variants.{Time, Interrupt, Acknowledge, Reserved}
 use Rattle.device.specs.Reaction.{nextTime, passedOn, ruled, counted, reactsTo, reacts}
 use Rattle.device.specs.declared.Action.{Action}
-use Rattle.device.specs.declared.Action.the-variants.{Named, LinkError, Ignored, Forwarded, Told}
+use Rattle.device.specs.declared.Action.the-variants.{Named, LinkError, Ignored, Forwarded, Told, Dropped}
 use Rattle.device.specs.declared.Side.{Side}
 use Rattle.device.proofs.Rule.{ruled-cases}
 use Rattle.plan.specs.Fields.{nobody}
@@ -46,13 +46,14 @@ most load permissions q (Told (Reserved top low)) w = simp length-append (omega 
 most load permissions q (Named code) w = omega arith
 most load permissions q (LinkError code) w = omega arith
 most load permissions q (Ignored code) w = omega arith
+most load permissions q (Dropped code) w = omega arith
 
 -- a router tells nobody
 module _ (load : ℕ → ℕ) (permissions : List ℕ) (q : ℕ) (side : Side) (hands : side .router ≡ true) (register counter : ℕ) (w : World) where
   ruled-silent : (kind k : ℕ) (code : Code) → acted load permissions q (ruled side register counter kind k code .action) w .told ≡ w .told
   unfolding acted
   ruled-silent kind k code =
-      ruled-cases (λ r. acted load permissions q (r .action) w .told ≡ w .told) side register counter kind k code (λ n. refl) (λ n. refl) (λ o. rw hands refl)
+      ruled-cases (λ r. acted load permissions q (r .action) w .told ≡ w .told) side register counter kind k code (λ n. refl) (λ n. refl) (λ n. refl) (λ o. rw hands refl)
 
   reacts-silent : (code : Code) → acted load permissions q (reactsTo side register counter code .action) w .told ≡ w .told
   unfolding acted reactsTo counted

@@ -179,10 +179,10 @@ module _ (plan : Plan) (state second found : List ℕ) where
     misfits m = record { answers = inr (held, inl (m, refl)); made = λ z. absurd (omega (arith, z)); kept = λ _. refl }
 
     pub finds : {peers : List (List ℕ)} {s u f : List ℕ} → peers ≡ plan .peers → Fits (length state) (length second) (length found)
-        → Finds (record { core = plan .core; peers = peers }) f → s ≡ table words (λ i. 0) → u ≡ table words (λ i. 0) → TriesAll plan (lent state second found) 0 (lent s u f)
+        → Finds (record { core = plan .core; peers = peers; barred = plan .barred }) f → s ≡ table words (λ i. 0) → u ≡ table words (λ i. 0) → TriesAll plan (lent state second found) 0 (lent s u f)
     finds {f = f} e fits x p q =
         record {
           answers = inr (held, inr (fits, refl));
-          made = λ _. (subst (λ (l : List (List ℕ)). Finds (record { core = plan .core; peers = l }) f) e x, p, q);
+          made = λ _. (subst (λ (l : List (List ℕ)). Finds (record { core = plan .core; peers = l; barred = plan .barred }) f) e x, p, q);
           kept = λ z. absurd (z refl);
         }

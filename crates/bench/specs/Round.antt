@@ -16,10 +16,10 @@ use Rattle.codes.specs.declared.Code.{Code}
 use Rattle.codes.specs.declared.Code.the-variants.{Time, Interrupt, Acknowledge, Reserved}
 use Rattle.device.specs.Reaction.{reacts}
 use Rattle.device.specs.declared.Action.{Action}
-use Rattle.device.specs.declared.Action.the-variants.{Named, LinkError, Ignored, Forwarded, Told}
+use Rattle.device.specs.declared.Action.the-variants.{Named, LinkError, Ignored, Dropped, Forwarded, Told}
 use Rattle.device.specs.declared.Side.{Side}
 use Rattle.plan.specs.declared.Plan.{Plan}
-use Rattle.state.specs.State.{State, put, registerAt, timerAt, portAt, register, timer, waiting, nextAt, next, running, counterAt, counter, timeAt, timeWaits, lately}
+use Rattle.state.specs.State.{State, put, registerAt, timerAt, portAt, register, timer, waiting, nextAt, next, running, counterAt, counter, timeAt, timeWaits, lately, dropsAt, drops, mostDrops}
 use Rattle.state.specs.Network.{devices, router, peer, events, loadOf}
 use Rattle.state.specs.Queue.{queueAllAt, queueTimeAll}
 
@@ -128,6 +128,17 @@ forwarded permissions q (Acknowledge k) s = queueAllAt permissions 1 k (q / 8) q
 forwarded permissions q (Time v) s = queueTimeAll v (q / 8) q s
 forwarded permissions q (Reserved top low) s = s
 
+-- a count goes up by one, to the most that there can be
+unfoldable pub oneMore : ℕ → ℕ
+oneMore count = cond (ltb count mostDrops) (count + 1) count
+
+-- a code that port q drops is counted there, by its kind, and goes no further
+unfoldable pub lost : ℕ → Code → State → State
+lost q (Interrupt k) s = put s (dropsAt q 0) (oneMore (drops s 0 q))
+lost q (Acknowledge k) s = put s (dropsAt q 1) (oneMore (drops s 1 q))
+lost q (Time v) s = s
+lost q (Reserved top low) s = s
+
 -- what a host is told of a code
 unfoldable pub tells : ℕ → Code → List ℕ
 tells d (Interrupt k) = toldWord ofInterrupt d k ∷ []
@@ -135,9 +146,20 @@ tells d (Acknowledge k) = toldWord ofAcknowledge d k ∷ []
 tells d (Time v) = toldWord ofTime d v ∷ []
 tells d (Reserved top low) = []
 
--- port q's side of a reaction
-abbrev pub sideAt : Bool → List ℕ → ℕ → ℕ → State → Side
-sideAt isRouter permissions events q s = record { router = isRouter; running = eqb (running s q) 1; permissions = getD permissions q 0; events = events }
+-- port q's side of a reaction; what it bars stands at 2 x q + kind
+abbrev pub sideAt : Bool → List ℕ → List ℕ → ℕ → ℕ → State → Side
+sideAt isRouter permissions barred events q s =
+    record {
+      router = isRouter;
+      running = eqb (running s q) 1;
+      permissions = getD permissions q 0;
+      events = events;
+      barred = getD barred (2 * q) 0 ∷ getD barred (2 * q + 1) 0 ∷ [];
+    }
+
+-- by a plan
+abbrev pub sideOf : Plan → ℕ → State → Side
+sideOf plan q s = sideAt (router plan (q / 8)) (plan .core .permissions) (plan .barred) (events plan) q s
 
 module _ (load : ℕ → ℕ) (permissions : List ℕ) (q : ℕ) where
   -- what becomes of the code
@@ -147,11 +169,12 @@ module _ (load : ℕ → ℕ) (permissions : List ℕ) (q : ℕ) where
   acted (Named code) w = w
   acted (LinkError code) w = w
   acted (Ignored code) w = w
+  acted (Dropped code) w = record { state = lost q code (w .state); told = w .told }
 
   -- a byte arrives at port q, and its device reacts
-  unfoldable pub arrived : Bool → ℕ → ℕ → World → World
-  arrived isRouter events byte w =
-      let r = reacts (sideAt isRouter permissions events q (w .state)) (register (w .state) (q / 8)) (counter (w .state) (q / 8)) byte in
+  unfoldable pub arrived : List ℕ → Bool → ℕ → ℕ → World → World
+  arrived barred isRouter events byte w =
+      let r = reacts (sideAt isRouter permissions barred events q (w .state)) (register (w .state) (q / 8)) (counter (w .state) (q / 8)) byte in
       acted (r .action) (record { state = put (put (w .state) (counterAt (q / 8)) (r .counter)) (registerAt (q / 8)) (r .register); told = w .told })
 
 -- ---- the round of a plan
@@ -184,7 +207,7 @@ module _ (plan : Plan) where
   unfoldable pub arrives : List ℕ → ℕ → World → World
   arrives sent q w =
       let byte = getD sent (peer plan q) nothing in
-      cond (ltb byte nothing) (arrived (loadOf plan (q / 8)) (plan .core .permissions) q (router plan (q / 8)) (events plan) byte w) w
+      cond (ltb byte nothing) (arrived (loadOf plan (q / 8)) (plan .core .permissions) q (plan .barred) (router plan (q / 8)) (events plan) byte w) w
 
   -- by receiving device, then port
   unfoldable pub reached : List ℕ → World → World

@@ -3,15 +3,17 @@
 ghost use mathlib.Core.Path.{_≡_};
 ghost use mathlib.Core.List.{[], _∷_};
 ghost use Prim.Native.Nat.{ℕ, _+_, _*_, _/_, _%_, _<_, _≤_};
-ghost use lib.Dec.{eqb};
+ghost use mathlib.Core.Bool.{cond};
+ghost use lib.Dec.{eqb, ltb};
 ghost use lib.ListN.{length, getD};
 ghost use Rattle.lists.specs.Loop.{upTo};
+ghost use Rattle.lists.specs.Table.{table};
 ghost use Rattle.plan.specs.declared.Plan.{Plan};
 ghost use Rattle.state.specs.State.{words};
 ghost use Rattle.state.specs.Network.{loadFor};
-ghost use Rattle.bench.specs.Round.{toldWord, nothing, sentWords, fall, firstWaits, goes, sends, posts, timed, forwarded, tells, acted, arrived, sentBytes, posted, reached, areas};
+ghost use Rattle.bench.specs.Round.{toldWord, nothing, sentWords, fall, firstWaits, goes, sends, posts, timed, forwarded, oneMore, lost, tells, acted, arrived, reached, areas};
 ghost use Rattle.bench.specs.RoundCall.{Plays};
-ghost use Rattle.bench.specs.inner.Idle.{Rests, Blank, Laid, Idles, Copies, Silent};
+ghost use Rattle.bench.specs.inner.Idle.{Rests, Unused, Blank, Laid, Idles, Copies, Silent};
 ghost use Rattle.bench.specs.inner.Shown.{Notes, seen, Follows, Played};
 use crate::Answer;
 use crate::NOTHING;
@@ -26,8 +28,10 @@ use plan::Plan;
 use state::ACKNOWLEDGES;
 use state::COUNTERS;
 use state::DEVICE;
+use state::DROPS;
 use state::INTERRUPTS;
 use state::LATELY;
+use state::MOST_DROPS;
 use state::NEXT;
 use state::PORT;
 use state::PORTS;
@@ -184,13 +188,13 @@ fn post_one(q: usize, old: &[u32], next: &mut [u32]) -> u32
 }
 
 // All ports, by device. A port that its device lacks has nothing to send, and is passed over.
-fn post_all(core: Core, peers: &[[u16; 8]; 32], old: &[u32], next: &mut [u32], sent: &mut [u32])
-    requires { ⌜ Laid (record { core = core; peers = now peers }) × Idles (record { core = core; peers = now peers }) (now old) × (length (now next) ≡ words) × Silent (core .devices) (core .ports) (now sent) ⌝ }
-    ensures { λ _. ⌜ (now (next .exit) ≡ posted (record { core = core; peers = now (peers .entry) }) (now (old .entry)) (now (next .entry))) × (now (sent .exit) ≡ sentBytes (record { core = core; peers = now (peers .entry) }) (now (old .entry))) ⌝ }
+fn post_all(n: usize, ports: &[u8; 32], old: &[u32], next: &mut [u32], sent: &mut [u32])
+    requires { ⌜ (n ≤ 32) × (length (now old) ≡ words) × ((d : ℕ) → d < n → Unused (now old) d (getD (now ports) d 0)) × (length (now next) ≡ words) × Silent n (now ports) (now sent) ⌝ }
+    ensures { λ _. ⌜ (now (next .exit) ≡ upTo (posts (now (old .entry))) (8 * n) (now (next .entry))) × (now (sent .exit) ≡ table sentWords (λ q. cond (ltb q (8 * n)) (sends (now (old .entry)) q) nothing)) ⌝ }
 {
-    for d in 0..core.devices {
+    for d in 0..n {
         let first = 8 * d;
-        let end = first + core.ports[d] as usize;
+        let end = first + ports[d] as usize;
         for q in first..end {
             sent[q] = post_one(q, old, next);
         }
@@ -223,6 +227,30 @@ fn forward(code: Code, permissions: &[u8; 256], q: usize, state: &mut [u32])
         Code::Interrupt(k) => state::queue_all(state, permissions, q / 8, q, 0, k as u32),
         Code::Acknowledge(k) => state::queue_all(state, permissions, q / 8, q, 1, k as u32),
         Code::Time(v) => state::queue_time(state, q / 8, q, v),
+        Code::Reserved(_, _) => {}
+    }
+}
+
+// One more than a count, which does not go above the most that there can be.
+fn one_more(count: u32) -> u32
+    ensures { λ r. ⌜ r ≡ oneMore count ⌝ }
+{
+    if count < MOST_DROPS {
+        return count + 1;
+    }
+    count
+}
+
+// A code that port q drops is counted there, and goes no further.
+fn lose(code: Code, q: usize, state: &mut [u32])
+    requires { ⌜ (length (now state) ≡ words) × (q < 256) ⌝ }
+    ensures { λ _. ⌜ now (state .exit) ≡ lost q code (now (state .entry)) ⌝ }
+{
+    let at = DROPS + 2 * q;
+    match code {
+        Code::Interrupt(_) => state[at + INTERRUPTS] = one_more(state[at + INTERRUPTS]),
+        Code::Acknowledge(_) => state[at + ACKNOWLEDGES] = one_more(state[at + ACKNOWLEDGES]),
+        Code::Time(_) => {}
         Code::Reserved(_, _) => {}
     }
 }
@@ -264,6 +292,10 @@ fn act(
             time(code, loads, role, q / 8, state);
             inform(code, q / 8, told, count)
         }
+        Action::Dropped(code) => {
+            lose(code, q, state);
+            count
+        }
         Action::Named(_) => count,
         Action::LinkError(_) => count,
         Action::Ignored(_) => count,
@@ -276,6 +308,7 @@ fn arrive_one(
     role: u8,
     events: u32,
     permissions: &[u8; 256],
+    barred: &[u32; 512],
     q: usize,
     byte: u8,
     state: &mut [u32],
@@ -283,7 +316,7 @@ fn arrive_one(
     count: usize,
 ) -> usize
     requires { ⌜ (length (now state) ≡ words) × (q < 256) × (count < 4096) ⌝ }
-    ensures { λ r. ⌜ Follows (arrived (loadFor loads role) (now (permissions .entry)) q (eqb role 1) events byte) (seen (now (state .entry)) (now (told .entry)) count) (seen (now (state .exit)) (now (told .exit)) r) × (r ≤ count + 1) ⌝ }
+    ensures { λ r. ⌜ Follows (arrived (loadFor loads role) (now (permissions .entry)) q (now (barred .entry)) (eqb role 1) events byte) (seen (now (state .entry)) (now (told .entry)) count) (seen (now (state .exit)) (now (told .exit)) r) × (r ≤ count + 1) ⌝ }
 {
     let home = DEVICE * (q / 8);
     let running = state[PORTS + PORT * q + RUNNING] == 1;
@@ -292,6 +325,7 @@ fn arrive_one(
         running: running,
         permissions: areas::word(permissions[q]),
         events: events,
+        barred: [barred[2 * q], barred[2 * q + 1]],
     };
     let reaction = device::react(side, state[home], state[COUNTERS + q / 8], byte);
     state[COUNTERS + q / 8] = reaction.counter;
@@ -316,13 +350,14 @@ fn heard(peer: u16, sent: &[u32]) -> u32
 fn arrive_all(
     core: Core,
     peers: &[[u16; 8]; 32],
+    barred: &[u32; 512],
     sent: &[u32],
     state: &mut [u32],
     told: &mut [u32],
     count: usize,
 ) -> usize
-    requires { ⌜ Laid (record { core = core; peers = now peers }) × (length (now sent) ≡ sentWords) × (length (now state) ≡ words) × (count ≤ 1024) ⌝ }
-    ensures { λ r. ⌜ Follows (reached (record { core = core; peers = now (peers .entry) }) (now (sent .entry))) (seen (now (state .entry)) (now (told .entry)) count) (seen (now (state .exit)) (now (told .exit)) r) ⌝ }
+    requires { ⌜ Laid (record { core = core; peers = now peers; barred = now barred }) × (length (now sent) ≡ sentWords) × (length (now state) ≡ words) × (count ≤ 1024) ⌝ }
+    ensures { λ r. ⌜ Follows (reached (record { core = core; peers = now (peers .entry); barred = now (barred .entry) }) (now (sent .entry))) (seen (now (state .entry)) (now (told .entry)) count) (seen (now (state .exit)) (now (told .exit)) r) ⌝ }
 {
     let mut count = count;
     for d in 0..core.devices {
@@ -337,6 +372,7 @@ fn arrive_all(
                     role,
                     core.events,
                     &core.permissions,
+                    barred,
                     q,
                     byte as u8,
                     state,
@@ -363,8 +399,8 @@ fn copy(from: usize, to: usize, old: &[u32], next: &mut [u32])
     }
 }
 
-// The words of n devices and of their ports, those of Time-Codes too. Both areas are 0 elsewhere, so
-// the states are then equal.
+// The words of n devices and of their ports, those of Time-Codes and drops too. Both areas are 0
+// elsewhere, so the states are then equal.
 fn bring(n: usize, old: &[u32], next: &mut [u32])
     requires { ⌜ (n ≤ 32) × Blank n (now old) × Blank n (now next) ⌝ }
     ensures { λ _. ⌜ now (next .exit) ≡ now (old .entry) ⌝ }
@@ -373,6 +409,7 @@ fn bring(n: usize, old: &[u32], next: &mut [u32])
     copy(PORTS, PORTS + PORT * (8 * n), old, next);
     copy(COUNTERS, COUNTERS + n, old, next);
     copy(TIMES, TIMES + 8 * n, old, next);
+    copy(DROPS, DROPS + 16 * n, old, next);
 }
 
 // The round, with no checks. It copies and looks at the devices that exist, and no more: next is 0
@@ -380,18 +417,19 @@ fn bring(n: usize, old: &[u32], next: &mut [u32])
 pub(crate) fn play(
     core: Core,
     peers: &[[u16; 8]; 32],
+    barred: &[u32; 512],
     old: &[u32],
     next: &mut [u32],
     sent: &mut [u32],
     told: &mut [u32],
 ) -> usize
-    requires { ⌜ Laid (record { core = core; peers = now peers }) × Idles (record { core = core; peers = now peers }) (now old) × Blank (core .devices) (now next) × Silent (core .devices) (core .ports) (now sent) ⌝ }
-    ensures { λ r. ⌜ Played (record { core = core; peers = now (peers .entry) }) (now (old .entry)) (now (told .entry)) (now (next .exit)) (now (sent .exit)) (now (told .exit)) r ⌝ }
+    requires { ⌜ Laid (record { core = core; peers = now peers; barred = now barred }) × Idles (record { core = core; peers = now peers; barred = now barred }) (now old) × Blank (core .devices) (now next) × Silent (core .devices) (core .ports) (now sent) ⌝ }
+    ensures { λ r. ⌜ Played (record { core = core; peers = now (peers .entry); barred = now (barred .entry) }) (now (old .entry)) (now (told .entry)) (now (next .exit)) (now (sent .exit)) (now (told .exit)) r ⌝ }
 {
     bring(core.devices, old, next);
     let count = fall_all(core.devices, &core.role, next, told);
-    post_all(core, peers, old, next, sent);
-    arrive_all(core, peers, sent, next, told, count)
+    post_all(core.devices, &core.ports, old, next, sent);
+    arrive_all(core, peers, barred, sent, next, told, count)
 }
 
 // ---- the public door
@@ -435,7 +473,7 @@ pub fn round(
     areas::fill(told, 0);
     let core = plan.core;
     let peers = plan::peers_of(plan);
-    let count = play(core, &peers, old, next, sent, told);
+    let count = play(core, &peers, &plan.barred, old, next, sent, told);
     Answer {
         number: 0,
         value: count as u32,

@@ -63,20 +63,21 @@ fn quiet_in(n: usize, home: bool, state: &[u32], second: &[u32]) -> bool
 fn advance(
     core: Core,
     peers: &[[u16; 8]; 32],
+    barred: &[u32; 512],
     home: bool,
     state: &mut [u32],
     second: &mut [u32],
     sent: &mut [u32],
     told: &mut [u32],
 )
-    requires { ⌜ Laid (record { core = core; peers = now peers }) × Idles (record { core = core; peers = now peers }) (cond home (now state) (now second)) × Blank (core .devices) (cond home (now second) (now state)) × Silent (core .devices) (core .ports) (now sent) ⌝ }
-    ensures { λ _. ⌜ (cond home (now (second .exit)) (now (state .exit)) ≡ round (record { core = core; peers = now (peers .entry) }) (cond home (now (state .entry)) (now (second .entry))) .next) × (cond home (now (state .exit)) (now (second .exit)) ≡ cond home (now (state .entry)) (now (second .entry))) × Silent (core .devices) (core .ports) (now (sent .exit)) ⌝ }
+    requires { ⌜ Laid (record { core = core; peers = now peers; barred = now barred }) × Idles (record { core = core; peers = now peers; barred = now barred }) (cond home (now state) (now second)) × Blank (core .devices) (cond home (now second) (now state)) × Silent (core .devices) (core .ports) (now sent) ⌝ }
+    ensures { λ _. ⌜ (cond home (now (second .exit)) (now (state .exit)) ≡ round (record { core = core; peers = now (peers .entry); barred = now (barred .entry) }) (cond home (now (state .entry)) (now (second .entry))) .next) × (cond home (now (state .exit)) (now (second .exit)) ≡ cond home (now (state .entry)) (now (second .entry))) × Silent (core .devices) (core .ports) (now (sent .exit)) ⌝ }
 {
     if home {
-        rounds::play(core, peers, state, second, sent, told);
+        rounds::play(core, peers, barred, state, second, sent, told);
         return;
     }
-    rounds::play(core, peers, second, state, sent, told);
+    rounds::play(core, peers, barred, second, state, sent, told);
 }
 
 // The answer is given, where the area in use ends in state, and second as zeros.
@@ -98,12 +99,13 @@ fn finish(home: bool, state: &mut [u32], second: &mut [u32], number: u32, value:
 pub(crate) fn run(
     core: Core,
     peers: [[u16; 8]; 32],
+    barred: &[u32; 512],
     state: &mut [u32],
     second: &mut [u32],
     allowance: u32,
 ) -> Answer
-    requires { ⌜ Held (record { core = core; peers = peers }) × Sound (record { core = core; peers = peers }) (now state) × (now second ≡ table words (λ _. 0)) × (allowance ≤ mostRounds) ⌝ }
-    ensures { λ r. ⌜ Ends (record { core = core; peers = peers }) (now (state .entry)) allowance (r .number) (r .value) (pair (now (state .exit)) (now (second .exit))) ⌝ }
+    requires { ⌜ Held (record { core = core; peers = peers; barred = now barred }) × Sound (record { core = core; peers = peers; barred = now barred }) (now state) × (now second ≡ table words (λ _. 0)) × (allowance ≤ mostRounds) ⌝ }
+    ensures { λ r. ⌜ Ends (record { core = core; peers = peers; barred = now (barred .entry) }) (now (state .entry)) allowance (r .number) (r .value) (pair (now (state .exit)) (now (second .exit))) ⌝ }
 {
     let mut sent = [NOTHING; SENT];
     let mut told = [0u32; 1];
@@ -113,7 +115,16 @@ pub(crate) fn run(
         if n == allowance {
             return finish(home, state, second, 12, n);
         }
-        advance(core, &peers, home, state, second, &mut sent, &mut told[..0]);
+        advance(
+            core,
+            &peers,
+            barred,
+            home,
+            state,
+            second,
+            &mut sent,
+            &mut told[..0],
+        );
         home = !home;
         n += 1;
     }
@@ -139,5 +150,12 @@ pub fn settle(plan: Plan, state: &mut [u32], second: &mut [u32], allowance: u32)
     }
     areas::fill(second, 0);
     let core = plan.core;
-    run(core, plan::peers_of(plan), state, second, allowance)
+    run(
+        core,
+        plan::peers_of(plan),
+        &plan.barred,
+        state,
+        second,
+        allowance,
+    )
 }

@@ -62,13 +62,14 @@ fn foreign(n: usize, d: usize, source: u32, k: u32) -> u32
 fn attempt(
     core: Core,
     peers: [[u16; 8]; 32],
+    barred: &[u32; 512],
     state: &mut [u32],
     second: &mut [u32],
     d: usize,
     k: u32,
 ) -> Tried
-    requires { ⌜ Held (record { core = core; peers = peers }) × (length (now state) ≡ words) × (now second ≡ table words (λ _. 0)) × (d < 32) × Ordered (placeAsks (core .devices) d (getD (core .source) d 0) k) 0 ⌝ }
-    ensures { λ r. ⌜ Tries (record { core = core; peers = peers }) d k (r .number) (r .rounds) (r .held) × (now (second .exit) ≡ table words (λ _. 0)) ⌝ }
+    requires { ⌜ Held (record { core = core; peers = peers; barred = now barred }) × (length (now state) ≡ words) × (now second ≡ table words (λ _. 0)) × (d < 32) × Ordered (placeAsks (core .devices) d (getD (core .source) d 0) k) 0 ⌝ }
+    ensures { λ r. ⌜ Tries (record { core = core; peers = peers; barred = now (barred .entry) }) d k (r .number) (r .rounds) (r .held) × (now (second .exit) ≡ table words (λ _. 0)) ⌝ }
 {
     state::begin(&peers, state);
     let number = calls::send_refusal(state, &core.permissions, d, 0, k);
@@ -76,7 +77,7 @@ fn attempt(
         return refused(number);
     }
     calls::take(core, 0, state, d, k);
-    let answer = settling::run(core, peers, state, second, ROUNDS);
+    let answer = settling::run(core, peers, barred, state, second, ROUNDS);
     let held = holders(core.devices, state, k);
     Tried {
         number: answer.number,
@@ -90,19 +91,20 @@ fn attempt(
 fn try_all(
     core: Core,
     peers: [[u16; 8]; 32],
+    barred: &[u32; 512],
     state: &mut [u32],
     second: &mut [u32],
     found: &mut [u32],
 )
-    requires { ⌜ Held (record { core = core; peers = peers }) × (length (now state) ≡ words) × (now second ≡ table words (λ _. 0)) × (length (now found) ≡ foundWords) ⌝ }
-    ensures { λ _. ⌜ Finds (record { core = core; peers = peers }) (now (found .exit)) × (now (second .exit) ≡ table words (λ _. 0)) ⌝ }
+    requires { ⌜ Held (record { core = core; peers = peers; barred = now barred }) × (length (now state) ≡ words) × (now second ≡ table words (λ _. 0)) × (length (now found) ≡ foundWords) ⌝ }
+    ensures { λ _. ⌜ Finds (record { core = core; peers = peers; barred = now (barred .entry) }) (now (found .exit)) × (now (second .exit) ≡ table words (λ _. 0)) ⌝ }
 {
     for i in 0..1024 {
         let d = i / 32;
         let k = (i % 32) as u32;
         let mut tried = refused(foreign(core.devices, d, core.source[d], k));
         if tried.number == 0 {
-            tried = attempt(core, peers, state, second, d, k);
+            tried = attempt(core, peers, barred, state, second, d, k);
         }
         found[3 * i] = tried.number;
         found[3 * i + 1] = tried.rounds;
@@ -137,7 +139,14 @@ pub fn trials(plan: Plan, state: &mut [u32], second: &mut [u32], found: &mut [u3
     }
     areas::fill(second, 0);
     let core = plan.core;
-    try_all(core, plan::peers_of(plan), state, second, found);
+    try_all(
+        core,
+        plan::peers_of(plan),
+        &plan.barred,
+        state,
+        second,
+        found,
+    );
     areas::fill(state, 0);
     0
 }

@@ -13,27 +13,33 @@ use Rattle.device.specs.Reaction.{nextTime}
 use Rattle.plan.specs.Fields.{nobody}
 use Rattle.plan.specs.Reading.{Held}
 use Rattle.plan.specs.declared.Plan.{Plan}
-use Rattle.state.specs.State.{State, words, word, put, portsEnd, portAt, runningAt, running, counterAt, counter, timeAt, timeWaits, lately}
+use Rattle.state.specs.State.{State, words, word, put, portsEnd, portAt, runningAt, running, counterAt, counter, timeAt, timeWaits, lately, dropsStart, mostDrops}
 use Rattle.state.specs.Network.{devices, portsOf, exists, peer}
 use Rattle.state.specs.Sound.{Sound}
 use Rattle.state.specs.Mark.{mark}
 use Rattle.state.proofs.Words.{length-put, word-same, word-other}
 use Rattle.state.proofs.Plans.{FarEnd, few, port-there, far-end}
-use Rattle.state.proofs.Keeping.{device-step, empty-step, sets-step, flags-step, clock-step}
+use Rattle.state.proofs.Keeping.{device-step, empty-step, sets-step, flags-step, clock-step, behind-step, clock-same}
 use Rattle.state.proofs.Marks.{mark-step}
 use Rattle.state.proofs.Waits.{queue-all-sound}
 use Rattle.state.proofs.Times.{time-step, counter-step, queue-time-sound, length-times, queue-times-left, queue-times-lately, queue-times-cases, queue-times-waits}
 use Rattle.calls.specs.Calls.{called, drained, advanced, switched, reset}
-use Rattle.calls.specs.inner.Steps.{cleared, emptied, untimed}
+use Rattle.calls.specs.inner.Steps.{cleared, emptied, untimed, uncounted}
 use Rattle.calls.proofs.Stopping.{both-drained, both-timeless}
-use Rattle.calls.proofs.Zeros.{cleared-register, cleared-timer, cleared-left, cleared-fits, emptied-left, emptied-port, emptied-flag, emptied-fits, untimed-left, untimed-counter, untimed-word, untimed-fits, reset-steps}
+use Rattle.calls.proofs.Zeros.{cleared-register, cleared-timer, cleared-left, cleared-fits, emptied-left, emptied-port, emptied-flag, emptied-fits, untimed-left, untimed-counter, untimed-word, untimed-fits, uncounted-left, uncounted-count, uncounted-fits, reset-steps}
 
--- a tick changes a counter and what ports have of Time-Codes, and no word in front of these
-pub tick-left : (d : ℕ) → d < 32 → (s : State) (i : ℕ) → i < portsEnd → word (advanced d s) i ≡ word s i
+-- a tick changes a counter and what ports have of Time-Codes, and no word in front of these, or behind
+tick-elsewhere : (d : ℕ) → d < 32 → (s : State) (i : ℕ) → (portsEnd ≤ i → i < dropsStart → ⊥) → word (advanced d s) i ≡ word s i
 unfolding advanced
-tick-left d h s i l =
+tick-elsewhere d h s i l =
     let v = nextTime (counter s d) in
-    queue-times-left i (λ q m. omega arith) v d nobody h (put s (counterAt d) v) ∙ word-other s (counterAt d) v i (omega arith)
+    queue-times-left i (λ q m e. l (omega arith) (omega arith)) v d nobody h (put s (counterAt d) v) ∙ word-other s (counterAt d) v i (λ e. l (omega arith) (omega arith))
+
+pub tick-left : (d : ℕ) → d < 32 → (s : State) (i : ℕ) → i < portsEnd → word (advanced d s) i ≡ word s i
+tick-left d h s i l = tick-elsewhere d h s i (λ a b. omega arith)
+
+pub tick-drops : (d : ℕ) → d < 32 → (s : State) (i : ℕ) → dropsStart ≤ i → word (advanced d s) i ≡ word s i
+tick-drops d h s i l = tick-elsewhere d h s i (λ a b. omega arith)
 
 pub tick-size : (d : ℕ) (s : State) → length (advanced d s) ≡ length s
 unfolding advanced
@@ -102,9 +108,20 @@ module _ (plan : Plan) (held : Held plan) where
         counters = λ e h. untimed-counter d s (x .size) e h (λ v. v < 64) (omega arith) (x .clock .counters e h);
         ranges = λ q h. untimed-word d s (x .size) q h (λ v. (v % 128 ≤ 64) × (v < 256)) (omega arith, omega arith) (x .clock .ranges q h);
         stopped = λ q h z.
-            untimed-word d s (x .size) q h (λ v. v % 128 ≡ 0) (omega arith) (x .clock .stopped q h (sym (untimed-left d s (x .size) (portAt q runningAt) (omega arith)) ∙ z));
+            untimed-word d s (x .size) q h (λ v. v % 128 ≡ 0) (omega arith) (x .clock .stopped q h (sym (untimed-left d s (x .size) (portAt q runningAt) (λ a b. absurd (omega arith))) ∙ z));
         no-counter = λ e l h. untimed-counter d s (x .size) e h (λ v. v ≡ 0) refl (x .clock .no-counter e l h);
         no-word = λ q h y. untimed-word d s (x .size) q h (λ v. v ≡ 0) refl (x .clock .no-word q h y);
+      })
+
+  -- ---- what its ports dropped becomes 0
+
+  uncounted-sound : (d : ℕ) (s : State) → Sound plan s → Sound plan (uncounted d s)
+  uncounted-sound d s x =
+      behind-step plan held x (uncounted-fits d s (x .size) (x .fits)) (λ i h. uncounted-left d s (x .size) i (omega arith))
+      (clock-same (x .clock) (λ i h l. uncounted-left d s (x .size) i l) (λ q h z. x .clock .stopped q h (sym (uncounted-left d s (x .size) (portAt q runningAt) (omega arith)) ∙ z)))
+      (record {
+        counts = λ q kind h l. uncounted-count d s (x .size) q kind h l (λ v. v ≤ mostDrops) (omega arith) (x .guard .counts q kind h l);
+        no-count = λ q kind h l y. uncounted-count d s (x .size) q kind h l (λ v. v ≡ 0) refl (x .guard .no-count q kind h l y);
       })
 
   module _ (s : State) (x : Sound plan s) where
@@ -129,7 +146,7 @@ module _ (plan : Plan) (held : Held plan) where
         empty-step plan held y (emptied-fits d t (y .size) (y .fits)) (emptied-left d t (y .size))
         (λ q. dite (decLt q 256) (emptied-flag d t (y .size) q) (λ n. emptied-left d t (y .size) (portAt q runningAt) (λ a b. omega arith)))
         (λ q i l m. emptied-port d t (y .size) q i l (omega arith)) in
-        subst (Sound plan) (reset-steps d s) (untimed-sound d (emptied d t) z)
+        subst (Sound plan) (reset-steps d s) (uncounted-sound d _ (untimed-sound d (emptied d t) z))
 
     -- nothing waits at a port any more
     drained-sound : (q : ℕ) → q < 256 → exists plan q ≡ true → Sound plan (drained q s)

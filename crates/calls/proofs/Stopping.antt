@@ -8,7 +8,7 @@ use native.Mathlib.Omega.{arith}
 use lib.ListN.{length}
 use Rattle.answers.proofs.Outcomes.{Holds, holds}
 use Rattle.plan.specs.declared.Plan.{Plan}
-use Rattle.state.specs.State.{State, words, word, put, registerAt, timerAt, portAt, waiting, nextAt, runningAt, counterAt, timeAt, time}
+use Rattle.state.specs.State.{State, words, word, put, registerAt, timerAt, portAt, waiting, nextAt, runningAt, counterAt, timeAt, time, dropsAt}
 use Rattle.state.specs.Network.{peer}
 use Rattle.state.proofs.Words.{length-put, word-same, word-other}
 use Rattle.state.proofs.Plans.{FarEnd, port-there, far-end}
@@ -89,6 +89,7 @@ module _ (plan : Plan) (q : ℕ) (s : State) where
         nexts = λ p h. switched-other runs (portAt p nextAt) (omega arith, omega arith, omega arith, omega arith) (omega arith, omega arith, omega arith, omega arith);
         others = λ p i h l m n. switched-other runs (portAt p i) (omega arith, omega arith, omega arith, omega arith) (omega arith, omega arith, omega arith, omega arith);
         times = λ p h m n. switched-other runs (timeAt p) (omega arith, omega arith, omega arith, omega arith) (omega arith, omega arith, omega arith, omega arith);
+        counts = λ p kind h l. switched-other runs (dropsAt p kind) (omega arith, omega arith, omega arith, omega arith) (omega arith, omega arith, omega arith, omega arith);
       }
 
   switched-stops : length s ≡ words → q < 256 → far < 256 → far ≢ q → Stopped plan q (switched plan false q s)
@@ -130,6 +131,7 @@ link-keeps plan d p runs before number after call =
         nexts = λ q h. refl;
         others = λ q i h l a b. refl;
         times = λ q h a b. refl;
+        counts = λ q kind h l. refl;
       })
     ]
 

@@ -37,6 +37,6 @@ pub send-refusal-unique : (permissions : List ℕ) (kind d k : ℕ) (state : Sta
 send-refusal-unique permissions kind d k state = ordered-once (ask 4 (d < 32) ∷ sendAsks permissions kind d k state)
 
 -- a call that is taken in any area
-pub take-unique : (core : Core) (kind d k : ℕ) (state a b : State) → ((peers : List (List ℕ)) → a ≡ calledIn (record { core = core; peers = peers }) kind d k state)
-    → ((peers : List (List ℕ)) → b ≡ calledIn (record { core = core; peers = peers }) kind d k state) → a ≡ b
-take-unique core kind d k state a b p q = p [] ∙ sym (q [])
+pub take-unique : (core : Core) (kind d k : ℕ) (state a b : State) → ((peers : List (List ℕ)) (barred : List ℕ) → a ≡ calledIn (record { core = core; peers = peers; barred = barred }) kind d k state)
+    → ((peers : List (List ℕ)) (barred : List ℕ) → b ≡ calledIn (record { core = core; peers = peers; barred = barred }) kind d k state) → a ≡ b
+take-unique core kind d k state a b p q = p [] [] ∙ sym (q [] [])

@@ -1,19 +1,19 @@
 -- Words that become 0: by one store after the other, and as the definitions say it.
 use mathlib.Core.Path.{_≡_, refl, sym, ap, _∙_}
 use mathlib.Core.Bool.{Bool, true, false, cond, not, _&&_}
-use mathlib.Core.Logic.{_⊎_, inl, inr, _≢_}
+use mathlib.Core.Logic.{_⊎_, inl, inr, _≢_, dite}
 use Prim.Native.Nat.{ℕ, _+_, _*_, _/_, _%_, _^_, _≤_, _<_}
-use native.Mathlib.Decide.{ℕ-discrete}
+use native.Mathlib.Decide.{decLt, ℕ-discrete}
 use native.Mathlib.Omega.{arith}
 use lib.Dec.{eqb}
 use lib.ListN.{length}
 use borrow.Author.Tests.{eq-eqb, ne-eqb}
-use Rattle.state.specs.State.{State, words, word, put, deviceWords, portsAt, portsEnd, portWords, registerAt, timerAt, portAt, register, timer, runningAt, running, counterAt, counter, timeAt, time}
+use Rattle.state.specs.State.{State, words, word, put, deviceWords, portsAt, portsEnd, portWords, registerAt, timerAt, portAt, register, timer, runningAt, running, counterAt, counter, timeAt, time, dropsStart, dropsAt, drops}
 use Rattle.state.proofs.Words.{word-past, length-put, word-same, word-other}
-use Rattle.state.proofs.Parts.{by-place, by-behind, length-state, register-of, timer-of, port-of, counter-of, time-of, behind-kept, is-state}
+use Rattle.state.proofs.Parts.{by-place, by-behind, length-state, register-of, timer-of, port-of, counter-of, time-of, drops-of, behind-kept, is-state}
 use Rattle.state.proofs.Keeping.{Fits}
 use Rattle.calls.specs.Calls.{reset}
-use Rattle.calls.specs.inner.Steps.{cleared, emptied, untimed}
+use Rattle.calls.specs.inner.Steps.{cleared, emptied, untimed, uncounted}
 
 -- what is so of 0 and of a word is so of the word where a test does not make it 0
 pub keep : (P : ℕ → Type 0) (t : Bool) (v : ℕ) → P 0 → P v → P (cond t 0 v)
@@ -58,10 +58,11 @@ module _ (d : ℕ) (s : State) (long : length s ≡ words) where
       (λ q i l m. z .left (portAt q i) (λ a b. absurd (omega arith)))
       (λ e l. z .left (counterAt e) (λ a b. absurd (omega arith)))
       (λ q l. z .left (timeAt q) (λ a b. absurd (omega arith)))
+      (λ q kind l m. z .left (dropsAt q kind) (λ a b. absurd (omega arith)))
 
   -- it has 0 there, and else the words of s
   cleared-behind : (i : ℕ) → portsEnd ≤ i → word (cleared d s) i ≡ word s i
-  cleared-behind = behind-kept _ s long (λ e h. refl) (λ q h. refl)
+  cleared-behind = behind-kept _ s long (λ e h. refl) (λ q h. refl) (λ q kind h l. refl)
 
   pub cleared-register : d < 32 → register (cleared d s) d ≡ 0
   cleared-register h = register-of _ d h ∙ rw (eq-eqb d d refl)
@@ -135,6 +136,7 @@ module _ (d : ℕ) (s : State) (long : length s ≡ words) where
   is-emptied {t} h z =
       is-state _ t (z .size ∙ long) (λ e l. z .left (registerAt e) (λ j n x y. omega arith)) (λ e k l m. z .left (timerAt e k) (λ j n x y. omega arith))
       (λ q i l m. at q i l m) (λ e l. z .left (counterAt e) (λ j n x y. omega arith)) (λ q l. z .left (timeAt q) (λ j n x y. omega arith))
+      (λ q kind l m. z .left (dropsAt q kind) (λ j n x y. omega arith))
     where
       at : (q i : ℕ) → q < 256 → i < portWords → word t (portAt q i) ≡ cond (eqb (q / 8) d && not (eqb i runningAt)) 0 (word s (portAt q i))
       at q i l m =
@@ -153,7 +155,7 @@ module _ (d : ℕ) (s : State) (long : length s ≡ words) where
           both false = refl
 
   emptied-behind : (i : ℕ) → portsEnd ≤ i → word (emptied d s) i ≡ word s i
-  emptied-behind = behind-kept _ s long (λ e h. refl) (λ q h. refl)
+  emptied-behind = behind-kept _ s long (λ e h. refl) (λ q h. refl) (λ q kind h l. refl)
 
   -- it differs from s at ports only, where a word is 0 or as it was, and the flags are as they were
   pub emptied-left : (i : ℕ) → (portsAt ≤ i → i < portsEnd → ⊥) → word (emptied d s) i ≡ word s i
@@ -188,6 +190,9 @@ module _ (d : ℕ) (s : State) (long : length s ≡ words) where
 -- ---- its counter, and what its ports have of Time-Codes
 
 module _ (d : ℕ) (s : State) (long : length s ≡ words) where
+  untimed-size : length (untimed d s) ≡ words
+  untimed-size = length-state _
+
   pub is-untimed : {t : State} → d < 32 → Zeros (timeAt (8 * d)) (timeAt (8 * d + 8)) s t → put t (counterAt d) 0 ≡ untimed d s
   is-untimed {t} h z =
       let left : (i : ℕ) → i ≢ counterAt d → (timeAt (8 * d) ≤ i → i < timeAt (8 * d + 8) → ⊥) → word (put t (counterAt d) 0) i ≡ word s i =
@@ -202,12 +207,14 @@ module _ (d : ℕ) (s : State) (long : length s ≡ words) where
         | yes is ↦ rw (eq-eqb (q / 8) d is) (word-other t (counterAt d) 0 (timeAt q) (omega arith) ∙ z .gone (timeAt q) (omega arith) (omega arith))
         | no n ↦ rw (ne-eqb (q / 8) d n) (left (timeAt q) (omega arith) (λ a b. absurd (omega arith)))
       ])
+      (λ q kind l m. left (dropsAt q kind) (omega arith) (λ a b. absurd (omega arith)))
 
-  -- no word in front of them changes
-  pub untimed-left : (i : ℕ) → i < portsEnd → word (untimed d s) i ≡ word s i
+  -- no word in front of them changes, and none behind
+  pub untimed-left : (i : ℕ) → (portsEnd ≤ i → i < dropsStart → ⊥) → word (untimed d s) i ≡ word s i
   untimed-left =
-      by-place (λ i. i < portsEnd → word (untimed d s) i ≡ word s i) (λ e h o. register-of _ e h) (λ e k h l o. timer-of _ e k h l) (λ q i h l o. port-of _ q i h l)
-      (λ i h o. absurd (omega arith))
+      by-place (λ i. (portsEnd ≤ i → i < dropsStart → ⊥) → word (untimed d s) i ≡ word s i) (λ e h o. register-of _ e h) (λ e k h l o. timer-of _ e k h l) (λ q i h l o. port-of _ q i h l)
+      (by-behind (λ i. (portsEnd ≤ i → i < dropsStart → ⊥) → word (untimed d s) i ≡ word s i) (λ e h o. absurd (o (omega arith) (omega arith))) (λ q h o. absurd (o (omega arith) (omega arith)))
+      (λ q kind h l o. drops-of _ q kind h l) (λ i h o. word-past (untimed d s) i (omega (arith, untimed-size)) ∙ sym (word-past s i (omega (arith, long)))))
 
   -- a counter, or a port's word, is 0 or as it was
   pub untimed-counter : (e : ℕ) → e < 32 → (P : ℕ → Type 0) → P 0 → P (counter s e) → P (counter (untimed d s) e)
@@ -215,9 +222,6 @@ module _ (d : ℕ) (s : State) (long : length s ≡ words) where
 
   pub untimed-word : (q : ℕ) → q < 256 → (P : ℕ → Type 0) → P 0 → P (time s q) → P (time (untimed d s) q)
   untimed-word q h P none p = rw (time-of _ q h) (keep P (eqb (q / 8) d) (time s q) none p)
-
-  untimed-size : length (untimed d s) ≡ words
-  untimed-size = length-state _
 
   pub untimed-fits : ((i : ℕ) → word s i < 2 ^ 32) → Fits (untimed d s)
   untimed-fits small =
@@ -227,17 +231,54 @@ module _ (d : ℕ) (s : State) (long : length s ≡ words) where
             by-place (λ i. word (untimed d s) i < 2 ^ 32) (λ e h. rw (register-of _ e h) (small (registerAt e))) (λ e k h l. rw (timer-of _ e k h l) (small (timerAt e k)))
             (λ q i h l. rw (port-of _ q i h l) (small (portAt q i)))
             (by-behind (λ i. word (untimed d s) i < 2 ^ 32) (λ e h. untimed-counter e h (λ v. v < 2 ^ 32) (omega arith) (small (counterAt e)))
-            (λ q h. untimed-word q h (λ v. v < 2 ^ 32) (omega arith) (small (timeAt q)))
+            (λ q h. untimed-word q h (λ v. v < 2 ^ 32) (omega arith) (small (timeAt q))) (λ q kind h l. rw (drops-of _ q kind h l) (small (dropsAt q kind)))
             (λ i h. omega (arith, word-past (untimed d s) i (omega (arith, untimed-size)))));
       }
 
--- ---- all three are a reset
+-- ---- what its ports dropped
 
-pub reset-steps : (d : ℕ) (s : State) → untimed d (emptied d (cleared d s)) ≡ reset d s
+module _ (d : ℕ) (s : State) (long : length s ≡ words) where
+  uncounted-size : length (uncounted d s) ≡ words
+  uncounted-size = length-state _
+
+  pub is-uncounted : {t : State} → d < 32 → Zeros (dropsStart + 16 * d) (dropsStart + 16 * d + 16) s t → t ≡ uncounted d s
+  is-uncounted {t} h z =
+      is-state _ t (z .size ∙ long) (λ e l. z .left (registerAt e) (λ a b. absurd (omega arith))) (λ e k l m. z .left (timerAt e k) (λ a b. absurd (omega arith)))
+      (λ q i l m. z .left (portAt q i) (λ a b. absurd (omega arith))) (λ e l. z .left (counterAt e) (λ a b. absurd (omega arith))) (λ q l. z .left (timeAt q) (λ a b. absurd (omega arith)))
+      (λ q kind l m. elim (ℕ-discrete (q / 8) d) [
+        | yes is ↦ rw (eq-eqb (q / 8) d is) (z .gone (dropsAt q kind) (omega arith) (omega arith))
+        | no n ↦ rw (ne-eqb (q / 8) d n) (z .left (dropsAt q kind) (λ a b. absurd (omega arith)))
+      ])
+
+  -- no word in front of them changes
+  pub uncounted-left : (i : ℕ) → i < dropsStart → word (uncounted d s) i ≡ word s i
+  uncounted-left =
+      by-place (λ i. i < dropsStart → word (uncounted d s) i ≡ word s i) (λ e h o. register-of _ e h) (λ e k h l o. timer-of _ e k h l) (λ q i h l o. port-of _ q i h l)
+      (by-behind (λ i. i < dropsStart → word (uncounted d s) i ≡ word s i) (λ e h o. counter-of _ e h) (λ q h o. time-of _ q h) (λ q kind h l o. absurd (omega arith))
+      (λ i h o. absurd (omega arith)))
+
+  -- a count is 0 or as it was
+  pub uncounted-count : (q kind : ℕ) → q < 256 → kind < 2 → (P : ℕ → Type 0) → P 0 → P (drops s kind q) → P (drops (uncounted d s) kind q)
+  uncounted-count q kind h l P none p = rw (drops-of _ q kind h l) (keep P (eqb (q / 8) d) (drops s kind q) none p)
+
+  pub uncounted-fits : ((i : ℕ) → word s i < 2 ^ 32) → Fits (uncounted d s)
+  uncounted-fits small =
+      record {
+        size = length-state _;
+        fits = λ i. dite (decLt i dropsStart) (λ h. rw (uncounted-left i h) (small i))
+            (λ h. by-behind (λ j. dropsStart ≤ j → word (uncounted d s) j < 2 ^ 32) (λ e m l. absurd (omega arith)) (λ q m l. absurd (omega arith))
+            (λ q kind m n l. uncounted-count q kind m n (λ v. v < 2 ^ 32) (omega arith) (small (dropsAt q kind)))
+            (λ j m l. omega (arith, word-past (uncounted d s) j (omega (arith, uncounted-size)))) i (omega arith) (omega arith));
+      }
+
+-- ---- all four are a reset
+
+pub reset-steps : (d : ℕ) (s : State) → uncounted d (untimed d (emptied d (cleared d s))) ≡ reset d s
 reset-steps d s =
-    is-state _ (untimed d (emptied d (cleared d s))) (length-state _)
-    (λ e l. register-of _ e l ∙ register-of _ e l ∙ register-of _ e l)
-    (λ e k l m. timer-of _ e k l m ∙ timer-of _ e k l m ∙ timer-of _ e k l m)
-    (λ q i l m. port-of _ q i l m ∙ port-of _ q i l m ∙ ap (cond (eqb (q / 8) d && not (eqb i runningAt)) 0) (port-of _ q i l m))
-    (λ e l. counter-of _ e l ∙ ap (cond (eqb e d) 0) (counter-of _ e l ∙ counter-of _ e l))
-    (λ q l. time-of _ q l ∙ ap (cond (eqb (q / 8) d) 0) (time-of _ q l ∙ time-of _ q l))
+    is-state _ (uncounted d (untimed d (emptied d (cleared d s)))) (length-state _)
+    (λ e l. register-of _ e l ∙ register-of _ e l ∙ register-of _ e l ∙ register-of _ e l)
+    (λ e k l m. timer-of _ e k l m ∙ timer-of _ e k l m ∙ timer-of _ e k l m ∙ timer-of _ e k l m)
+    (λ q i l m. port-of _ q i l m ∙ port-of _ q i l m ∙ port-of _ q i l m ∙ ap (cond (eqb (q / 8) d && not (eqb i runningAt)) 0) (port-of _ q i l m))
+    (λ e l. counter-of _ e l ∙ counter-of _ e l ∙ ap (cond (eqb e d) 0) (counter-of _ e l ∙ counter-of _ e l))
+    (λ q l. time-of _ q l ∙ time-of _ q l ∙ ap (cond (eqb (q / 8) d) 0) (time-of _ q l ∙ time-of _ q l))
+    (λ q kind l m. drops-of _ q kind l m ∙ ap (cond (eqb (q / 8) d) 0) (drops-of _ q kind l m ∙ drops-of _ q kind l m ∙ drops-of _ q kind l m))

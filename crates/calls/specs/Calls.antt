@@ -11,7 +11,7 @@ use Rattle.bits.specs.Set.{bit}
 use Rattle.device.specs.Reaction.{nextTime, isUsed}
 use Rattle.plan.specs.Fields.{nobody}
 use Rattle.plan.specs.declared.Plan.{Plan}
-use Rattle.state.specs.State.{State, words, word, put, portAt, register, timer, runningAt, running, counterAt, counter, timeAt, time, stateOf}
+use Rattle.state.specs.State.{State, words, word, put, portAt, register, timer, runningAt, running, counterAt, counter, timeAt, time, drops, stateOf}
 use Rattle.state.specs.Network.{devices, portsOf, peer, source, handler, events}
 use Rattle.state.specs.Sound.{stateAsks}
 use Rattle.state.specs.Queue.{sendsAt, queueAll, queueTimeAll}
@@ -109,7 +109,7 @@ module _ (plan : Plan) where
   abbrev pub Links : ℕ → ℕ → Bool → State → ℕ → State → Type 0
   Links d p runs before number after = Outcome (linkAsks runs d p before) before (switched runs (8 * d + p) before) number after
 
--- ---- device d is reset: register, timers and counter become 0, and of its ports all but the flags
+-- ---- device d is reset: register, timers and counter become 0, and of its ports all but the flags, their drops too
 
 abbrev pub reset : ℕ → State → State
 reset d s =
@@ -120,6 +120,7 @@ reset d s =
       ports = λ q i. cond (eqb (q / 8) d && not (eqb i runningAt)) 0 (word s (portAt q i));
       counters = λ e. cond (eqb e d) 0 (counter s e);
       times = λ q. cond (eqb (q / 8) d) 0 (time s q);
+      drops = λ q kind. cond (eqb (q / 8) d) 0 (drops s kind q);
     })
 
 abbrev pub Resets : Plan → ℕ → State → ℕ → State → Type 0

@@ -4,11 +4,12 @@ use mathlib.Core.Bool.{Bool, false}
 use mathlib.Core.Logic.{_≢_}
 use Prim.Native.Nat.{ℕ, _+_, _*_, _<_}
 use Rattle.plan.specs.declared.Plan.{Plan}
-use Rattle.state.specs.State.{State, word, portWords, portAt, register, timer, waiting, next, running, counter, time}
+use Rattle.state.specs.State.{State, word, portWords, portAt, register, timer, waiting, next, running, counter, time, drops}
 use Rattle.state.specs.Network.{peer}
 use Rattle.calls.specs.Calls.{Links}
 
--- the link at port q: every register, every timer, every counter, every next, and every port that is neither end of it are as they were
+-- the link at port q: every register, every timer, every counter, every next, what every port dropped, and every port that is neither end of it are as
+-- they were
 pub record Keeps (plan : Plan) (q : ℕ) (before after : State) : Type 0 where
   pub registers : (d : ℕ) → d < 32 → register after d ≡ register before d
   pub timers : (d k : ℕ) → d < 32 → k < 32 → timer after d k ≡ timer before d k
@@ -16,6 +17,7 @@ pub record Keeps (plan : Plan) (q : ℕ) (before after : State) : Type 0 where
   pub nexts : (p : ℕ) → p < 256 → next after p ≡ next before p
   pub others : (p i : ℕ) → p < 256 → i < portWords → p ≢ q → p ≢ peer plan q → word after (portAt p i) ≡ word before (portAt p i)
   pub times : (p : ℕ) → p < 256 → p ≢ q → p ≢ peer plan q → time after p ≡ time before p
+  pub counts : (p kind : ℕ) → p < 256 → kind < 2 → drops after kind p ≡ drops before kind p
 
 -- neither end of it runs, nothing waits at either, and the mark of a Time-Code that was sent last is gone from both
 pub record Stopped (plan : Plan) (q : ℕ) (after : State) : Type 0 where

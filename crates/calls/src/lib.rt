@@ -14,13 +14,14 @@ ghost use Rattle.state.specs.Network.{peer};
 ghost use Rattle.state.specs.Queue.{sendsAt};
 ghost use Rattle.state.specs.Mark.{loaded, mark as Mark·mark};
 ghost use Rattle.calls.specs.Calls.{deviceAsks, ownAsks, sendAsks, callAsks, linkAsks, tickAsks, calledIn, Takes, drained, flagged, switched, Links, advanced, Ticks, SomeRuns, Resets};
-ghost use Rattle.calls.specs.inner.Steps.{cleared, emptied, untimed};
+ghost use Rattle.calls.specs.inner.Steps.{cleared, emptied, untimed, uncounted};
 use plan::Core;
 use plan::NOBODY;
 use plan::Plan;
 use state::ACKNOWLEDGES;
 use state::COUNTERS;
 use state::DEVICE;
+use state::DROPS;
 use state::INTERRUPTS;
 use state::NEXT;
 use state::PORT;
@@ -70,7 +71,7 @@ pub fn tick(plan: Plan, state: &mut [u32], device: usize) -> u32
     0
 }
 
-// A device is reset: its register, timers and counter, and what waits at its ports.
+// A device is reset: its register, timers and counter, what waits at its ports, and what they dropped.
 pub fn reset(plan: Plan, state: &mut [u32], device: usize) -> u32
     ensures { λ r. ⌜ Resets plan device (now (state .entry)) r (now (state .exit)) ⌝ }
 {
@@ -81,6 +82,7 @@ pub fn reset(plan: Plan, state: &mut [u32], device: usize) -> u32
     clear(state, device);
     empty(state, device);
     unclock(state, device);
+    uncount(state, device);
     0
 }
 
@@ -117,7 +119,7 @@ fn call(plan: Plan, kind: u8, state: &mut [u32], device: usize, k: u32) -> u32
 // every port. Where there is no such device, identifier or kind, or the area is no state, nothing
 // changes.
 pub fn take(core: Core, kind: u8, state: &mut [u32], d: usize, k: u32)
-    ensures { λ _. ⌜ ((peers : List (List ℕ)) → now (state .exit) ≡ calledIn (record { core = core; peers = peers }) kind d k (now (state .entry))) ⌝ }
+    ensures { λ _. ⌜ ((peers : List (List ℕ)) (barred : List ℕ) → now (state .exit) ≡ calledIn (record { core = core; peers = peers; barred = barred }) kind d k (now (state .entry))) ⌝ }
 {
     if state.len() != WORDS {
         return;
@@ -138,7 +140,7 @@ pub fn take(core: Core, kind: u8, state: &mut [u32], d: usize, k: u32)
 // The bit is set and the timer loaded, or the bit is cleared and the timer stopped.
 fn mark(core: Core, kind: u8, state: &mut [u32], d: usize, k: u32)
     requires { ⌜ (length (now state) ≡ words) × (d < 32) × (k < 32) ⌝ }
-    ensures { λ _. ⌜ ((peers : List (List ℕ)) → now (state .exit) ≡ Mark·mark (record { core = core; peers = peers }) kind d k (now (state .entry))) ⌝ }
+    ensures { λ _. ⌜ ((peers : List (List ℕ)) (barred : List ℕ) → now (state .exit) ≡ Mark·mark (record { core = core; peers = peers; barred = barred }) kind d k (now (state .entry))) ⌝ }
 {
     let at = DEVICE * d;
     let timer = at + 1 + k as usize;
@@ -392,4 +394,14 @@ fn unclock(state: &mut [u32], d: usize)
         state[TIMES + (8 * d + p)] = 0;
     }
     state[COUNTERS + d] = 0;
+}
+
+// What the ports of device d dropped becomes 0.
+fn uncount(state: &mut [u32], d: usize)
+    requires { ⌜ (length (now state) ≡ words) × (d < 32) ⌝ }
+    ensures { λ _. ⌜ now (state .exit) ≡ uncounted d (now (state .entry)) ⌝ }
+{
+    for j in 0..16 {
+        state[DROPS + 16 * d + j] = 0;
+    }
 }

@@ -62,7 +62,7 @@ pub waits : Waits star 31 1 3 2 2 2 (told .0) (window 2 - 2) (started star) at b
 waits =
     record {
       request = request;
-      permits = permits star-is (started star) links;
+      permits = permits star-is 31 (started star) links;
       no-event = roles .2;
       handles = roles .1;
       distance = there;

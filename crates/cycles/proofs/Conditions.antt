@@ -54,7 +54,7 @@ module _ {plan : Plan} {n : ℕ} (x : Star plan n) (k : ℕ) (l : k < 32) (i : �
   a-cycle rest own no-event u first j gap m handles short = (
     record {
       request = meets rest own (λ t. rounds plan t u) (played first (window 2));
-      permits = permits x s links;
+      permits = permits x k s links;
       no-event = no-event;
       between = λ t a b. on plan k u t;
       handles = handles;

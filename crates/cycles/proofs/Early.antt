@@ -12,7 +12,7 @@ use Rattle.bits.specs.Set.{bit, join, leave}
 use Rattle.bits.specs.First.{searched, firstFrom, following}
 use Rattle.codes.specs.Codes.{reads}
 use Rattle.device.specs.Permissions.{maySend, mayReceive}
-use Rattle.device.specs.Reaction.{marked, isUsed, ruled, counted, reactsTo, reacts}
+use Rattle.device.specs.Reaction.{marked, isUsed, barsOf, ruled, counted, reactsTo, reacts}
 use Rattle.state.specs.State.{State, word, put, register, stateOf}
 use Rattle.state.specs.Network.{loadFor}
 use Rattle.state.specs.Queue.{queueAt, queueAllAt}
@@ -47,7 +47,7 @@ abbrev comesTo : State → Bool
 comesTo s = resting star 1 s && (let w = hears 2 (called star 0 1 1 s) in again w && idles star 1 (hear star ofInterrupt 3 1 w .state))
 
 computed : comesTo before ≡ true
-unfolding before star hear heard times every upTo table joined bit join leave searched firstFrom following reads maySend mayReceive marked isUsed ruled counted reactsTo reacts word put stateOf loadFor queueAt queueAllAt called mark fall firstWaits goes timeGoes stamped chosen sentWord sends unqueued timed forwarded tells acted arrived fallen sentBytes posted arrives reached round
+unfolding before star hear heard times every upTo table joined bit join leave searched firstFrom following reads maySend mayReceive marked isUsed barsOf ruled counted reactsTo reacts word put stateOf loadFor queueAt queueAllAt called mark fall firstWaits goes timeGoes stamped chosen sentWord sends unqueued timed forwarded tells acted arrived fallen sentBytes posted arrives reached round
 computed = refl
 
 abbrev two : Heard
@@ -111,7 +111,7 @@ a-round-later =
     (record {
       held = star-is .held;
       at-rest = rests;
-      permits = permits star-is before links;
+      permits = permits star-is 1 before links;
       no-event = refl;
       taken = request .taken;
       first = played none 3;

@@ -16,7 +16,7 @@ use Rattle.bits.specs.Set.{bit, join, leave}
 use Rattle.bits.specs.First.{searched, firstFrom, following}
 use Rattle.codes.specs.Codes.{reads}
 use Rattle.device.specs.Permissions.{maySend, mayReceive}
-use Rattle.device.specs.Reaction.{marked, isUsed, ruled, counted, reactsTo, reacts}
+use Rattle.device.specs.Reaction.{marked, isUsed, barsOf, ruled, counted, reactsTo, reacts}
 use Rattle.state.specs.State.{State, word, put, register, timer, waiting, next, running, lately, stateOf}
 use Rattle.state.specs.Network.{devices, peer, loadFor}
 use Rattle.state.specs.Queue.{queueAt, queueAllAt}
@@ -60,7 +60,7 @@ abbrev comesBack : State → Bool
 comesBack s = holding s && idles small 31 s && waits-all s
 
 computed : comesBack crowded ≡ true
-unfolding crowded small every upTo table joined bit join leave searched firstFrom following reads maySend mayReceive marked isUsed ruled counted reactsTo reacts word put stateOf loadFor queueAt queueAllAt called mark fall firstWaits goes timeGoes stamped chosen sentWord sends unqueued timed forwarded tells acted arrived fallen sentBytes posted arrives reached round
+unfolding crowded small every upTo table joined bit join leave searched firstFrom following reads maySend mayReceive marked isUsed barsOf ruled counted reactsTo reacts word put stateOf loadFor queueAt queueAllAt called mark fall firstWaits goes timeGoes stamped chosen sentWord sends unqueued timed forwarded tells acted arrived fallen sentBytes posted arrives reached round
 computed = refl
 
 before-it : (holding crowded && idles small 31 crowded) ≡ true
@@ -116,7 +116,7 @@ given-back =
     record {
       held = small-is .held;
       sound = usual-crowded .sound;
-      permits = permits small-is crowded links;
+      permits = permits small-is 31 crowded links;
       place = omega arith;
       there = node-there small-is 0 (omega arith);
       requests = refl;

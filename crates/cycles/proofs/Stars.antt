@@ -4,10 +4,11 @@ use mathlib.Core.Bool.{Bool, true, cond, _&&_}
 use Prim.Native.Nat.{ℕ, suc, _+_, _*_, _≤_, _<_}
 use native.Mathlib.Omega.{arith}
 use lib.Dec.{eqb, ltb, leb}
+use lib.ListN.{replicate}
 use borrow.Author.Tests.{eq-eqb}
 use Rattle.lists.specs.Table.{every, table, joined}
 use Rattle.lists.proofs.Facts.{facts}
-use Rattle.plan.specs.Fields.{nobody, devicesFit, loadsFit, masterFits, portsFit, masksFit, masterIsNode, joins, sourcesFit, shareEvents}
+use Rattle.plan.specs.Fields.{nobody, devicesFit, loadsFit, masterFits, portsFit, masksFit, masterIsNode, barFits, joins, sourcesFit, shareEvents}
 use Rattle.plan.specs.Reading.{Held}
 use Rattle.plan.specs.declared.Plan.{Plan}
 use Rattle.plan.specs.inner.Memory.{portRight, deviceRight, rowRight, right}
@@ -30,6 +31,8 @@ pub record Star (plan : Plan) (n : ℕ) : Type 0 where
   -- a port that runs at the start is connected, and it has all four permissions, and so has its far end
   pub grants : (q : ℕ) → q < 256 → running (started plan) q ≡ 1
       → (peer plan q < nobody) × (permissions plan q ≡ 15) × (permissions plan (peer plan q) ≡ 15)
+  -- nothing is barred
+  pub free : plan .barred ≡ replicate 512 0
   -- port j of the router leads to node j + 1, the first port of that node back, and its other ports nowhere
   pub ahead : (j : ℕ) → j < n → peer plan (8 * 0 + j) ≡ 8 * suc j
   pub back : (j : ℕ) → j < n → peer plan (8 * suc j + 0) ≡ j
@@ -54,9 +57,9 @@ module _ (plan : Plan) where
       && every n ended
       && every (devices plan) (λ e. leb 800 (loadOf plan e 0))
 
-  tested-star : (n : ℕ) → shaped plan ≡ true → right plan ≡ true → starred n ≡ true → Star plan n
+  tested-star : (n : ℕ) → shaped plan ≡ true → right plan ≡ true → plan .barred ≡ replicate 512 0 → starred n ≡ true → Star plan n
   unfolding loadFor
-  tested-star n a b c =
+  tested-star n a b free c =
       let f = simp facts at c in
       let held = tested-held plan a b in
       record {
@@ -69,6 +72,7 @@ module _ (plan : Plan) where
             let there = owned plan held q h (runs-there plan held (started-sound plan held) q h runs) in
             let g = simp facts at (rw (eq-eqb (running (started plan) q) 1 runs) at (f .0 .0 .1 q (omega arith))) in
             (g .0 .0, g .0 .1, g .1);
+        free = free;
         ahead = λ j h. f .0 .1 j h .0 .0;
         back = λ j h. f .0 .1 j h .0 .1;
         no-more = λ j h. f .0 .1 j h .1;
@@ -76,9 +80,9 @@ module _ (plan : Plan) where
       }
 
 pub star-is : Star star 4
-unfolding star every table joined word stateOf loadFor right rowRight deviceRight portRight devicesFit loadsFit masterFits portsFit masksFit masterIsNode joins sourcesFit shareEvents
-star-is = tested-star star 4 refl refl refl
+unfolding star every table joined word stateOf loadFor right rowRight deviceRight portRight devicesFit loadsFit masterFits portsFit masksFit masterIsNode barFits joins sourcesFit shareEvents
+star-is = tested-star star 4 refl refl refl refl
 
 pub small-is : Star small 2
-unfolding small every table joined word stateOf loadFor right rowRight deviceRight portRight devicesFit loadsFit masterFits portsFit masksFit masterIsNode joins sourcesFit shareEvents
-small-is = tested-star small 2 refl refl refl
+unfolding small every table joined word stateOf loadFor right rowRight deviceRight portRight devicesFit loadsFit masterFits portsFit masksFit masterIsNode barFits joins sourcesFit shareEvents
+small-is = tested-star small 2 refl refl refl refl

@@ -15,7 +15,7 @@ use Rattle.reach.proofs.Found.{none-away}
 use Rattle.reach.proofs.Distances.{walk-device}
 use Rattle.assurance.specs.Return.{Permits, Gets, Back, AwayBack, FarthestBack, FoundBack}
 use Rattle.assurance.proofs.Crossings.{walk-same, away-same}
-use Rattle.assurance.proofs.Instances.{all-grant, farthest-of}
+use Rattle.assurance.proofs.Instances.{all-grant, none-barred, farthest-of}
 use Rattle.cycles.proofs.Stars.{Star}
 
 -- the links run as they do at the start
@@ -26,8 +26,10 @@ module _ {plan : Plan} {n : ℕ} (x : Star plan n) where
   pub node-there : (i : ℕ) → i < n → suc i < devices plan
   node-there i h = omega (arith, x .size)
 
-  pub permits : (s : State) → Links plan s → Permits plan s
-  permits s links kind q g h runs = rw (x .grants q h (sym (links q h) ∙ runs) .1) (all-grant kind g)
+  pub permits : (k : ℕ) (s : State) → Links plan s → Permits plan k s
+  permits k s links kind q g h runs =
+      let all = all-grant kind g in
+      rw (x .grants q h (sym (links q h) ∙ runs) .1) (all .0, all .1, none-barred plan (x .free) k kind q g h)
 
   -- another node
   other : (i : ℕ) → (j : ℕ) × (j < n) × (j ≢ i)
@@ -41,7 +43,7 @@ module _ {plan : Plan} {n : ℕ} (x : Star plan n) where
     leads q e h l is =
         let runs = start-joined plan q h l in
         let f = x .grants q h runs in
-        record { runs = links q h ∙ runs; sends = rw (f .1) (all-grant kind g .0); joined = l; receives = rw (f .2) (all-grant kind g .1); there = is }
+        record { runs = links q h ∙ runs; sends = rw (f .1) (all-grant kind g .0); joined = l; receives = rw (f .2) (all-grant kind g .1); admits = none-barred plan (x .free) k kind (peer plan q) g l; there = is }
 
     -- from node i + 1
     module _ (i : ℕ) (h : i < n) where

@@ -38,6 +38,7 @@ star =
           ∷ (2 ∷ replicate 7 nobody)
           ∷ (3 ∷ replicate 7 nobody)
           ∷ replicate 27 (replicate 8 nobody);
+      barred = replicate 512 0;
     }
 
 -- the same with one source, node 1, and one handler, node 2, which is the master too
@@ -61,6 +62,7 @@ small =
           ∷ (0 ∷ replicate 7 nobody)
           ∷ (1 ∷ replicate 7 nobody)
           ∷ replicate 29 (replicate 8 nobody);
+      barred = replicate 512 0;
     }
 
 -- ---- two cycles of 31

@@ -13,12 +13,13 @@ use Rattle.codes.specs.Codes.{reads, cameAs}
 use Rattle.codes.specs.declared.Code.{Code}
 use Rattle.codes.specs.declared.Code.the-variants.{Time, Interrupt, Acknowledge, Reserved}
 use Rattle.codes.proofs.BothWays.{Stands, stands, time, interrupt, acknowledge, byte-comes-back}
-use Rattle.device.specs.Reaction.{marked, kept, nextTime, passedOn, ruled, counted, reactsTo, reacts, codeIn}
+use Rattle.device.specs.Permissions.{mayReceive}
+use Rattle.device.specs.Reaction.{marked, kept, nextTime, passedOn, barsOf, ruled, counted, reactsTo, reacts, codeIn}
 use Rattle.device.specs.declared.Action.{Action}
-use Rattle.device.specs.declared.Action.the-variants.{Named, LinkError, Ignored, Forwarded, Told}
+use Rattle.device.specs.declared.Action.the-variants.{Named, LinkError, Ignored, Forwarded, Told, Dropped}
 use Rattle.device.specs.declared.Reaction.{Reaction}
 use Rattle.device.specs.declared.Side.{Side}
-use Rattle.device.proofs.Rule.{event-unused, Accepts, opposite, ruled-cases}
+use Rattle.device.proofs.Rule.{event-unused, Accepts, barred, opposite, ruled-cases}
 
 -- ---- the bit that is marked, and the others
 
@@ -55,6 +56,7 @@ rank (LinkError c) = 1
 rank (Ignored c) = 2
 rank (Forwarded c) = 3
 rank (Told c) = 4
+rank (Dropped c) = 2
 
 -- an accepted action has none of the first three cases
 not-accepted : (action : Action) (code : Code) → rank action < 3 → Accepted action code → ⊥
@@ -63,18 +65,25 @@ not-accepted action code h (inl e) = omega (arith, ap rank e)
 not-accepted action code h (inr e) = omega (arith, ap rank e)
 
 -- what becomes of a code that was accepted just before
-pub dropped : Code → Action
-dropped (Time v) = Named (Time v)
-dropped (Reserved top low) = Ignored (Reserved top low)
-dropped (Interrupt k) = Ignored (Interrupt k)
-dropped (Acknowledge k) = Ignored (Acknowledge k)
+pub repeated : Code → Action
+repeated (Time v) = Named (Time v)
+repeated (Reserved top low) = Ignored (Reserved top low)
+repeated (Interrupt k) = Ignored (Interrupt k)
+repeated (Acknowledge k) = Ignored (Acknowledge k)
+
+-- a code of a kind and of identifier k
+abbrev pub Of : ℕ → ℕ → Code → Type 0
+Of kind k (Interrupt j) = (kind ≡ 0) × (k ≡ j)
+Of kind k (Acknowledge j) = (kind ≡ 1) × (k ≡ j)
+Of kind k (Time v) = ⊥
+Of kind k (Reserved top low) = ⊥
 
 module _ (side : Side) (register counter : ℕ) where
   -- ---- only the bit of the identifier concerned can change
 
   ruled-other : (kind k : ℕ) (code : Code) (j : ℕ) → j < 32 → j ≢ k → bit (ruled side register counter kind k code .register) j ≡ bit register j
   ruled-other kind k code j h ne =
-      ruled-cases (λ r. bit (r .register) j ≡ bit register j) side register counter kind k code (λ n. refl) (λ n. refl) (λ o. marked-other kind register k j h ne)
+      ruled-cases (λ r. bit (r .register) j ≡ bit register j) side register counter kind k code (λ n. refl) (λ n. refl) (λ n. refl) (λ o. marked-other kind register k j h ne)
 
   pub only-its-own-bit : (byte j : ℕ) → j < 32 → (reads byte ≡ Interrupt j → ⊥) → (reads byte ≡ Acknowledge j → ⊥)
       → bit (reacts side register counter byte .register) j ≡ bit register j
@@ -98,7 +107,7 @@ module _ (side : Side) (register counter : ℕ) where
   only-time-counts byte n = by-code (reads byte) n
     where
       by-rule : (kind k : ℕ) (code : Code) → ruled side register counter kind k code .counter ≡ counter
-      by-rule kind k code = ruled-cases (λ r. r .counter ≡ counter) side register counter kind k code (λ n. refl) (λ n. refl) (λ o. refl)
+      by-rule kind k code = ruled-cases (λ r. r .counter ≡ counter) side register counter kind k code (λ n. refl) (λ n. refl) (λ n. refl) (λ o. refl)
 
       by-code : (c : Code) → ((v : ℕ) → c ≡ Time v → ⊥) → reactsTo side register counter c .counter ≡ counter
       by-code (Time v) n = absurd (n v refl)
@@ -121,7 +130,21 @@ module _ (side : Side) (register counter : ℕ) where
       (ruled-cases (λ r. (r .register ≡ register) × (Accepted (r .action) (Acknowledge k) → ⊥)) side register counter 1 k (Acknowledge k)
       (λ n. (refl, not-accepted (LinkError (Acknowledge k)) (Acknowledge k) (omega arith)))
       (λ n. (refl, not-accepted (Ignored (Acknowledge k)) (Acknowledge k) (omega arith)))
+      (λ n. (refl, not-accepted (Dropped (Acknowledge k)) (Acknowledge k) (omega arith)))
       (λ o. absurd (event-unused (side .events) k v (o .used))))
+
+  -- ---- what a port bars changes nothing either, whatever the bit is, and is dropped
+
+  pub barred-dropped : (byte kind k : ℕ) → Of kind k (reads byte) → side .running ≡ true → mayReceive kind (side .permissions) ≡ true → (bit (barsOf side kind) k ≡ 0 → ⊥)
+      → reacts side register counter byte ≡ kept register counter (Dropped (reads byte))
+  unfolding reacts reactsTo
+  barred-dropped byte kind k o s m b = by-code (reads byte) o
+    where
+      by-code : (c : Code) → Of kind k c → reactsTo side register counter c ≡ kept register counter (Dropped c)
+      by-code (Interrupt j) (e, f) = rw (e, f) at (sym (barred side register counter kind k (Interrupt j) s m b))
+      by-code (Acknowledge j) (e, f) = rw (e, f) at (sym (barred side register counter kind k (Acknowledge j) s m b))
+      by-code (Time v) o = absurd o
+      by-code (Reserved top low) o = absurd o
 
   -- ---- whatever is done with a byte, its code is handed on
 
@@ -131,7 +154,7 @@ module _ (side : Side) (register counter : ℕ) where
 
   ruled-hands-on : (kind k : ℕ) (code : Code) → codeIn (ruled side register counter kind k code .action) ≡ code
   ruled-hands-on kind k code =
-      ruled-cases (λ r. codeIn (r .action) ≡ code) side register counter kind k code (λ n. refl) (λ n. refl) (λ o. passed-hands-on (side .router) code)
+      ruled-cases (λ r. codeIn (r .action) ≡ code) side register counter kind k code (λ n. refl) (λ n. refl) (λ n. refl) (λ o. passed-hands-on (side .router) code)
 
   pub hands-on : (byte : ℕ) → codeIn (reacts side register counter byte .action) ≡ reads byte
   unfolding reacts reactsTo counted
@@ -165,6 +188,7 @@ module _ (side : Side) (register counter : ℕ) where
       ruled-cases (λ r. Accepted (r .action) code → Saw kind k r) side register counter kind k code
       (λ n a. absurd (not-accepted (LinkError code) code (omega arith) a))
       (λ n a. absurd (not-accepted (Ignored code) code (omega arith) a))
+      (λ n a. absurd (not-accepted (Dropped code) code (omega arith) a))
       (λ o a. record { accepts = o; next = refl; counts = refl })
 
   -- what comes of it once more
@@ -176,23 +200,23 @@ module _ (side : Side) (register counter : ℕ) where
   ruled-twice kind k code h g a =
       let w = saw kind k code a in
       rw (w .next, w .counts)
-      (sym (opposite side (marked kind register k) counter kind k code (w .accepts .runs) (w .accepts .may) (w .accepts .used) (omega (arith, marked-same kind register k h g))))
+      (sym (opposite side (marked kind register k) counter kind k code (w .accepts .runs) (w .accepts .may) (w .accepts .unbarred) (w .accepts .used) (omega (arith, marked-same kind register k h g))))
 
   counted-twice : (v : ℕ) → v < 64 → Again (λ bits count. counted side bits count v) (Named (Time v))
   unfolding counted
   counted-twice v h = rw (ne-eqb v (nextTime v) (omega arith))
 
-  -- it is dropped
+  -- it goes no further
   pub accepted-twice : (byte : ℕ) (code : Code) → Accepted (reacts side register counter byte .action) code
-      → Again (λ bits count. reacts side bits count byte) (dropped code)
-  unfolding reacts reactsTo rank dropped
-  accepted-twice byte code a = subst (λ c. Accepted (reacts side register counter byte .action) c → Again (λ bits count. reacts side bits count byte) (dropped c)) (carried a) (by-code (reads byte) (stands byte)) a
+      → Again (λ bits count. reacts side bits count byte) (repeated code)
+  unfolding reacts reactsTo rank repeated
+  accepted-twice byte code a = subst (λ c. Accepted (reacts side register counter byte .action) c → Again (λ bits count. reacts side bits count byte) (repeated c)) (carried a) (by-code (reads byte) (stands byte)) a
     where
       carried : Accepted (reacts side register counter byte .action) code → reads byte ≡ code
       carried (inl e) = sym (hands-on byte) ∙ ap codeIn e
       carried (inr e) = sym (hands-on byte) ∙ ap codeIn e
 
-      by-code : (c : Code) → Stands byte c → Accepted (reactsTo side register counter c .action) c → Again (λ bits count. reactsTo side bits count c) (dropped c)
+      by-code : (c : Code) → Stands byte c → Accepted (reactsTo side register counter c .action) c → Again (λ bits count. reactsTo side bits count c) (repeated c)
       by-code (Time v) (time h) a = counted-twice v (omega arith)
       by-code (Reserved top low) s a = absurd (not-accepted (Named (Reserved top low)) (Reserved top low) (omega arith) a)
       by-code (Interrupt k) (interrupt l e) a = ruled-twice 0 k (Interrupt k) (omega arith) (omega arith) a

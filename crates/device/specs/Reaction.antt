@@ -1,14 +1,15 @@
--- RULES, "One device": the reaction to a byte (000, 2.2 l, o and w, 2.3.2 d and e, 2.3.3 e and f).
+-- RULES, "One device": the reaction to a byte (000, 2.2 l, o and w, 2.3.2 d and e, 2.3.3 e and f; 002 on what a port bars).
 use mathlib.Core.Bool.{Bool, cond, _||_}
 use Prim.Native.Nat.{ℕ, _+_, _%_}
 use lib.Dec.{eqb}
+use lib.ListN.{getD}
 use Rattle.bits.specs.Set.{bit, join, leave}
 use Rattle.codes.specs.Codes.{reads}
 use Rattle.codes.specs.declared.Code.{Code}
 use Rattle.codes.specs.declared.Code.the-variants.{Time, Interrupt, Acknowledge, Reserved}
 use Rattle.device.specs.Permissions.{mayReceive}
 use Rattle.device.specs.declared.Action.{Action}
-use Rattle.device.specs.declared.Action.the-variants.{Named, LinkError, Ignored, Forwarded, Told}
+use Rattle.device.specs.declared.Action.the-variants.{Named, LinkError, Ignored, Dropped, Forwarded, Told}
 use Rattle.device.specs.declared.Reaction.{Reaction}
 use Rattle.device.specs.declared.Side.{Side}
 
@@ -32,21 +33,27 @@ passedOn isRouter code = cond isRouter (Forwarded code) (Told code)
 unfoldable pub isUsed : ℕ → ℕ → ℕ → Bool
 isUsed events kind k = eqb kind 0 || eqb (bit events k) 0
 
--- a port's side: whether its device is a router, whether it runs, its permissions, and the events
+-- what a port bars of codes of a kind, as a set: a router's port what it is given for the kind, and a node's nothing
+unfoldable pub barsOf : Side → ℕ → ℕ
+barsOf side kind = cond (side .router) (getD (side .barred) kind 0) 0
+
+-- a port's side: whether its device is a router, whether it runs, its permissions, what it is to bar, and the events
 module _ (side : Side) (register counter : ℕ) where
   -- accepted: the bit changes, and the code is passed on
   abbrev pub accepted : ℕ → ℕ → Code → Reaction
   accepted kind k code = record { register = marked kind register k; counter = counter; action = passedOn (side .router) code }
 
-  -- a code of a kind: a port not running, no permission, no such code for the identifier, then the bit, which an interrupt finds 0 and an
-  -- acknowledge 1
+  -- a code of a kind: a port not running, no permission, a bar, no such code for the identifier, then the bit, which an interrupt finds 0 and
+  -- an acknowledge 1
   unfoldable pub ruled : ℕ → ℕ → Code → Reaction
   ruled kind k code =
       cond (side .running)
       (cond (mayReceive kind (side .permissions))
+      (cond (eqb (bit (barsOf side kind) k) 0)
       (cond (isUsed (side .events) kind k)
       (cond (eqb (bit register k) kind) (accepted kind k code) (kept register counter (Ignored code)))
       (kept register counter (Ignored code)))
+      (kept register counter (Dropped code)))
       (kept register counter (Ignored code)))
       (kept register counter (LinkError code))
 
@@ -70,6 +77,7 @@ actionOf (LinkError code) = 1
 actionOf (Ignored code) = 2
 actionOf (Forwarded code) = 3
 actionOf (Told code) = 4
+actionOf (Dropped code) = 5
 
 -- the code that it hands on
 abbrev pub codeIn : Action → Code
@@ -78,3 +86,4 @@ codeIn (LinkError code) = code
 codeIn (Ignored code) = code
 codeIn (Forwarded code) = code
 codeIn (Told code) = code
+codeIn (Dropped code) = code

@@ -1,8 +1,9 @@
 // What one device does with a byte that arrives at one of its ports (draft 000, 2.2 and 2.3).
 // An Interrupt-Code and an acknowledge go by one rule, over the kind: 0 interrupt, 1 acknowledge.
 ghost use mathlib.Core.Path.{_≡_};
+ghost use lib.ListN.{getD};
 ghost use Rattle.device.specs.Permissions.{maySend, mayReceive};
-ghost use Rattle.device.specs.Reaction.{marked as Reaction·marked, nextTime, passedOn, isUsed, ruled as Reaction·ruled, counted as Reaction·counted, reacts};
+ghost use Rattle.device.specs.Reaction.{marked as Reaction·marked, nextTime, passedOn, isUsed, barsOf, ruled as Reaction·ruled, counted as Reaction·counted, reacts};
 use codes::Code;
 
 // What becomes of the code.
@@ -12,15 +13,18 @@ pub enum Action {
     Ignored(Code),
     Forwarded(Code),
     Told(Code),
+    Dropped(Code),
 }
 
-// The port's side of a reaction: whether its device is a router, whether it runs, its permissions, and
-// which identifiers are events, that nobody acknowledges.
+// The port's side of a reaction: whether its device is a router, whether it runs, its permissions, which
+// identifiers are events, that nobody acknowledges, and which it is to bar, by the kind of code. A node
+// does not look at the last.
 pub struct Side {
     pub router: bool,
     pub running: bool,
     pub permissions: u32,
     pub events: u32,
+    pub barred: [u32; 2],
 }
 
 // The register and the counter afterwards, and what becomes of the code.
@@ -134,6 +138,27 @@ pub fn is_used(events: u32, kind: u8, k: u32) -> bool
     bits::get(events, k) == 0
 }
 
+// The mask of a kind, of which there are 0 and 1.
+fn mask_of(barred: [u32; 2], kind: u8) -> u32
+    ensures { λ r. ⌜ r ≡ getD barred kind 0 ⌝ }
+{
+    if 1 < kind {
+        return 0;
+    }
+    barred[kind as usize]
+}
+
+// What a port bars of codes of the kind, as a set. Only a router's port bars anything.
+fn bars_of(side: Side, kind: u8) -> u32
+    ensures { λ r. ⌜ r ≡ barsOf side kind ⌝ }
+{
+    if !side.router {
+        return 0;
+    }
+    let barred = side.barred;
+    mask_of(barred, kind)
+}
+
 // The rule for a code of a kind with its identifier. The bit has to stand as the kind's own number:
 // 0 before an interrupt, 1 before an acknowledge.
 fn ruled(side: Side, register: u32, counter: u32, kind: u8, k: u8, code: Code) -> Reaction
@@ -144,6 +169,10 @@ fn ruled(side: Side, register: u32, counter: u32, kind: u8, k: u8, code: Code) -
     }
     if !may_receive(kind, side.permissions) {
         return outcome(register, counter, Action::Ignored(code));
+    }
+    let bars = bars_of(side, kind);
+    if bits::get(bars, k as u32) != 0 {
+        return outcome(register, counter, Action::Dropped(code));
     }
     if !is_used(side.events, kind, k as u32) {
         return outcome(register, counter, Action::Ignored(code));

@@ -50,13 +50,13 @@ pub bench-for-header-code-write-unique : (kind value r s v w : ℕ) → ((top : 
 bench-for-header-code-write-unique kind value r s v w p q =
     let e = p 0 ∙ sym (q 0) in (ap (λ (a : Answer). a .number) e, ap (λ (a : Answer). a .value) e)
 
-module _ (role running permissions events register counter byte : ℕ) where
+module _ (role running permissions events interrupts acknowledges register counter byte : ℕ) where
   abbrev reaction : Reaction
-  reaction = reacts (sideOf role running permissions events) register counter byte
+  reaction = reacts (sideOf role running permissions events interrupts acknowledges) register counter byte
 
-  pub bench-for-header-react-4-unique : (r s b c x y k l t u v w : ℕ) → Reacts reaction r b x k t v → Reacts reaction s c y l u w
+  pub bench-for-header-react-guarded-unique : (r s b c x y k l t u v w : ℕ) → Reacts reaction r b x k t v → Reacts reaction s c y l u w
       → (r ≡ s) × (b ≡ c) × (x ≡ y) × ((k ≡ l) × (t ≡ u) × (v ≡ w))
-  bench-for-header-react-4-unique r s b c x y k l t u v w p q =
+  bench-for-header-react-guarded-unique r s b c x y k l t u v w p q =
       (p .0 ∙ sym (q .0), p .1 ∙ sym (q .1), p .2 ∙ sym (q .2), says-once (codeIn (reaction .action)) (p .3) (q .3))
 
 -- ---- the calls over a file

@@ -1,6 +1,7 @@
 -- RULES, "The C door": the numbers that stand in C for yes and no, for a port's side, and for a reaction.
 use mathlib.Core.Path.{_≡_}
 use mathlib.Core.Bool.{Bool, not}
+use mathlib.Core.List.{[], _∷_}
 use Prim.Native.Nat.{ℕ}
 use lib.Dec.{eqb}
 use Rattle.codes.specs.Numbers.{Says}
@@ -13,8 +14,15 @@ abbrev pub nonzero : ℕ → Bool
 nonzero n = not (eqb n 0)
 
 -- the port's side of a reaction
-abbrev pub sideOf : ℕ → ℕ → ℕ → ℕ → Side
-sideOf role running permissions events = record { router = nonzero role; running = nonzero running; permissions = permissions; events = events }
+abbrev pub sideOf : ℕ → ℕ → ℕ → ℕ → ℕ → ℕ → Side
+sideOf role running permissions events interrupts acknowledges =
+    record {
+      router = nonzero role;
+      running = nonzero running;
+      permissions = permissions;
+      events = events;
+      barred = interrupts ∷ acknowledges ∷ [];
+    }
 
 -- numbers for what is done, for the register and the counter afterwards, and for the code that is handed on
 abbrev pub Reacts : Reaction → ℕ → ℕ → ℕ → ℕ → ℕ → ℕ → Type 0

@@ -83,6 +83,7 @@ fn action_of(action: Action) -> u32
         Action::Ignored(_) => 2,
         Action::Forwarded(_) => 3,
         Action::Told(_) => 4,
+        Action::Dropped(_) => 5,
     }
 }
 
@@ -95,6 +96,7 @@ fn code_in(action: Action) -> Code
         Action::Ignored(code) => code,
         Action::Forwarded(code) => code,
         Action::Told(code) => code,
+        Action::Dropped(code) => code,
     }
 }
 
@@ -129,14 +131,16 @@ pub extern "C" fn bench_for_header_code_write(kind: u32, value: u32, byte: &mut 
     0
 }
 
-// What a device does with a byte that arrives, and the code that it hands on; its register and its
-// counter are updated.
+// What a device does with a byte that arrives at a port which bars these interrupts and acknowledges, and
+// the code that it hands on; its register and its counter are updated.
 #[no_mangle]
-pub extern "C" fn bench_for_header_react_4(
+pub extern "C" fn bench_for_header_react_guarded(
     role: u32,
     running: u32,
     permissions: u32,
     events: u32,
+    interrupts: u32,
+    acknowledges: u32,
     bits: &mut u32,
     counter: &mut u32,
     byte: u8,
@@ -144,13 +148,14 @@ pub extern "C" fn bench_for_header_react_4(
     top: &mut u32,
     value: &mut u32,
 ) -> u32
-    ensures { λ r. ⌜ Reacts (reacts (sideOf role running permissions events) (now (bits .entry)) (now (counter .entry)) byte) r (now (bits .exit)) (now (counter .exit)) (now (kind .exit)) (now (top .exit)) (now (value .exit)) ⌝ }
+    ensures { λ r. ⌜ Reacts (reacts (sideOf role running permissions events interrupts acknowledges) (now (bits .entry)) (now (counter .entry)) byte) r (now (bits .exit)) (now (counter .exit)) (now (kind .exit)) (now (top .exit)) (now (value .exit)) ⌝ }
 {
     let side = Side {
         router: role != 0,
         running: running != 0,
         permissions: permissions,
         events: events,
+        barred: [interrupts, acknowledges],
     };
     let reaction = device::react(side, *bits, *counter, byte);
     *bits = reaction.register;

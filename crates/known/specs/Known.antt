@@ -11,7 +11,7 @@ use Rattle.codes.specs.Codes.{byteOf, reads}
 use Rattle.codes.specs.declared.Code.{Code}
 use Rattle.codes.specs.declared.Code.the-variants.{Time, Interrupt, Acknowledge, Reserved}
 use Rattle.device.specs.Permissions.{maySend, mayReceive}
-use Rattle.device.specs.Reaction.{marked, isUsed, ruled, counted, reactsTo, reacts}
+use Rattle.device.specs.Reaction.{marked, isUsed, barsOf, ruled, counted, reactsTo, reacts}
 use Rattle.plan.specs.Fields.{nobody}
 use Rattle.plan.specs.declared.Plan.{Plan}
 use Rattle.state.specs.State.{State, word, put, portAt, nextAt, next, register, timer, stateOf}
@@ -40,6 +40,7 @@ link =
             permissions = (15 ∷ replicate 7 0) ++ (15 ∷ replicate 247 0);
           };
       peers = (8 ∷ replicate 7 nobody) ∷ (0 ∷ replicate 7 nobody) ∷ replicate 30 (replicate 8 nobody);
+      barred = replicate 512 0;
     }
 
 -- the set of one identifier
@@ -102,5 +103,5 @@ stated =
     }
 
 pub known-values : computed ≡ stated
-unfolding computed stated valuesFrom link just choice clocks sixth upTo table joined bit join leave searched firstFrom following reads maySend mayReceive marked isUsed ruled counted reactsTo reacts word put stateOf loadFor queueAt queueAllAt mark called fall firstWaits goes timeGoes stamped chosen sentWord sends unqueued timed forwarded tells acted arrived fallen sentBytes posted arrives reached round
+unfolding computed stated valuesFrom link just choice clocks sixth upTo table joined bit join leave searched firstFrom following reads maySend mayReceive marked isUsed barsOf ruled counted reactsTo reacts word put stateOf loadFor queueAt queueAllAt mark called fall firstWaits goes timeGoes stamped chosen sentWord sends unqueued timed forwarded tells acted arrived fallen sentBytes posted arrives reached round
 known-values = refl

@@ -15,16 +15,16 @@ use Rattle.codes.specs.declared.Code.the-variants.{Time, Interrupt, Acknowledge
 use Rattle.codes.proofs.BothWays.{Stands, stands, time, interrupt, acknowledge}
 use Rattle.device.specs.Reaction.{marked, accepted, ruled, counted, reactsTo, reacts}
 use Rattle.device.specs.declared.Action.{Action}
-use Rattle.device.specs.declared.Action.the-variants.{Named, LinkError, Ignored, Forwarded, Told}
+use Rattle.device.specs.declared.Action.the-variants.{Named, LinkError, Ignored, Dropped, Forwarded, Told}
 use Rattle.device.specs.declared.Side.{Side}
 use Rattle.device.proofs.Rule.{Accepts, ruled-cases}
 use Rattle.plan.specs.declared.Plan.{Plan}
-use Rattle.state.specs.State.{words, put, registerAt, timerAt, register, timer, running, counterAt, counter}
+use Rattle.state.specs.State.{State, words, put, word, portsEnd, registerAt, timerAt, register, timer, running, counterAt, counter, dropsAt}
 use Rattle.state.specs.Network.{router, peer, events, loadOf}
 use Rattle.state.proofs.Words.{length-put, word-same, word-other, put-word}
 use Rattle.state.proofs.Waits.{queue-all-left}
-use Rattle.bench.specs.Round.{World, nothing, timed, forwarded, acted, arrived, sideAt, arrives}
-use Rattle.bench.proofs.RoundSound.{Opens, Beside, beside-same, counter-only}
+use Rattle.bench.specs.Round.{World, nothing, timed, forwarded, lost, acted, arrived, sideOf, arrives}
+use Rattle.bench.proofs.RoundSound.{Opens, Beside, beside-same, counter-only, side-bars}
 use Rattle.laws.specs.Timing.{accepts, action}
 
 -- ---- a reaction that does not accept, and one that does
@@ -37,7 +37,7 @@ by-role false code = refl
 module _ (side : Side) (bits count : ℕ) where
   ruled-left : (kind k : ℕ) (code : Code) → accepts (ruled side bits count kind k code .action) ≡ false → ruled side bits count kind k code .register ≡ bits
   ruled-left kind k code =
-      ruled-cases (λ r. accepts (r .action) ≡ false → r .register ≡ bits) side bits count kind k code (λ n e. refl) (λ n e. refl)
+      ruled-cases (λ r. accepts (r .action) ≡ false → r .register ≡ bits) side bits count kind k code (λ n e. refl) (λ n e. refl) (λ n e. refl)
       (λ o e. absurd (false≢true (sym e ∙ by-role (side .router) code)))
 
   bits-left : (code : Code) → accepts (reactsTo side bits count code .action) ≡ false → reactsTo side bits count code .register ≡ bits
@@ -51,7 +51,7 @@ module _ (side : Side) (bits count : ℕ) where
   unfolding accepts
   opened-by kind k c j same place code =
       rw (← same, ← place)
-      (ruled-cases (λ r. accepts (r .action) ≡ true → Accepts side bits c j) side bits count c j code (λ n x. absurd (false≢true x)) (λ n x. absurd (false≢true x)) (λ y x. y))
+      (ruled-cases (λ r. accepts (r .action) ≡ true → Accepts side bits c j) side bits count c j code (λ n x. absurd (false≢true x)) (λ n x. absurd (false≢true x)) (λ n x. absurd (false≢true x)) (λ y x. y))
 
   -- a code that is accepted came by an open port, and found its bit as its kind wants it
   opened : (byte kind k : ℕ) → byte ≡ byteOf kind k → kind < 2 → k < 32 → (code : Code) → Stands byte code → accepts (reactsTo side bits count code .action) ≡ true
@@ -72,7 +72,7 @@ module _ (side : Side) (bits count : ℕ) where
   taken byte k e l (Interrupt j) (interrupt m o) a =
       let here : j ≡ k = omega arith in
       ruled-cases (λ r. accepts (r .action) ≡ true → r ≡ accepted side bits count 0 k (Interrupt k)) side bits count 0 j (Interrupt j) (λ n x. absurd (false≢true x))
-      (λ n x. absurd (false≢true x)) (λ y x. ap (λ i. accepted side bits count 0 i (Interrupt i)) here) a
+      (λ n x. absurd (false≢true x)) (λ n x. absurd (false≢true x)) (λ y x. ap (λ i. accepted side bits count 0 i (Interrupt i)) here) a
 
 -- ---- a byte arrives at port q
 
@@ -81,7 +81,7 @@ module _ (plan : Plan) (sent : List ℕ) (q : ℕ) (w : World) where
   byte = getD sent (peer plan q) nothing
 
   abbrev side : Side
-  side = sideAt (router plan (q / 8)) (plan .core .permissions) (events plan) q (w .state)
+  side = sideOf plan q (w .state)
 
   abbrev bits : ℕ
   bits = register (w .state) (q / 8)
@@ -89,14 +89,24 @@ module _ (plan : Plan) (sent : List ℕ) (q : ℕ) (w : World) where
   abbrev count : ℕ
   count = counter (w .state) (q / 8)
 
-  -- not accepted, nothing comes of it
-  acts-not : (a : Action) (v : World) → accepts a ≡ false → acted (loadOf plan (q / 8)) (plan .core .permissions) q a v ≡ v
+  -- not accepted, nothing comes of it, but that it is counted where it is dropped
+  lost-left : (code : Code) (s : State) → (length (lost q code s) ≡ length s) × ((i : ℕ) → i < portsEnd → word (lost q code s) i ≡ word s i)
+  unfolding lost
+  lost-left (Interrupt k) s = (length-put s (dropsAt q 0) _, λ i h. word-other s (dropsAt q 0) _ i (omega arith))
+  lost-left (Acknowledge k) s = (length-put s (dropsAt q 1) _, λ i h. word-other s (dropsAt q 1) _ i (omega arith))
+  lost-left (Time v) s = (refl, λ i h. refl)
+  lost-left (Reserved top low) s = (refl, λ i h. refl)
+
+  acts-not : (a : Action) (v : World) → accepts a ≡ false → Beside w v → v .told ≡ w .told → Beside w (acted (loadOf plan (q / 8)) (plan .core .permissions) q a v)
   unfolding acted accepts
-  acts-not (Forwarded code) v e = absurd (false≢true (sym e))
-  acts-not (Told code) v e = absurd (false≢true (sym e))
-  acts-not (Named code) v e = refl
-  acts-not (LinkError code) v e = refl
-  acts-not (Ignored code) v e = refl
+  acts-not (Forwarded code) v e b o = absurd (false≢true (sym e))
+  acts-not (Told code) v e b o = absurd (false≢true (sym e))
+  acts-not (Named code) v e b o = b
+  acts-not (LinkError code) v e b o = b
+  acts-not (Ignored code) v e b o = b
+  acts-not (Dropped code) v e b o =
+      let left = lost-left code (v .state) in
+      record { size = left .0 ∙ b .size; front = λ i h. left .1 i h ∙ b .front i h; told = inl o }
 
   -- only the counter may be another
   counter-beside : (n : ℕ) → q / 8 < 32 → Beside w (record { state = put (put (w .state) (counterAt (q / 8)) n) (registerAt (q / 8)) bits; told = w .told })
@@ -112,18 +122,24 @@ module _ (plan : Plan) (sent : List ℕ) (q : ℕ) (w : World) where
   unfolding arrives arrived reacts
   arrives-left small e = by-test (ltb byte nothing)
     where
-      by-test : (t : Bool) → Beside w (cond t (arrived (loadOf plan (q / 8)) (plan .core .permissions) q (router plan (q / 8)) (events plan) byte w) w)
+      by-test : (t : Bool) → Beside w (cond t (arrived (loadOf plan (q / 8)) (plan .core .permissions) q (plan .barred) (router plan (q / 8)) (events plan) byte w) w)
       by-test false = beside-same w
       by-test true =
-          rw (acts-not (reacts side bits count byte .action) _ e, bits-left side bits count (reads byte) e)
-          (counter-beside (reacts side bits count byte .counter) small)
+          acts-not (reacts side bits count byte .action) _ e
+          (rw (bits-left side bits count (reads byte) e) (counter-beside (reacts side bits count byte .counter) small)) refl
 
   -- accepted, its port is open and its bit stands ready for it
   pub arrives-opens : (kind k : ℕ) → kind < 2 → k < 32 → byte ≡ byteOf kind k → accepts (action plan q byte (w .state)) ≡ true → Opens plan kind k q (w .state)
   unfolding reacts
   arrives-opens kind k g l e a =
       let o = opened side bits count byte kind k e g l (reads byte) (stands byte) a in
-      record { runs = eqb-true (running (w .state) q) 1 (o .runs); may = o .may; used = o .used; stood = o .stood }
+      record {
+        runs = eqb-true (running (w .state) q) 1 (o .runs);
+        may = o .may;
+        unbarred = ap (λ v. bit v k) (sym (side-bars plan q (w .state) kind g)) ∙ o .unbarred;
+        used = o .used;
+        stood = o .stood;
+      }
 
   -- an accepted interrupt
   module _ (k : ℕ) (l : k < 32) (e : byte ≡ byteOf 0 k) (a : accepts (action plan q byte (w .state)) ≡ true) where

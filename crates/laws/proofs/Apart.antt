@@ -28,14 +28,14 @@ use Rattle.device.proofs.Reactions.{marked-same, marked-other}
 use Rattle.plan.specs.Fields.{nobody}
 use Rattle.plan.specs.Reading.{Held}
 use Rattle.plan.specs.declared.Plan.{Plan}
-use Rattle.state.specs.State.{State, words, word, put, registerAt, timerAt, portAt, register, timer, waiting, nextAt, next, portsEnd, counterAt, counter}
+use Rattle.state.specs.State.{State, words, word, put, registerAt, timerAt, portAt, register, timer, waiting, nextAt, next, runningAt, portsEnd, counterAt, counter, dropsAt}
 use Rattle.state.specs.Network.{devices, router, peer, permissions, events, loadOf}
 use Rattle.state.specs.Sound.{Sound}
 use Rattle.state.specs.Queue.{sendsAt, queueAt, queueBut, queueAllAt}
 use Rattle.state.specs.Mark.{loaded, mark}
 use Rattle.calls.specs.Calls.{called, advanced}
 use Rattle.calls.proofs.Called.{tick-left, tick-size}
-use Rattle.bench.specs.Round.{World, nothing, sentWords, fall, timeGoes, chosen, sends, unqueued, stamped, posts, timed, forwarded, sideAt, acted, arrived, fallen, sentBytes, posted, arrives, reached, afterTimers, afterSending, round}
+use Rattle.bench.specs.Round.{World, nothing, sentWords, fall, timeGoes, chosen, sends, unqueued, stamped, posts, timed, forwarded, lost, sideOf, acted, arrived, fallen, sentBytes, posted, arrives, reached, afterTimers, afterSending, round}
 use Rattle.laws.specs.Alike.{Alike, SendsIt, SendAlike}
 use Rattle.state.proofs.Words.{length-put, word-same, word-other, put-word}
 use Rattle.state.proofs.Plans.{few}
@@ -292,6 +292,11 @@ module _ {k : ℕ} (l : k < 32) (plan : Plan) (q : ℕ) (h : q < 256) where
     unchanged =
         register-both l (behind-both l p (counterAt (q / 8)) m n (omega arith)) (q / 8) a b (omega arith) (p .like .marks (q / 8) (omega arith))
 
+    -- the code is dropped, and counted
+    lost-both : (kind : ℕ) (x y : ℕ)
+        → Both k (put (put (put (w .state) (counterAt (q / 8)) m) (registerAt (q / 8)) a) (dropsAt q kind) x) (put (put (put (v .state) (counterAt (q / 8)) n) (registerAt (q / 8)) b) (dropsAt q kind) y)
+    lost-both kind x y = behind-both l unchanged (dropsAt q kind) x y (omega arith)
+
     -- the code is accepted
     taken-both : (side : Side) (kind : ℕ) (code : Code) → kind < 2
         → ((u : State) → timed (loadOf plan (q / 8)) (q / 8) code (put u (registerAt (q / 8)) (marked kind (register u (q / 8)) k)) ≡ mark plan kind (q / 8) k u)
@@ -313,18 +318,18 @@ module _ {k : ℕ} (l : k < 32) (plan : Plan) (q : ℕ) (h : q < 256) where
 
     reacts-both : (side : Side) (byte kind : ℕ) → kind < 2 → byte ≡ byteOf kind k → (code : Code) → Stands byte code
         → Follow (reactsTo side a m code) (reactsTo side b n code)
-    unfolding reactsTo acted timed forwarded mark
+    unfolding reactsTo acted timed forwarded lost mark
     reacts-both side byte kind g e (Time v) (time h) = absurd (omega arith)
     reacts-both side byte kind g e (Reserved top low) c = unchanged
     reacts-both side byte kind g e (Interrupt j) (interrupt i o) =
         let is : j ≡ k = omega arith in
         rw is
-        (ruled-both Follow side a b m n 0 k (Interrupt k) (p .like .marks (q / 8) (omega arith)) (λ n. unchanged) (λ n. unchanged)
+        (ruled-both Follow side a b m n 0 k (Interrupt k) (p .like .marks (q / 8) (omega arith)) (λ n. unchanged) (λ n. unchanged) (λ n. lost-both 0 _ _)
         (λ o. taken-both side 0 (Interrupt k) (omega arith) (λ u. refl) (λ u. refl)))
     reacts-both side byte kind g e (Acknowledge j) (acknowledge i o) =
         let is : j ≡ k = omega arith in
         rw is
-        (ruled-both Follow side a b m n 1 k (Acknowledge k) (p .like .marks (q / 8) (omega arith)) (λ n. unchanged) (λ n. unchanged)
+        (ruled-both Follow side a b m n 1 k (Acknowledge k) (p .like .marks (q / 8) (omega arith)) (λ n. unchanged) (λ n. unchanged) (λ n. lost-both 1 _ _)
         (λ o. taken-both side 1 (Acknowledge k) (omega arith) (λ u. refl) (λ u. refl)))
 
     arrives-both : (sent other : List ℕ) (kind : ℕ) → kind < 2 → getD sent (peer plan q) nothing ≡ byteOf kind k
@@ -334,7 +339,7 @@ module _ {k : ℕ} (l : k < 32) (plan : Plan) (q : ℕ) (h : q < 256) where
     arrives-both sent other kind g x y =
         let byte = byteOf kind k in
         rw (x, y, lt-ltb byte nothing (omega arith), p .like .runs q h)
-        (reacts-both (sideAt (router plan (q / 8)) (plan .core .permissions) (events plan) q (v .state)) byte kind g refl (reads byte) (stands byte))
+        (reacts-both (sideOf plan q (v .state)) byte kind g refl (reads byte) (stands byte))
 
   -- no code of k arrives
   pub arrives-aside : (sent : List ℕ) (w : World) {t : State} → Both k (w .state) t → ((kind : ℕ) → kind < 2 → getD sent (peer plan q) nothing ≢ byteOf kind k)
@@ -450,6 +455,16 @@ identifiers-apart plan held s t x y k l like same =
     reached-both plan held l s t same (afterSending plan s) (afterSending plan t) posts .like
 
 -- ---- a call
+
+-- what concerns an identifier stands in front of the counters
+pub alike-front : (k : ℕ) → k < 32 → {s t : State} → ((i : ℕ) → i < portsEnd → word s i ≡ word t i) → Alike k s t
+alike-front k l front =
+    record {
+      marks = λ d h. ap (λ v. bit v k) (front (registerAt d) (omega arith));
+      timers = λ d h. front (timerAt d k) (omega arith);
+      waits = λ kind q g h. ap (λ v. bit v k) (front (portAt q kind) (omega arith));
+      runs = λ q h. front (portAt q runningAt) (omega arith);
+    }
 
 pub alike-same : (k : ℕ) (s : State) → Alike k s s
 alike-same k s = record { marks = λ d h. refl; timers = λ d h. refl; waits = λ kind q g h. refl; runs = λ q h. refl }

@@ -10,11 +10,11 @@ use Rattle.bits.specs.Set.{bit}
 use Rattle.codes.specs.Codes.{byteOf}
 use Rattle.device.specs.Reaction.{reacts}
 use Rattle.device.specs.declared.Action.{Action}
-use Rattle.device.specs.declared.Action.the-variants.{Named, LinkError, Ignored, Forwarded, Told}
+use Rattle.device.specs.declared.Action.the-variants.{Named, LinkError, Ignored, Dropped, Forwarded, Told}
 use Rattle.plan.specs.declared.Plan.{Plan}
 use Rattle.state.specs.State.{State, register, timer, counter}
-use Rattle.state.specs.Network.{router, peer, events}
-use Rattle.bench.specs.Round.{World, ofTimeout, toldWord, nothing, sideAt, sentBytes, arrives, afterSending}
+use Rattle.state.specs.Network.{router, peer}
+use Rattle.bench.specs.Round.{World, ofTimeout, toldWord, nothing, sideOf, sentBytes, arrives, afterSending}
 use Rattle.bench.specs.Settling.{rounds}
 
 -- a code is accepted where a router forwards it or a node tells its host
@@ -24,10 +24,11 @@ accepts (Told code) = true
 accepts (Named code) = false
 accepts (LinkError code) = false
 accepts (Ignored code) = false
+accepts (Dropped code) = false
 
 -- what becomes of a byte that arrives at port q
 abbrev pub action : Plan → ℕ → ℕ → State → Action
-action plan q byte s = reacts (sideAt (router plan (q / 8)) (plan .core .permissions) (events plan) q s) (register s (q / 8)) (counter s (q / 8)) byte .action
+action plan q byte s = reacts (sideOf plan q s) (register s (q / 8)) (counter s (q / 8)) byte .action
 
 -- ---- in the round from s
 

@@ -1,9 +1,9 @@
 -- Tests joined by "and" and "or", and the test of every place.
 use mathlib.Core.Path.{_≡_, refl, sym, ap, ap₂, _∙_}
 use mathlib.Core.Bool.{Bool, true, false, _&&_, _||_, false≢true}
-use mathlib.Core.Logic.{_⊎_, inl, inr}
-use Prim.Native.Nat.{ℕ, zero, suc, _+_, _<_}
-use native.Mathlib.Decide.{ℕ-discrete}
+use mathlib.Core.Logic.{_⊎_, inl, inr, dite}
+use Prim.Native.Nat.{ℕ, zero, suc, _+_, _-_, _≤_, _<_}
+use native.Mathlib.Decide.{decLt, ℕ-discrete}
 use native.Mathlib.Omega.{arith}
 use lib.Dec.{eqb}
 use borrow.Author.Tests.{eq-eqb, ne-eqb}
@@ -61,6 +61,14 @@ pub every-same : (n : ℕ) (f g : ℕ → Bool) → ((i : ℕ) → i < n → f i
 unfolding every
 every-same zero f g h = refl
 every-same (suc n) f g h = ap₂ (λ (a b : Bool). a && b) (every-same n f g (λ i l. h i (omega arith))) (h n (omega arith))
+
+-- where those in front pass, it is for those behind them to say
+pub every-behind : (n k : ℕ) (f : ℕ → Bool) → k ≤ n → ((i : ℕ) → i < k → f i ≡ true) → every (n - k) (λ i. f (k + i)) ≡ every n f
+every-behind n k f h front =
+    same-truth (every (n - k) (λ i. f (k + i))) (every n f)
+    (λ z. every-all n f (λ i l. dite (decLt i k) (front i)
+    (λ g. let e : k + (i - k) ≡ i = omega arith in rw e at (every-at (n - k) (λ i. f (k + i)) z (i - k) (omega arith)))))
+    (λ z. every-all (n - k) _ (λ i l. every-at n f z (k + i) (omega arith)))
 
 -- a sum is zero where both parts are
 pub sum-zero : (a b : ℕ) → eqb (a + b) 0 ≡ (eqb a 0 && eqb b 0)

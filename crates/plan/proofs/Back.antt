@@ -73,6 +73,8 @@ module _ (file : List ℕ) (small : Bytes file) where
         rows = length-table 32 _;
         row = λ d h. rw (getD-table 32 (λ e. table 8 (λ p. cond (ltb e (countIn file)) (peerOf file e p) nobody)) d [] h)
             (numbers-table 8 _ 65536 (omega arith) (λ p. small-either (ltb d (countIn file)) _ nobody (small-peer (deviceBlock file d) (row d) p) (omega arith)));
+        barred = numbers-table 512 _ 4294967296 (omega arith)
+            (λ i. small-either (ltb (i / 16) (countIn file)) _ 0 (number-small (deviceBlock file (i / 16)) (44 + 4 * (i % 16)) 4 (row (i / 16))) (omega arith));
       }
 
   module _ (e : verdict file ≡ accepts) where

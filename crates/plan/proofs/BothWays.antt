@@ -13,7 +13,7 @@ use Rattle.answers.proofs.Unique.{ordered-once}
 use Rattle.bits.specs.Set.{bit}
 use Rattle.lists.proofs.Facts.{facts}
 use Rattle.lists.proofs.Tests.{and-left, and-right}
-use Rattle.plan.specs.Fields.{portsFit, masksFit, masterIsNode, nobody}
+use Rattle.plan.specs.Fields.{portsFit, masksFit, masterIsNode, barFits, nobody}
 use Rattle.plan.specs.Header.{headerOf}
 use Rattle.plan.specs.Refusals.{Test, test, accepts, first, tests, verdict}
 use Rattle.plan.specs.Reading.{planOf, Accepted, Held, zeros, reads}
@@ -95,7 +95,7 @@ module _ (plan : Plan) where
   held-master-node h d e =
       let there : d < plan .core .devices = omega (arith, held-master h) in
       let row = simp facts at (rw (lt-ltb d (plan .core .devices) there) at (right-says plan (held-right h) .rows d (omega (arith, held-devices h)))) in
-      (there, node-master (plan .core .master) d _ e (row .0 .1))
+      (there, node-master (plan .core .master) d _ e (row .0 .0 .1))
 
   -- an identifier that is no event has one source at most
   pub held-one-source : Held plan → (k : ℕ) → bit (plan .core .events) k ≡ 0 → (d e : ℕ) → d < plan .core .devices → e < plan .core .devices
@@ -123,7 +123,13 @@ pub held-few : (plan : Plan) → Held plan → (d : ℕ) → d < 32 → (getD (p
 unfolding rowRight
 held-few plan h d l =
     let row = simp facts at (right-says plan (held-right plan h) .rows d l) in
-    device-few (plan .core .devices) (plan .core .master) d _ _ _ _ (row .0)
+    device-few (plan .core .devices) (plan .core .master) d _ _ _ _ (row .0 .0)
+
+-- only a port that a router has bars anything
+pub held-bars : (plan : Plan) → Held plan → (d j : ℕ) → d < 32 → j < 16
+    → barFits (getD (plan .core .role) d 0) (getD (plan .core .ports) d 0) j (getD (plan .barred) (16 * d + j) 0) ≡ true
+unfolding rowRight
+held-bars plan h d j l k = let row = simp facts at (right-says plan (held-right plan h) .rows d l) in row .1 j k
 
 -- a peer is a port or nobody
 some-peer : (n ports p peer permissions : ℕ) → n ≤ 32 → portRight n ports p peer permissions ≡ true → peer ≤ nobody
@@ -141,7 +147,7 @@ held-peers plan h d p =
     let shape = held-shaped plan h in
     dite (decLt d 32)
     (λ l. dite (decLt p 8)
-    (λ m. let row = simp facts at (right .rows d l) in some-peer _ _ p _ _ (held-devices plan h .1) (row .1 p m))
+    (λ m. let row = simp facts at (right .rows d l) in some-peer _ _ p _ _ (held-devices plan h .1) (row .0 .1 p m))
     (λ m. omega (arith, List·getD-eq-default (getD (plan .peers) d []) 0 (past (shape .row d l .long) m))))
     (λ l. omega (arith, ap (λ row. getD row p 0) (List·getD-eq-default (plan .peers) [] (past (shape .rows) l))))
   where

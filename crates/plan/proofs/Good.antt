@@ -8,7 +8,7 @@ use native.Mathlib.Omega.{arith}
 use lib.ListN.{length, getD}
 use Rattle.lists.specs.Table.{joined}
 use Rattle.plan.specs.Block.{block, numberIn, restZero, checked, kindField}
-use Rattle.plan.specs.Fields.{devicesFit, loadsFit, masterFits, numberField, deviceFields, roleIn, portsIn, sourceIn, handlerIn, portsFit, masksFit, masterIsNode, entryFits, deviceFits, joins, sourcesFit}
+use Rattle.plan.specs.Fields.{devicesFit, loadsFit, masterFits, numberField, deviceFields, roleIn, portsIn, sourceIn, handlerIn, portsFit, masksFit, masterIsNode, entryFits, barIn, barFits, deviceFits, joins, sourcesFit}
 use Rattle.plan.specs.Header.{headerFields, headerIn, headerFits}
 use Rattle.plan.specs.Refusals.{Test, test, accepts, lengthFits, headerTests, deviceTests, joinTests, deviceBlock, countIn, masterIn, eventsIn, sourceOf, portsOf, peerOf, tests, verdict}
 use Rattle.plan.specs.declared.Header.{Header}
@@ -31,6 +31,7 @@ pub record GoodDevice (n master d : ℕ) (s : List ℕ) : Type 0 where
   pub masks : masksFit (roleIn s) (sourceIn s) (handlerIn s) ≡ true
   pub node : masterIsNode master d (roleIn s) ≡ true
   pub entries : (p : ℕ) → p < 8 → entryFits n s p ≡ true
+  pub bars : (j : ℕ) → j < 16 → barFits (roleIn s) (portsIn s) j (barIn s j) ≡ true
   pub zeros : restZero deviceFields s ≡ true
 
 pub record Good (file : List ℕ) : Type 0 where
@@ -72,16 +73,17 @@ module _ (s : List ℕ) where
           check = f .0;
           mark = f .1 .0 .0;
           number = f .1 .0 .1;
-          ports = f .1 .1 .0 .0 .0 .0;
-          masks = f .1 .1 .0 .0 .0 .1;
-          node = f .1 .1 .0 .0 .1;
-          entries = f .1 .1 .0 .1;
+          ports = f .1 .1 .0 .0 .0 .0 .0;
+          masks = f .1 .1 .0 .0 .0 .0 .1;
+          node = f .1 .1 .0 .0 .0 .1;
+          entries = f .1 .1 .0 .0 .1;
+          bars = f .1 .1 .0 .1;
           zeros = f .1 .1 .1 .0;
         }
 
     good-device : GoodDevice n master d s → AllPass (deviceTests n master d s)
     unfolding deviceTests deviceFits
-    good-device g = simp facts (g .check, ((g .mark, g .number), ((((g .ports, g .masks), g .node), g .entries), (g .zeros, tt))))
+    good-device g = simp facts (g .check, ((g .mark, g .number), (((((g .ports, g .masks), g .node), g .entries), g .bars), (g .zeros, tt))))
 
 -- ---- the tests of a file
 

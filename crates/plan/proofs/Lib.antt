@@ -1,4 +1,5 @@
 pub mod Back
+pub mod Bars
 pub mod BothWays
 pub mod Bytes
 pub mod Connections

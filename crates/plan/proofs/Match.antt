@@ -12,7 +12,7 @@ use borrow.Author.Tests.{lt-ltb, le-ltb}
 use Rattle.lists.specs.Table.{table, joined}
 use Rattle.lists.proofs.Tables.{getD-table, is-table, same-joined}
 use Rattle.plan.specs.Block.{block}
-use Rattle.plan.specs.Fields.{roleIn, portsIn, sourceIn, handlerIn, entry, nobody, peerNumber, joins, sourcesFit}
+use Rattle.plan.specs.Fields.{roleIn, portsIn, sourceIn, handlerIn, entry, nobody, peerNumber, barIn, joins, sourcesFit}
 use Rattle.plan.specs.Refusals.{deviceBlock, countIn, masterIn, eventsIn, sourceOf, portsOf, peerOf}
 use Rattle.plan.specs.Header.{headerIn, headerOf, headerFits, coreWith}
 use Rattle.plan.specs.Reading.{column, planOf}
@@ -38,7 +38,8 @@ pub record Match (plan : Plan) (file : List ℕ) : Type 0 where
   pub says : (d : ℕ) → d < 32 →
       let s = deviceBlock file d in
       let of = ofDevice (countIn file) d in
-      Says (plan .core) (plan .peers) d (of (roleIn s) 0) (of (portsIn s) 0) (of (sourceIn s) 0) (of (handlerIn s) 0) (λ p. of (peerNumber s p) nobody) (λ p. of (entry s p 2) 0)
+      Says (plan .core) (plan .peers) (plan .barred) d (of (roleIn s) 0) (of (portsIn s) 0) (of (sourceIn s) 0) (of (handlerIn s) 0) (λ p. of (peerNumber s p) nobody)
+      (λ p. of (entry s p 2) 0) (λ j. of (barIn s j) 0)
 
 -- ---- the plan that is read from a file matches it
 
@@ -56,6 +57,12 @@ module _ (n : ℕ) (f : ℕ → ℕ → ℕ) (d : ℕ) (h : d < 32) (p : ℕ) (l
   peers-at : peerAt (table 32 (λ e. table 8 (λ q. ofDevice n e (f e q) nobody))) d p ≡ ofDevice n d (f d p) nobody
   peers-at = ap (λ r. at r p) (getD-table 32 _ d [] h) ∙ getD-table 8 _ p 0 l
 
+bars-at : (n : ℕ) (f : ℕ → ℕ → ℕ) (d : ℕ) → d < 32 → (j : ℕ) → j < 16 → at (table 512 (λ i. ofDevice n (i / 16) (f (i / 16) (i % 16)) 0)) (16 * d + j) ≡ ofDevice n d (f d j) 0
+bars-at n f d h j l =
+    let a : (16 * d + j) / 16 ≡ d = omega arith in
+    let b : (16 * d + j) % 16 ≡ j = omega arith in
+    getD-table 512 _ (16 * d + j) 0 (omega arith) ∙ rw (a, b)
+
 pub match-of : (file : List ℕ) → Match (planOf file) file
 unfolding planOf
 match-of file =
@@ -69,6 +76,7 @@ match-of file =
             handler = column-at (countIn file) (λ e. handlerIn (deviceBlock file e)) d h;
             peer = peers-at (countIn file) (peerOf file) d h;
             permissions = permissions-at (countIn file) (λ e q. entry (deviceBlock file e) q 2) d h;
+            bars = bars-at (countIn file) (λ e j. barIn (deviceBlock file e) j) d h;
           };
     }
 
@@ -113,6 +121,13 @@ module _ (plan : Plan) (file : List ℕ) (m : Match plan file) where
       let k : q ≡ 8 * (q / 8) + q % 8 = omega arith in
       ap (at (plan .core .permissions)) k ∙ m .says (q / 8) (omega arith) .permissions (q % 8) (omega arith))
 
+  is-barred : length (plan .barred) ≡ 512 → plan .barred ≡ table 512 (λ i. ofDevice (countIn file) (i / 16) (barIn (deviceBlock file (i / 16)) (i % 16)) 0)
+  is-barred e =
+      is-table 512 _ (plan .barred) 0 e
+      (λ i h.
+      let k : i ≡ 16 * (i / 16) + i % 16 = omega arith in
+      ap (at (plan .barred)) k ∙ m .says (i / 16) (omega arith) .bars (i % 16) (omega arith))
+
   -- it is the plan that is read from the file
   pub is-plan : Shaped plan → plan ≡ planOf file
   unfolding planOf
@@ -125,10 +140,11 @@ module _ (plan : Plan) (file : List ℕ) (m : Match plan file) where
       let handler = is-column n _ (plan .core .handler) (s .handler .long) (λ d h. m .says d h .handler) in
       let permissions = is-permissions (s .permissions .long) in
       let peers = is-table 32 _ (plan .peers) [] (s .rows) (λ d h. is-table 8 _ (getD (plan .peers) d []) 0 (s .row d h .long) (m .says d h .peer)) in
-      λ i. record { core = coreWith (header i) (role i) (ports i) (source i) (handler i) (permissions i); peers = peers i }
+      let barred = is-barred (s .barred .long) in
+      λ i. record { core = coreWith (header i) (role i) (ports i) (source i) (handler i) (permissions i); peers = peers i; barred = barred i }
 
   module _ (few : devices ≤ 32) where
-    match-row : (d : ℕ) → d < devices → Row (plan .core) (plan .peers) d (deviceBlock file d)
+    match-row : (d : ℕ) → d < devices → Row (plan .core) (plan .peers) (plan .barred) d (deviceBlock file d)
     match-row d h = rw (lt-ltb d (countIn file) (omega (arith, same-count))) at (m .says d (omega arith))
 
     -- its connections are good where those of the file are
@@ -152,11 +168,11 @@ module _ (plan : Plan) (file : List ℕ) (m : Match plan file) where
     device-good : (d : ℕ) → d < devices → GoodDevice devices master d (deviceBlock file d)
     device-good = rw (same-count, same-master) (g .device)
 
-    row-good : (d : ℕ) → d < 32 → rowRight (plan .core) (plan .peers) d ≡ true
+    row-good : (d : ℕ) → d < 32 → rowRight (plan .core) (plan .peers) (plan .barred) d ≡ true
     row-good d k =
         dite (decLt d devices)
-        (λ h. row-right (plan .core) (plan .peers) d few-devices (deviceBlock file d) h (match-row few-devices d h) (device-good d h))
-        (λ h. absent-right (plan .core) (plan .peers) d few-devices (omega arith) (rw (le-ltb d (countIn file) (omega (arith, same-count))) at (m .says d k)))
+        (λ h. row-right (plan .core) (plan .peers) (plan .barred) d few-devices (deviceBlock file d) h (match-row few-devices d h) (device-good d h))
+        (λ h. absent-right (plan .core) (plan .peers) (plan .barred) d few-devices (omega arith) (rw (le-ltb d (countIn file) (omega (arith, same-count))) at (m .says d k)))
 
     -- the plan is right in memory
     pub match-right : right plan ≡ true
@@ -178,6 +194,6 @@ module _ (plan : Plan) (file : List ℕ) (m : Match plan file) where
         ap₂ (λ a b. a ++ b)
         (read-header (plan .core) (block file 0) (length-block file 0 (omega arith)) (block-bytes file 0 small) (m .header) (g .header))
         (same-joined devices _ (deviceBlock file)
-        (λ d h. read-device (plan .core) (plan .peers) d few-devices (deviceBlock file d) h (length-block file (1 + d) (omega arith))
+        (λ d h. read-device (plan .core) (plan .peers) (plan .barred) d few-devices (deviceBlock file d) h (length-block file (1 + d) (omega arith))
         (block-bytes file (1 + d) small) (match-row few-devices d h) (device-good d h)))
         ∙ sym (whole-file file devices n)

@@ -54,4 +54,5 @@ owned plan vs is =
       permissions = field w8 256 (c .permissions) _ (core .1 .1 .1 .1 .1 .1 .1 .1 .0);
       rows = long;
       row = λ d l. row (plan .peers) (peers .0) (peers .1 .1) d (omega arith);
+      barred = field w32 512 (plan .barred) _ (parts .1 .1 .0);
     }

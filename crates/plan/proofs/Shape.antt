@@ -21,3 +21,4 @@ pub record Shaped (plan : Plan) : Type 0 where
   pub permissions : Numbers (plan .core .permissions) 256 256
   pub rows : length (plan .peers) ≡ 32
   pub row : (d : ℕ) → d < 32 → Numbers (getD (plan .peers) d []) 8 65536
+  pub barred : Numbers (plan .barred) 512 4294967296

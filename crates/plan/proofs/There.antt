@@ -33,7 +33,7 @@ use Rattle.plan.proofs.Match.{Match, is-plan, match-joins, match-source
 pub record Right (plan : Plan) : Type 0 where
   pub header : headerFits (headerOf (plan .core)) ≡ true
   pub loads : loadsFit (at (plan .core .loads) 1) (at (plan .core .loads) 0) ≡ true
-  pub rows : (d : ℕ) → d < 32 → rowRight (plan .core) (plan .peers) d ≡ true
+  pub rows : (d : ℕ) → d < 32 → rowRight (plan .core) (plan .peers) (plan .barred) d ≡ true
   pub joined : (d : ℕ) → d < plan .core .devices → (p : ℕ) → p < 8 → joins (at (plan .core .ports)) (peerAt (plan .peers)) d p ≡ true
   pub sources : sourcesFit (plan .core .events) (at (plan .core .source)) (plan .core .devices) ≡ true
 
@@ -51,13 +51,13 @@ module _ (plan : Plan) where
   head = blockOf (headerHoldings (headerOf (plan .core)))
 
   abbrev device : ℕ → List ℕ
-  device d = blockOf (deviceHoldings (plan .core) (plan .peers) d)
+  device d = blockOf (deviceHoldings (plan .core) (plan .peers) (plan .barred) d)
 
   length-head : length head ≡ 512
   length-head = length-made (headerHoldings (headerOf (plan .core)))
 
   length-row : (d : ℕ) → length (device d) ≡ 512
-  length-row d = length-made (deviceHoldings (plan .core) (plan .peers) d)
+  length-row d = length-made (deviceHoldings (plan .core) (plan .peers) (plan .barred) d)
 
   pub length-file : length (fileOf plan) ≡ 512 * (1 + plan .core .devices)
   unfolding fileOf
@@ -76,7 +76,7 @@ module _ (plan : Plan) where
   unfolding fileOf
   file-bytes =
       bytes-append head (joined (plan .core .devices) device) (made-bytes (headerHoldings (headerOf (plan .core))))
-      (bytes-joined (plan .core .devices) device (λ d h. made-bytes (deviceHoldings (plan .core) (plan .peers) d)))
+      (bytes-joined (plan .core .devices) device (λ d h. made-bytes (deviceHoldings (plan .core) (plan .peers) (plan .barred) d)))
 
   -- ---- of a right plan
 
@@ -84,8 +84,8 @@ module _ (plan : Plan) where
     few : plan .core .devices ≤ 32
     few = devices-fit (plan .core .devices) (header-says (headerOf (plan .core)) (r .header) .0) .1
 
-    small : (d : ℕ) → (at (plan .core .role) d < 256) × (at (plan .core .ports) d < 256) × (at (plan .core .source) d < 4294967296) × (at (plan .core .handler) d < 4294967296)
-    small d = (s .role .small d, s .ports .small d, s .source .small d, s .handler .small d)
+    small : (d : ℕ) → (at (plan .core .role) d < 256) × (at (plan .core .ports) d < 256) × (at (plan .core .source) d < 4294967296) × (at (plan .core .handler) d < 4294967296) × ((i : ℕ) → at (plan .barred) i < 4294967296)
+    small d = (s .role .small d, s .ports .small d, s .source .small d, s .handler .small d, s .barred .small)
 
     header-read : headerOf (plan .core) ≡ headerIn (block (fileOf plan) 0)
     header-read = written-header (plan .core) (s .events) (s .loads) (r .header) (block (fileOf plan) 0) head-block
@@ -101,12 +101,12 @@ module _ (plan : Plan) where
         record {
           header = header-read;
           says = λ d k. dite (decLt d (plan .core .devices))
-              (λ h. rw (lt-ltb d (countIn (fileOf plan)) (omega (arith, count))) (written-row (plan .core) (plan .peers) d few (deviceBlock (fileOf plan) d) h (r .rows d k) (small d) (row-block d h)))
-              (λ h. rw (le-ltb d (countIn (fileOf plan)) (omega (arith, count))) (right-absent (plan .core) (plan .peers) d few (omega arith) (r .rows d k)));
+              (λ h. rw (lt-ltb d (countIn (fileOf plan)) (omega (arith, count))) (written-row (plan .core) (plan .peers) (plan .barred) d few (deviceBlock (fileOf plan) d) h (r .rows d k) (small d) (row-block d h)))
+              (λ h. rw (le-ltb d (countIn (fileOf plan)) (omega (arith, count))) (right-absent (plan .core) (plan .peers) (plan .barred) d few (omega arith) (r .rows d k)));
         }
 
     devices-good : (d : ℕ) → d < plan .core .devices → GoodDevice (plan .core .devices) (plan .core .master) d (deviceBlock (fileOf plan) d)
-    devices-good d h = written-device (plan .core) (plan .peers) d few (deviceBlock (fileOf plan) d) h (r .rows d (omega (arith, few))) (small d) (row-block d h)
+    devices-good d h = written-device (plan .core) (plan .peers) (plan .barred) d few (deviceBlock (fileOf plan) d) h (r .rows d (omega (arith, few))) (small d) (row-block d h)
 
     good-file : Good (fileOf plan)
     good-file =

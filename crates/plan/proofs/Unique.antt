@@ -15,10 +15,13 @@ use Rattle.plan.specs.declared.Core.{Core}
 use Rattle.plan.specs.declared.Header.{Header}
 use Rattle.plan.specs.declared.Plan.{Plan}
 
-pub whole-unique : (core : Core) (peers : List (List ℕ)) (r s : Plan)
-    → (r .core ≡ core) × (r .peers ≡ peers) → (s .core ≡ core) × (s .peers ≡ peers) → r ≡ s
-whole-unique core peers r s p q =
-    ap₂ (λ (c : Core) (ps : List (List ℕ)). record { core = c; peers = ps }) (p .0 ∙ sym (q .0)) (p .1 ∙ sym (q .1))
+pub whole-unique : (core : Core) (peers : List (List ℕ)) (barred : List ℕ) (r s : Plan)
+    → (r .core ≡ core) × (r .peers ≡ peers) × (r .barred ≡ barred) → (s .core ≡ core) × (s .peers ≡ peers) × (s .barred ≡ barred) → r ≡ s
+whole-unique core peers barred r s p q =
+    let a = p .0 ∙ sym (q .0) in
+    let b = p .1 ∙ sym (q .1) in
+    let c = p .2 ∙ sym (q .2) in
+    λ i. record { core = a i; peers = b i; barred = c i }
 
 pub peers-of-unique : (plan : Plan) (r s : List (List ℕ)) → r ≡ plan .peers → s ≡ plan .peers → r ≡ s
 peers-of-unique plan r s p q = p ∙ sym q

@@ -44,12 +44,16 @@ entryField p j = field (12 + 4 * p + j) 1
 abbrev pub entryFields : ℕ → List Field
 entryFields p = entryField p 0 ∷ entryField p 1 ∷ entryField p 2 ∷ entryField p 3 ∷ []
 
+-- what port p bars of codes of a kind, interrupts (0) or acknowledges (1), is mask j = 2 x p + kind
+abbrev pub barField : ℕ → Field
+barField j = field (44 + 4 * j) 4
+
 -- all of them, by place
 abbrev pub ownFields : List Field
 ownFields = kindField ∷ numberField ∷ roleField ∷ portsField ∷ sourceField ∷ handlerField ∷ []
 
 unfoldable pub deviceFields : List Field
-deviceFields = ownFields ++ joined 8 entryFields
+deviceFields = ownFields ++ joined 8 entryFields ++ joined 16 (λ j. barField j ∷ [])
 
 -- what they hold
 abbrev pub roleIn : List ℕ → ℕ
@@ -66,6 +70,9 @@ handlerIn s = numberIn s handlerField
 
 abbrev pub entry : List ℕ → ℕ → ℕ → ℕ
 entry s p j = numberIn s (entryField p j)
+
+abbrev pub barIn : List ℕ → ℕ → ℕ
+barIn s j = numberIn s (barField j)
 
 -- a node (0) has one or two ports, a router (1) one to eight; there is no other role
 unfoldable pub portsFit : ℕ → ℕ → Bool
@@ -91,6 +98,10 @@ connected n s p = ltb (entry s p 0) n && ltb (entry s p 1) 8 && leb (entry s p 2
 unfoldable pub entryFits : ℕ → List ℕ → ℕ → Bool
 entryFits n s p = cond (ltb p (portsIn s)) (connected n s p || unconnected s p) (unconnected s p)
 
+-- a router's port may bar anything; a node's port, and one that is absent, bars nothing
+unfoldable pub barFits : ℕ → ℕ → ℕ → ℕ → Bool
+barFits role ports j mask = (eqb role 1 && ltb (j / 2) ports) || eqb mask 0
+
 -- those of device d, one of n
 unfoldable pub deviceFits : ℕ → ℕ → ℕ → List ℕ → Bool
 deviceFits n master d s =
@@ -98,6 +109,7 @@ deviceFits n master d s =
     && masksFit (roleIn s) (sourceIn s) (handlerIn s)
     && masterIsNode master d (roleIn s)
     && every 8 (entryFits n s)
+    && every 16 (λ j. barFits (roleIn s) (portsIn s) j (barIn s j))
 
 -- ---- sources
 

@@ -7,7 +7,7 @@ use lib.Dec.{eqb, ltb}
 use lib.ListN.{getD, replicate}
 use Rattle.lists.specs.Table.{table}
 use Rattle.plan.specs.Block.{block}
-use Rattle.plan.specs.Fields.{roleIn, handlerIn, entry, nobody}
+use Rattle.plan.specs.Fields.{roleIn, handlerIn, entry, barIn, nobody}
 use Rattle.plan.specs.Header.{headerIn, noHeader, coreWith}
 use Rattle.plan.specs.Refusals.{accepts, verdict, countIn, deviceBlock, sourceOf, portsOf, peerOf}
 use Rattle.plan.specs.declared.Plan.{Plan}
@@ -19,7 +19,8 @@ use Rattle.plan.specs.declared.Read.{Read}
 unfoldable pub column : ℕ → (ℕ → ℕ) → List ℕ
 column n f = table 32 (λ d. cond (ltb d n) (f d) 0)
 
--- permissions stand by port 8 x d + p; peers by device and port. Absent devices have 0 and no peers; the entries of absent ports say the same
+-- permissions stand by port q = 8 x d + p; peers by device and port; what is barred by 2 x q + kind. Absent devices have 0 and no peers; the
+-- entries and masks of absent ports say the same
 unfoldable pub planOf : List ℕ → Plan
 planOf file =
     let n = countIn file in
@@ -32,6 +33,7 @@ planOf file =
           (column n (λ d. handlerIn (deviceBlock file d)))
           (table 256 (λ q. cond (ltb (q / 8) n) (entry (deviceBlock file (q / 8)) (q % 8) 2) 0));
       peers = table 32 (λ d. table 8 (λ p. cond (ltb d n) (peerOf file d p) nobody));
+      barred = table 512 (λ i. cond (ltb (i / 16) n) (barIn (deviceBlock file (i / 16)) (i % 16)) 0);
     }
 
 -- all zeros, which no file holds
@@ -40,6 +42,7 @@ zeros =
     record {
       core = coreWith noHeader (replicate 32 0) (replicate 32 0) (replicate 32 0) (replicate 32 0) (replicate 256 0);
       peers = replicate 32 (replicate 8 0);
+      barred = replicate 512 0;
     }
 
 -- ---- accepted files, and the plans that they hold

@@ -1,6 +1,8 @@
 // What the numbers of a plan may be, whether they come from a file or stand in memory.
 ghost use mathlib.Core.Path.{_≡_};
 ghost use Rattle.plan.specs.Fields.{devicesFit, loadsFit, portsFit, masksFit, masterIsNode};
+ghost use Rattle.plan.specs.inner.Memory.{freeMasks};
+ghost use Prim.Native.Nat.{_≤_};
 
 pub fn devices_fit(n: usize) -> bool
     ensures { λ r. ⌜ r ≡ devicesFit n ⌝ }
@@ -63,4 +65,17 @@ pub fn master_is_node(master: u8, d: usize, role: u8) -> bool
         return true;
     }
     master as usize - 1 != d
+}
+
+// How many of the 16 masks of a device may be any: two for each port of a router, and none of a node's.
+pub fn free_masks(role: u8, ports: u8) -> usize
+    ensures { λ r. ⌜ (r ≡ freeMasks role ports) × (r ≤ 16) ⌝ }
+{
+    if role != 1 {
+        return 0;
+    }
+    if 8 < ports {
+        return 16;
+    }
+    2 * ports as usize
 }

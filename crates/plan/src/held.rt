@@ -2,10 +2,11 @@
 ghost use mathlib.Core.Path.{_≡_};
 ghost use mathlib.Core.List.{[]};
 ghost use Prim.Native.Nat.{_+_, _*_, _<_, _≤_};
-ghost use lib.ListN.{getD};
+ghost use lib.ListN.{length, getD};
 ghost use Rattle.lists.specs.Table.{every};
 ghost use Rattle.answers.specs.Decides.{Decides};
 ghost use Rattle.plan.specs.Reading.{Held};
+ghost use Rattle.plan.specs.Fields.{barFits};
 ghost use Rattle.plan.specs.inner.Memory.{portRight, deviceRight, rowRight};
 use crate::Core;
 use crate::Plan;
@@ -22,7 +23,7 @@ pub fn is_held(plan: Plan) -> bool
         return false;
     }
     let peers = crate::peers_of(plan);
-    if !rows_right(core, peers) {
+    if !rows_right(core, peers, &plan.barred) {
         return false;
     }
     let ports = core.ports;
@@ -34,9 +35,9 @@ pub fn is_held(plan: Plan) -> bool
 }
 
 // Are the numbers and the ports of all 32 devices right, those of absent ones too?
-fn rows_right(core: Core, peers: [[u16; 8]; 32]) -> bool
-    requires { ⌜ core .devices ≤ 32 ⌝ }
-    ensures { λ r. ⌜ r ≡ every 32 (rowRight core peers) ⌝ }
+fn rows_right(core: Core, peers: [[u16; 8]; 32], barred: &[u32]) -> bool
+    requires { ⌜ (core .devices ≤ 32) × (length (now barred) ≡ 512) ⌝ }
+    ensures { λ r. ⌜ r ≡ every 32 (rowRight core peers (now (barred .entry))) ⌝ }
 {
     for d in 0..32 {
         if !device_right(
@@ -51,6 +52,9 @@ fn rows_right(core: Core, peers: [[u16; 8]; 32]) -> bool
             return false;
         }
         if !ports_right(core.devices, core.ports[d], d, &core.permissions, &peers) {
+            return false;
+        }
+        if !bars_right(core.role[d], core.ports[d], d, barred) {
             return false;
         }
     }
@@ -121,4 +125,14 @@ fn port_right(n: usize, ports: u8, p: usize, peer: u16, permissions: u8) -> bool
         return false;
     }
     permissions == 0
+}
+
+// Does device d, of which these are the role and the number of ports, bar nothing but at ports that may?
+fn bars_right(role: u8, ports: u8, d: usize, barred: &[u32]) -> bool
+    requires { ⌜ (d < 32) × (length (now barred) ≡ 512) ⌝ }
+    ensures { λ r. ⌜ r ≡ every 16 (λ j. barFits role ports j (getD (now (barred .entry)) (16 * d + j) 0)) ⌝ }
+{
+    let from = 16 * d + fields::free_masks(role, ports);
+    let to = 16 * d + 16;
+    areas::zeros(&barred[from..to])
 }

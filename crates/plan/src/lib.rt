@@ -9,6 +9,7 @@ mod joins;
 mod sources;
 
 pub use fields::devices_fit;
+pub use fields::free_masks;
 pub use fields::loads_fit;
 pub use fields::masks_fit;
 pub use fields::master_is_node;
@@ -43,10 +44,12 @@ pub struct Header {
 // The number for no peer.
 pub const NOBODY: u16 = 256;
 
-// The whole plan. A peer is 8 x its device + its port, or nobody.
+// The whole plan. A peer is 8 x its device + its port, or nobody. What port q bars of codes of a kind is
+// a set, at 2 x q + kind; it is no part of the core, so that who copies that does not copy this too.
 pub struct Plan {
     pub core: Core,
     pub peers: [[u16; 8]; 32],
+    pub barred: [u32; 512],
 }
 
 // What the reader says of a file: a number, and the block that it is at; 0 and 0 where nothing is
@@ -63,14 +66,15 @@ pub struct Read {
     pub plan: Plan,
 }
 
-// A plan of its two parts. An array of arrays as a field costs a proof by hand, so only this
+// A plan of its three parts. An array of arrays as a field costs a proof by hand, so only this
 // function and the next one name it.
-pub fn whole(core: Core, peers: [[u16; 8]; 32]) -> Plan
-    ensures { λ r. ⌜ (r .core ≡ core) × (r .peers ≡ peers) ⌝ }
+pub fn whole(core: Core, peers: [[u16; 8]; 32], barred: [u32; 512]) -> Plan
+    ensures { λ r. ⌜ (r .core ≡ core) × (r .peers ≡ peers) × (r .barred ≡ barred) ⌝ }
 {
     Plan {
         core: core,
         peers: peers,
+        barred: barred,
     }
 }
 
@@ -130,7 +134,7 @@ pub fn blank() -> Plan
         loads: [0; 2],
     };
     let core = core_with(header, [0; 32], [0; 32], [0; 32], [0; 32], [0; 256]);
-    whole(core, [[0; 8]; 32])
+    whole(core, [[0; 8]; 32], [0; 512])
 }
 
 // May block 0 hold these?

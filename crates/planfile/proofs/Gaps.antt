@@ -19,13 +19,13 @@ abbrev pub gapsZero : ℕ → List Field → List ℕ → Bool
 gapsZero from [] s = zerosIn from 510 s
 gapsZero from (f ∷ fields) s = cond (ltb from (f .place)) (zerosIn from (f .place) s && gapsZero (f .place + f .width) fields s) (gapsZero (f .place + f .width) fields s)
 
-zeros-at : (from to : ℕ) (s : List ℕ) → zerosIn from to s ≡ true → (i : ℕ) → from ≤ i → i < to → byte s i ≡ 0
+pub zeros-at : (from to : ℕ) (s : List ℕ) → zerosIn from to s ≡ true → (i : ℕ) → from ≤ i → i < to → byte s i ≡ 0
 unfolding zerosIn
 zeros-at from to s z i a b =
     let e : from + (i - from) ≡ i = omega arith in
     ap (byte s) (sym e) ∙ (simp facts at z) (i - from) (omega arith)
 
-zeros-all : (from to : ℕ) (s : List ℕ) → ((i : ℕ) → from ≤ i → i < to → byte s i ≡ 0) → zerosIn from to s ≡ true
+pub zeros-all : (from to : ℕ) (s : List ℕ) → ((i : ℕ) → from ≤ i → i < to → byte s i ≡ 0) → zerosIn from to s ≡ true
 unfolding zerosIn
 zeros-all from to s h = simp facts (λ i l. h (from + i) (omega arith) (omega arith))
 

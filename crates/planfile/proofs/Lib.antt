@@ -1,3 +1,5 @@
+pub mod Bars
+pub mod Entered
 pub mod Gaps
 pub mod Marked
 pub mod Numbers

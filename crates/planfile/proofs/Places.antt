@@ -8,7 +8,7 @@ use lib.Dec.{eqb}
 use lib.ListN.{drop}
 use lib.Seq.{getD-take, getD-drop}
 use Rattle.plan.specs.Block.{block, byte, numberAt}
-use Rattle.plan.specs.Fields.{entry, nobody, peerNumber}
+use Rattle.plan.specs.Fields.{entry, barIn, nobody, peerNumber}
 use Rattle.plan.specs.Refusals.{deviceBlock, countIn, masterIn}
 use Rattle.plan.proofs.Bytes.{number-same}
 
@@ -22,6 +22,9 @@ module _ (file : List ℕ) (b : ℕ) where
 
   pub entry-in : (p j : ℕ) → p < 8 → j < 4 → entry (block file b) p j ≡ byte file (512 * b + 12 + 4 * p + j)
   entry-in p j h g = byte-in (12 + 4 * p + j) (omega arith) ∙ ap (byte file) (omega arith)
+
+  pub bar-in : (j : ℕ) → j < 16 → barIn (block file b) j ≡ numberAt file (512 * b + 44 + 4 * j) 4
+  bar-in j h = number-in (44 + 4 * j) 4 (omega arith) ∙ ap (λ i. numberAt file i 4) (omega arith)
 
 -- the peer of port p of device d, of the two bytes that say it
 pub peer-in : (file : List ℕ) (d p x y : ℕ) → p < 8 → x ≡ byte file (512 * (1 + d) + 12 + 4 * p + 0) → y ≡ byte file (512 * (1 + d) + 12 + 4 * p + 1)

@@ -1,16 +1,16 @@
 -- What the reader answers, of what the scan, the search of the connections and the test of the sources say.
 use mathlib.Core.Path.{_≡_, refl, sym, ap, _∙_}
-use mathlib.Core.Bool.{Bool, true, false, _&&_}
+use mathlib.Core.Bool.{Bool, true, false}
 use mathlib.Core.List.{List, [], _∷_, _++_}
 use mathlib.Core.Logic.{_⊎_, inl, inr}
 use Prim.Native.Nat.{ℕ, _+_, _*_, _≤_, _<_, min}
 use native.Mathlib.Omega.{arith}
 use lib.ListN.{length, getD}
 use borrow.Author.Tests.{ne-eqb, eqb-true}
-use Rattle.lists.specs.Table.{joined, every}
-use Rattle.lists.proofs.Tests.{and-right, every-at}
+use Rattle.lists.specs.Table.{joined}
+use Rattle.lists.proofs.Facts.{facts}
 use Rattle.plan.specs.Block.{block}
-use Rattle.plan.specs.Fields.{portsFit, masksFit, masterIsNode, roleIn, portsIn, sourceIn, handlerIn, entryFits, deviceFits, sourcesFit}
+use Rattle.plan.specs.Fields.{deviceFits, sourcesFit}
 use Rattle.plan.specs.Refusals.{Test, test, accepts, first, deviceTests, joinTests, deviceBlock, countIn, masterIn, eventsIn, sourceOf, portsOf, peerOf, tests, verdict}
 use Rattle.plan.specs.declared.Verdict.{Verdict}
 use Rattle.plan.specs.Reading.{planOf, zeros, reads}
@@ -96,8 +96,7 @@ module _ (file : List ℕ) where
         let s = deviceBlock file d in
         let n = countIn file in
         let all = all-at (ofDevice file) n (all-back (long file ++ header file ++ counted file) (devices file) p) d h in
-        let rest = portsFit (roleIn s) (portsIn s) && masksFit (roleIn s) (sourceIn s) (handlerIn s) && masterIsNode (masterIn file) d (roleIn s) in
-        entry-leads n s q (every-at 8 (entryFits n s) (and-right rest (every 8 (entryFits n s)) (all .1 .1 .0)) q l)
+        entry-leads n s q ((simp facts at (all .1 .1 .0)) .0 .1 q l)
 
     -- the connections are those of the plan
     bad-in : badIn (planOf file .core) (planOf file .peers) ≡ first connections

@@ -8,7 +8,7 @@ use lib.ListN.{length, take, length-append}
 use lib.Seq.{take-at, take-all, length-take-le}
 use Rattle.lists.specs.Table.{joined}
 use Rattle.plan.specs.Header.{headerOf}
-use Rattle.plan.specs.inner.File.{Holding, filled, cleared, sealed, blockOf, headerHoldings, ownHoldings, entryHoldings, deviceHoldings, fileOf}
+use Rattle.plan.specs.inner.File.{Holding, filled, cleared, sealed, blockOf, headerHoldings, ownHoldings, entryHoldings, barHoldings, deviceHoldings, fileOf}
 use Rattle.plan.specs.inner.Memory.{at, peerAt}
 use Rattle.plan.specs.declared.Core.{Core}
 use Rattle.plan.proofs.Holdings.{filled-append, length-made}
@@ -16,33 +16,37 @@ use Rattle.plan.proofs.Holdings.{filled-append, length-made}
 abbrev headerBlock : Core → List ℕ
 headerBlock core = blockOf (headerHoldings (headerOf core))
 
-abbrev deviceBlock : Core → List (List ℕ) → ℕ → List ℕ
-deviceBlock core peers d = blockOf (deviceHoldings core peers d)
+abbrev deviceBlock : Core → List (List ℕ) → List ℕ → ℕ → List ℕ
+deviceBlock core peers barred d = blockOf (deviceHoldings core peers barred d)
 
--- a block that is cleared, given a device's own numbers and its entries, and sealed
-module _ (core : Core) (peers : List (List ℕ)) (d : ℕ) where
+-- a block that is cleared, given a device's own numbers, its entries and what they bar, and sealed
+module _ (core : Core) (peers : List (List ℕ)) (barred : List ℕ) (d : ℕ) where
   abbrev own : List Holding
   own = ownHoldings d (at (core .role) d) (at (core .ports) d) (at (core .source) d) (at (core .handler) d)
 
   abbrev entries : List Holding
   entries = joined 8 (λ p. entryHoldings p (peerAt peers d p) (at (core .permissions) (8 * d + p)))
 
-  pub device-made : {clean first second after : List ℕ} → clean ≡ cleared → first ≡ filled clean own → second ≡ filled first entries → after ≡ sealed second
-      → after ≡ deviceBlock core peers d
+  abbrev bars : List Holding
+  bars = joined 16 (λ j. barHoldings j (at barred (16 * d + j)))
+
+  pub device-made : {clean first second third after : List ℕ} → clean ≡ cleared → first ≡ filled clean own → second ≡ filled first entries → third ≡ filled second bars
+      → after ≡ sealed third → after ≡ deviceBlock core peers barred d
   unfolding deviceHoldings
-  device-made z p q r =
-      r ∙ ap sealed (q ∙ ap (λ t. filled t entries) (p ∙ ap (λ t. filled t own) z) ∙ sym (filled-append cleared own entries))
+  device-made z p q r s =
+      let entered = q ∙ ap (λ t. filled t entries) (p ∙ ap (λ t. filled t own) z) ∙ sym (filled-append cleared own entries) in
+      s ∙ ap sealed (r ∙ ap (λ t. filled t bars) entered ∙ sym (filled-append cleared (own ++ entries) bars))
 
 -- the first d devices' blocks stand behind block 0
-pub record Blocks (core : Core) (peers : List (List ℕ)) (area : List ℕ) (d : ℕ) : Type 0 where
+pub record Blocks (core : Core) (peers : List (List ℕ)) (barred area : List ℕ) (d : ℕ) : Type 0 where
   pub within : d ≤ core .devices
   pub long : length area ≡ 512 * (1 + core .devices)
-  pub same : take (512 * (1 + d)) area ≡ headerBlock core ++ joined d (λ k. deviceBlock core peers k)
+  pub same : take (512 * (1 + d)) area ≡ headerBlock core ++ joined d (λ k. deviceBlock core peers barred k)
 
-module _ {core : Core} {peers : List (List ℕ)} where
+module _ {core : Core} {peers : List (List ℕ)} {barred : List ℕ} where
   -- block 0 alone
   pub first-block : {area : List ℕ} (part post : List ℕ) → length area ≡ 512 * (1 + core .devices) → part ≡ headerBlock core
-      → area ≡ part ++ post → Blocks core peers area 0
+      → area ≡ part ++ post → Blocks core peers barred area 0
   unfolding joined
   first-block {area} part post long p e =
       record {
@@ -52,14 +56,14 @@ module _ {core : Core} {peers : List (List ℕ)} where
       }
 
   -- a block more
-  pub next-block : {area after : List ℕ} {d : ℕ} (part post : List ℕ) → Blocks core peers area d → d < core .devices
-      → part ≡ deviceBlock core peers d → length after ≡ length area → after ≡ take (512 * (1 + d)) area ++ (part ++ post)
-      → Blocks core peers after (d + 1)
+  pub next-block : {area after : List ℕ} {d : ℕ} (part post : List ℕ) → Blocks core peers barred area d → d < core .devices
+      → part ≡ deviceBlock core peers barred d → length after ≡ length area → after ≡ take (512 * (1 + d)) area ++ (part ++ post)
+      → Blocks core peers barred after (d + 1)
   unfolding joined
   next-block {area} {after} {d} part post v h p long e =
       let front : length (take (512 * (1 + d)) area) ≡ 512 * (1 + d) = length-take-le (512 * (1 + d)) area (omega (arith, v .long)) in
       let size : length (take (512 * (1 + d)) area ++ part) ≡ 512 * (1 + (d + 1)) =
-      length-append (take (512 * (1 + d)) area) part ∙ omega (arith, front, ap length p, length-made (deviceHoldings core peers d))
+      length-append (take (512 * (1 + d)) area) part ∙ omega (arith, front, ap length p, length-made (deviceHoldings core peers barred d))
       in
       record {
         within = omega arith;
@@ -71,9 +75,9 @@ module _ {core : Core} {peers : List (List ℕ)} where
       }
 
   -- all of them
-  pub whole-file : {area : List ℕ} {d : ℕ} → Blocks core peers area d → core .devices ≤ d → area ≡ fileOf (record { core = core; peers = peers })
+  pub whole-file : {area : List ℕ} {d : ℕ} → Blocks core peers barred area d → core .devices ≤ d → area ≡ fileOf (record { core = core; peers = peers; barred = barred })
   unfolding fileOf
   whole-file {area} {d} v h =
       let e : d ≡ core .devices = omega arith in
       sym (take-all (512 * (1 + d)) area (omega (arith, v .long))) ∙ v .same
-      ∙ ap (λ (k : ℕ). headerBlock core ++ joined k (λ i. deviceBlock core peers i)) e
+      ∙ ap (λ (k : ℕ). headerBlock core ++ joined k (λ i. deviceBlock core peers barred i)) e

@@ -103,3 +103,19 @@ pub(crate) fn peers_of(file: &[u8]) -> [[u16; 8]; 32]
     }
     out
 }
+
+// What every port bars, by 16 x device + 2 x port + kind.
+pub(crate) fn barred_of(file: &[u8]) -> [u32; 512]
+    requires { ⌜ (countIn (now file) ≤ 32) × (length (now file) ≡ 512 * (1 + countIn (now file))) ⌝ }
+    ensures { λ r. ⌜ r ≡ planOf (now (file .entry)) .barred ⌝ }
+{
+    let n = areas::wide(file[header::DEVICES]);
+    let mut out = [0u32; 512];
+    for i in 0..16 * n {
+        out[i] = block::four(
+            file,
+            block::BLOCK * (1 + i / 16) + device::BARS + 4 * (i % 16),
+        );
+    }
+    out
+}

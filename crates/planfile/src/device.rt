@@ -6,14 +6,15 @@ ghost use lib.Dec.{eqb};
 ghost use lib.ListN.{length};
 ghost use Rattle.lists.specs.Table.{every, joined};
 ghost use Rattle.plan.specs.Block.{restZero};
-ghost use Rattle.plan.specs.Fields.{deviceFields, unconnected as Fields·unconnected, connected as Fields·connected, entryFits, deviceFits};
+ghost use Rattle.plan.specs.Fields.{deviceFields, roleIn, portsIn, barIn, unconnected as Fields·unconnected, connected as Fields·connected, entryFits, barFits, deviceFits};
 ghost use Rattle.plan.specs.Refusals.{first, deviceTests};
-ghost use Rattle.plan.specs.inner.File.{filled, blockOf, ownHoldings, entryHoldings, deviceHoldings};
+ghost use Rattle.plan.specs.inner.File.{filled, blockOf, ownHoldings, entryHoldings, barHoldings, deviceHoldings};
 ghost use Rattle.plan.specs.inner.Memory.{at, peerAt};
 use crate::block;
 use plan::Core;
 
-// Where its own fields stand, where the entries of its ports begin, and where they end.
+// Where its own fields stand, where the entries of its ports begin, and the masks of what these bar, and
+// where those end.
 const NUMBER: usize = 1;
 
 pub(crate) const ROLE: usize = 2;
@@ -26,7 +27,9 @@ pub(crate) const HANDLER: usize = 8;
 
 pub(crate) const ENTRIES: usize = 12;
 
-const END: usize = 44;
+pub(crate) const BARS: usize = 44;
+
+const END: usize = 108;
 
 // Where the fields of an entry stand in it; the last one has to be zero.
 pub(crate) const PEER_DEVICE: usize = 0;
@@ -98,6 +101,16 @@ fn entries_fit(n: usize, block: &[u8]) -> bool
     true
 }
 
+// Do only ports that may bar anything? Their masks stand in front; behind them all is 0, which is asked of
+// bytes: a mask is 0 where its bytes are.
+fn bars_fit(block: &[u8]) -> bool
+    requires { ⌜ length (now block) ≡ 512 ⌝ }
+    ensures { λ r. let s = now (block .entry) in ⌜ r ≡ every 16 (λ j. barFits (roleIn s) (portsIn s) j (barIn s j)) ⌝ }
+{
+    let free = plan::free_masks(block[ROLE], block[PORTS]);
+    block::zeros(BARS + 4 * free, END, block)
+}
+
 // The fields of device d, one of n.
 fn fields_fit(n: usize, master: u8, d: usize, block: &[u8]) -> bool
     requires { ⌜ length (now block) ≡ 512 ⌝ }
@@ -116,7 +129,10 @@ fn fields_fit(n: usize, master: u8, d: usize, block: &[u8]) -> bool
     if !plan::master_is_node(master, d, block[ROLE]) {
         return false;
     }
-    entries_fit(n, block)
+    if !entries_fit(n, block) {
+        return false;
+    }
+    bars_fit(block)
 }
 
 // Are all bytes zero that lie in no field?
@@ -206,9 +222,25 @@ fn put_entries(d: usize, permissions: &[u8; 256], peers: &[[u16; 8]; 32], block:
     }
 }
 
-pub(crate) fn put(core: Core, peers: &[[u16; 8]; 32], d: usize, block: &mut [u8])
+// Puts what the ports of device d bar.
+fn put_bars(d: usize, barred: &[u32; 512], block: &mut [u8])
     requires { ⌜ (d < 32) × (length (now block) ≡ 512) ⌝ }
-    ensures { λ _. ⌜ now (block .exit) ≡ blockOf (deviceHoldings core (now (peers .entry)) d) ⌝ }
+    ensures { λ _. ⌜ now (block .exit) ≡ filled (now (block .entry)) (joined 16 (λ j. barHoldings j (at (now (barred .entry)) (16 * d + j)))) ⌝ }
+{
+    for j in 0..16 {
+        block::put(block, BARS + 4 * j, 4, barred[16 * d + j]);
+    }
+}
+
+pub(crate) fn put(
+    core: Core,
+    peers: &[[u16; 8]; 32],
+    barred: &[u32; 512],
+    d: usize,
+    block: &mut [u8],
+)
+    requires { ⌜ (d < 32) × (length (now block) ≡ 512) ⌝ }
+    ensures { λ _. ⌜ now (block .exit) ≡ blockOf (deviceHoldings core (now (peers .entry)) (now (barred .entry)) d) ⌝ }
 {
     block::clear(block);
     put_own(
@@ -220,5 +252,6 @@ pub(crate) fn put(core: Core, peers: &[[u16; 8]; 32], d: usize, block: &mut [u8]
         block,
     );
     put_entries(d, &core.permissions, peers, block);
+    put_bars(d, barred, block);
     block::seal(block);
 }

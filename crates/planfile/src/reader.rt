@@ -120,7 +120,8 @@ fn refused(number: u32, block: u32) -> Read
     }
 }
 
-// Reads a plan file, of any length and any bytes.
+// Reads a plan file, of any length and any bytes. What ports bar is read last, since no refusal that is
+// left needs it.
 pub fn read(file: &[u8]) -> Read
     ensures { λ r. ⌜ r ≡ reads (now (file .entry)) ⌝ }
 {
@@ -140,7 +141,8 @@ pub fn read(file: &[u8]) -> Read
     if !fits {
         return refused(27, 0);
     }
-    let plan = plan::whole(core, peers);
+    let barred = build::barred_of(file);
+    let plan = plan::whole(core, peers, barred);
     Read {
         number: 0,
         block: 0,

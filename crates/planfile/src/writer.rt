@@ -22,19 +22,19 @@ pub fn write(plan: Plan, area: &mut [u8]) -> u32
     if area.len() != block::BLOCK * (1 + core.devices) {
         return 3;
     }
-    put_file(core, plan::peers_of(plan), area);
+    put_file(core, plan::peers_of(plan), &plan.barred, area);
     0
 }
 
 // Writes the whole area.
-fn put_file(core: Core, peers: [[u16; 8]; 32], area: &mut [u8])
+fn put_file(core: Core, peers: [[u16; 8]; 32], barred: &[u32; 512], area: &mut [u8])
     requires { ⌜ (core .devices ≤ 32) × (length (now area) ≡ 512 * (1 + core .devices)) ⌝ }
-    ensures { λ _. ⌜ now (area .exit) ≡ fileOf (record { core = core; peers = peers }) ⌝ }
+    ensures { λ _. ⌜ now (area .exit) ≡ fileOf (record { core = core; peers = peers; barred = now (barred .entry) }) ⌝ }
 {
     header::put(plan::header_of(core), &mut area[0..block::BLOCK]);
     for d in 0..core.devices {
         let start = block::BLOCK * (1 + d);
         let end = start + block::BLOCK;
-        device::put(core, &peers, d, &mut area[start..end]);
+        device::put(core, &peers, barred, d, &mut area[start..end]);
     }
 }

@@ -11,7 +11,7 @@ use Rattle.plan.specs.Fields.{nobody}
 use Rattle.plan.specs.Reading.{Held}
 use Rattle.plan.specs.declared.Plan.{Plan}
 use Rattle.state.specs.State.{State, running}
-use Rattle.state.specs.Network.{devices, router, peer, permissions}
+use Rattle.state.specs.Network.{devices, router, peer, permissions, bars}
 use Rattle.state.proofs.Plans.{few, owned, joined-exists, far-end}
 use Rattle.reach.specs.Walk.{Leads, Any, WalkOver, stay, cross}
 use Rattle.reach.specs.Reach.{Reached}
@@ -25,12 +25,13 @@ module _ (plan : Plan) (s : State) (kind k q : ℕ) where
   leads? : (e : ℕ) → Dec (Leads plan s kind k q e)
   leads? e =
       map-dec
-      (λ w. record { runs = w .0; sends = w .1 .0; joined = w .1 .1 .0; receives = w .1 .1 .1 .0; there = w .1 .1 .1 .1 })
-      (λ l. (l .runs, (l .sends, (l .joined, (l .receives, l .there)))))
+      (λ w. record { runs = w .0; sends = w .1 .0; joined = w .1 .1 .0; receives = w .1 .1 .1 .0; admits = w .1 .1 .1 .1 .0; there = w .1 .1 .1 .1 .1 })
+      (λ l. (l .runs, (l .sends, (l .joined, (l .receives, (l .admits, l .there))))))
       (Dec·and (ℕ-discrete (running s q) 1)
       (Dec·and (Bool-discrete (maySend kind (permissions plan q)) true)
       (Dec·and (decLt (peer plan q) nobody)
-      (Dec·and (Bool-discrete (mayReceive kind (permissions plan (peer plan q))) true) (ℕ-discrete e (peer plan q / 8))))))
+      (Dec·and (Bool-discrete (mayReceive kind (permissions plan (peer plan q))) true)
+      (Dec·and (ℕ-discrete (bit (bars plan kind (peer plan q)) k) 0) (ℕ-discrete e (peer plan q / 8)))))))
 
   -- a port leads to a device of the plan
   leads-device : Held plan → (e : ℕ) → q < 256 → Leads plan s kind k q e → e < devices plan

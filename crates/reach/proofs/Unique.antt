@@ -49,6 +49,6 @@ module _ (plan : Plan) (s : State) (d k : ℕ) where
 pub source-refusal-unique : (n : ℕ) (sources : List ℕ) (d k x y : ℕ) → Ordered (sourceAsks n sources d k) x → Ordered (sourceAsks n sources d k) y → x ≡ y
 source-refusal-unique n sources d k = ordered-once (sourceAsks n sources d k)
 
-pub ahead-all-unique : (permissions : List ℕ) (peers : List (List ℕ)) (s : State) (k : ℕ) (x y : List ℕ) → x ≡ aheadAll permissions peers s k
-    → y ≡ aheadAll permissions peers s k → x ≡ y
-ahead-all-unique permissions peers s k x y p q = p ∙ sym q
+pub ahead-all-unique : (permissions : List ℕ) (peers : List (List ℕ)) (barred : List ℕ) (s : State) (k : ℕ) (x y : List ℕ) → x ≡ aheadAll permissions peers barred s k
+    → y ≡ aheadAll permissions peers barred s k → x ≡ y
+ahead-all-unique permissions peers barred s k x y p q = p ∙ sym q

@@ -16,11 +16,13 @@ use Rattle.reach.specs.declared.visits.Seen.{Seen}
 
 -- ---- by what stands in the arrays of a plan
 
--- for interrupts of identifier k, as in `Walk`
-module _ (permissions : List ℕ) (peers : List (List ℕ)) (s : State) (k : ℕ) where
+-- for interrupts of identifier k, as in `Walk`; what port q bars of interrupts stands at 2 x q
+module _ (permissions : List ℕ) (peers : List (List ℕ)) (barred : List ℕ) (s : State) (k : ℕ) where
   -- port q leads somewhere
   abbrev pub leads : ℕ → Bool
-  leads q = eqb (running s q) 1 && maySend 0 (getD permissions q 0) && ltb (peerIn peers q) nobody && mayReceive 0 (getD permissions (peerIn peers q) 0)
+  leads q =
+      eqb (running s q) 1 && maySend 0 (getD permissions q 0) && ltb (peerIn peers q) nobody && mayReceive 0 (getD permissions (peerIn peers q) 0)
+      && eqb (bit (getD barred (2 * peerIn peers q) 0) k) 0
 
   -- the device that port q leads to, or 32
   unfoldable pub ahead : ℕ → ℕ
@@ -63,7 +65,7 @@ module _ (role ports : List ℕ) (to : ℕ → ℕ) where
 -- ---- by a plan: from the source alone, which passes on whatever it is; no walk is as deep as 330, ten for each device and for the source
 
 abbrev pub aheadIn : Plan → State → ℕ → ℕ → ℕ
-aheadIn plan s k = ahead (plan .core .permissions) (plan .peers) s k
+aheadIn plan s k = ahead (plan .core .permissions) (plan .peers) (plan .barred) s k
 
 unfoldable pub visited : Plan → State → ℕ → ℕ → Seen
 visited plan s d k = portVisit (plan .core .role) (plan .core .ports) (aheadIn plan s k) 330 d 0 (seen (join 0 d) 0)

@@ -33,6 +33,7 @@ pub fn reach(plan: Plan, state: &[u32], device: usize, k: u32) -> Reach
         &ports,
         &core.permissions,
         &peers,
+        &plan.barred,
         state,
         k,
         device,

@@ -35,10 +35,18 @@ fn may_receive(permissions: u8) -> bool
     device::may_receive(0, permissions as u32)
 }
 
-// The device that port q leads to for k, or 32. No test asks for k: no rule tells identifiers apart.
-fn ahead(permissions: &[u8; 256], peers: &[[u16; 8]; 32], state: &[u32], k: u32, q: usize) -> usize
+// The device that port q leads to for k, or 32. The tests stand in the order in which a code meets them,
+// and the last alone asks for k.
+fn ahead(
+    permissions: &[u8; 256],
+    peers: &[[u16; 8]; 32],
+    barred: &[u32; 512],
+    state: &[u32],
+    k: u32,
+    q: usize,
+) -> usize
     requires { ⌜ (length (now state) ≡ words) × (q < 256) ⌝ }
-    ensures { λ r. ⌜ r ≡ Visits·ahead (now (permissions .entry)) (now (peers .entry)) (now (state .entry)) k q ⌝ }
+    ensures { λ r. ⌜ r ≡ Visits·ahead (now (permissions .entry)) (now (peers .entry)) (now (barred .entry)) (now (state .entry)) k q ⌝ }
 {
     if !runs(state, q) {
         return 32;
@@ -53,6 +61,9 @@ fn ahead(permissions: &[u8; 256], peers: &[[u16; 8]; 32], state: &[u32], k: u32,
     if !may_receive(permissions[far]) {
         return 32;
     }
+    if bits::get(barred[2 * far], k) != 0 {
+        return 32;
+    }
     far / 8
 }
 
@@ -60,17 +71,18 @@ fn ahead(permissions: &[u8; 256], peers: &[[u16; 8]; 32], state: &[u32], k: u32,
 pub fn ahead_all(
     permissions: &[u8; 256],
     peers: &[[u16; 8]; 32],
+    barred: &[u32; 512],
     state: &[u32],
     k: u32,
 ) -> [usize; 256]
-    ensures { λ r. ⌜ r ≡ aheadAll (now (permissions .entry)) (now (peers .entry)) (now (state .entry)) k ⌝ }
+    ensures { λ r. ⌜ r ≡ aheadAll (now (permissions .entry)) (now (peers .entry)) (now (barred .entry)) (now (state .entry)) k ⌝ }
 {
     let mut all = [32usize; 256];
     if state.len() != state::WORDS {
         return all;
     }
     for q in 0..256 {
-        all[q] = ahead(permissions, peers, state, k, q);
+        all[q] = ahead(permissions, peers, barred, state, k, q);
     }
     all
 }
@@ -107,20 +119,21 @@ fn device(
     ports: &[u8; 32],
     permissions: &[u8; 256],
     peers: &[[u16; 8]; 32],
+    barred: &[u32; 512],
     state: &[u32],
     k: u32,
     d: usize,
     set: u32,
 ) -> Seen
     requires { ⌜ (length (now state) ≡ words) × Few (now ports) × (isNew set d ≡ true) ⌝ }
-    ensures { λ r. ⌜ Finds (λ depth. deviceVisit (now (role .entry)) (now (ports .entry)) (Visits·ahead (now (permissions .entry)) (now (peers .entry)) (now (state .entry)) k) depth d set) (left set) r ⌝ }
+    ensures { λ r. ⌜ Finds (λ depth. deviceVisit (now (role .entry)) (now (ports .entry)) (Visits·ahead (now (permissions .entry)) (now (peers .entry)) (now (barred .entry)) (now (state .entry)) k) depth d set) (left set) r ⌝ }
 {
     let joined = bits::join(set, d as u32);
     // A node passes nothing on: none of its ports is examined.
     if role[d] != 1 {
         return found(joined, 0);
     }
-    each_port(role, ports, permissions, peers, state, k, d, joined)
+    each_port(role, ports, permissions, peers, barred, state, k, d, joined)
 }
 
 // Each port of device d is examined, and what it leads to is visited, but for a device that was met
@@ -130,21 +143,22 @@ pub(crate) fn each_port(
     ports: &[u8; 32],
     permissions: &[u8; 256],
     peers: &[[u16; 8]; 32],
+    barred: &[u32; 512],
     state: &[u32],
     k: u32,
     d: usize,
     start: u32,
 ) -> Seen
     requires { ⌜ (length (now state) ≡ words) × Few (now ports) × (d < 32) ⌝ }
-    ensures { λ r. ⌜ Finds (λ depth. portVisit (now (role .entry)) (now (ports .entry)) (Visits·ahead (now (permissions .entry)) (now (peers .entry)) (now (state .entry)) k) depth d 0 (seen start 0)) (left start + 9) r ⌝ }
+    ensures { λ r. ⌜ Finds (λ depth. portVisit (now (role .entry)) (now (ports .entry)) (Visits·ahead (now (permissions .entry)) (now (peers .entry)) (now (barred .entry)) (now (state .entry)) k) depth d 0 (seen start 0)) (left start + 9) r ⌝ }
 {
     let mut set = start;
     let mut examined = 0u32;
     for p in 0..areas::wide(ports[d]) {
-        let next = ahead(permissions, peers, state, k, 8 * d + p);
+        let next = ahead(permissions, peers, barred, state, k, 8 * d + p);
         examined = examined + 1;
         if is_new(set, next) {
-            let behind = device(role, ports, permissions, peers, state, k, next, set);
+            let behind = device(role, ports, permissions, peers, barred, state, k, next, set);
             examined = examined + behind.examined;
             set = behind.set;
         }

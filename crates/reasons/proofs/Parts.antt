@@ -92,9 +92,10 @@ either-short false v w h l = l
 pub called-short : (c : ℕ) → length (called c) ≤ 16
 unfolding called ascii
 called-short c =
-    either-short (eqb c 1) (ascii "stopped") (cond (eqb c 2) (ascii "may-not-send") (cond (eqb c 3) (ascii "may-not-receive") (ascii "does-not-forward"))) (omega arith)
-    (either-short (eqb c 2) (ascii "may-not-send") (cond (eqb c 3) (ascii "may-not-receive") (ascii "does-not-forward")) (omega arith)
-    (either-short (eqb c 3) (ascii "may-not-receive") (ascii "does-not-forward") (omega arith) (omega arith)))
+    either-short (eqb c 1) (ascii "stopped") _ (omega arith)
+    (either-short (eqb c 2) (ascii "may-not-send") _ (omega arith)
+    (either-short (eqb c 3) (ascii "may-not-receive") _ (omega arith)
+    (either-short (eqb c 5) (ascii "barred") (ascii "does-not-forward") (omega arith) (omega arith))))
 
 module _ (c : ℕ) where
   pub called-1 : c ≡ 1 → ascii "stopped" ≡ called c
@@ -109,9 +110,13 @@ module _ (c : ℕ) where
   unfolding called
   called-3 e = rw (ne-eqb c 1 (omega arith), ne-eqb c 2 (omega arith), eq-eqb c 3 e)
 
-  pub called-4 : (c ≡ 1 → ⊥) → (c ≡ 2 → ⊥) → (c ≡ 3 → ⊥) → ascii "does-not-forward" ≡ called c
+  pub called-5 : c ≡ 5 → ascii "barred" ≡ called c
   unfolding called
-  called-4 p q r = rw (ne-eqb c 1 p, ne-eqb c 2 q, ne-eqb c 3 r)
+  called-5 e = rw (ne-eqb c 1 (omega arith), ne-eqb c 2 (omega arith), ne-eqb c 3 (omega arith), eq-eqb c 5 e)
+
+  pub called-4 : (c ≡ 1 → ⊥) → (c ≡ 2 → ⊥) → (c ≡ 3 → ⊥) → (c ≡ 5 → ⊥) → ascii "does-not-forward" ≡ called c
+  unfolding called
+  called-4 p q r s = rw (ne-eqb c 1 p, ne-eqb c 2 q, ne-eqb c 3 r, ne-eqb c 5 s)
 
 pub outward-none : (q c : ℕ) → c ≡ 0 → [] ≡ outward q c
 unfolding outward

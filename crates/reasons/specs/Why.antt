@@ -35,9 +35,11 @@ unfoldable pub crossingsOf : Plan → List ℕ → List ℕ
 crossingsOf plan [] = []
 crossingsOf plan (q ∷ rest) = crossing plan q ++ crossingsOf plan rest
 
--- what the causes are called, 1 to 4
+-- what the causes are called; the fifth is looked for before the fourth
 unfoldable pub called : ℕ → List ℕ
-called c = cond (eqb c 1) (ascii "stopped") (cond (eqb c 2) (ascii "may-not-send") (cond (eqb c 3) (ascii "may-not-receive") (ascii "does-not-forward")))
+called c =
+    cond (eqb c 1) (ascii "stopped") (cond (eqb c 2) (ascii "may-not-send") (cond (eqb c 3) (ascii "may-not-receive")
+    (cond (eqb c 5) (ascii "barred") (ascii "does-not-forward"))))
 
 -- a port that leads out, and its cause; one that has none has no line
 unfoldable pub outward : ℕ → ℕ → List ℕ

@@ -58,6 +58,9 @@ fn put_called(text: &mut [u8], at: usize, c: u32) -> usize
     if c == ways::MAY_NOT_RECEIVE {
         return areas::put(text, at, b"may-not-receive");
     }
+    if c == ways::BARRED {
+        return areas::put(text, at, b"barred");
+    }
     areas::put(text, at, b"does-not-forward")
 }
 

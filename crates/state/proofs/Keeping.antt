@@ -1,4 +1,4 @@
--- What keeps a state sound: a change in the words of one device, in the waiting sets or next of one port, in the words behind the ports, or of the flags at both ends of a link; and emptying any ports.
+-- What keeps a state sound: a change in the words of one device, in the waiting sets or next of one port, in the words behind the ports, in the count of one port, or of the flags at both ends of a link; and emptying any ports.
 use mathlib.Core.Path.{_≡_, refl, sym, ap, _∙_}
 use mathlib.Core.Bool.{true, false, false≢true}
 use mathlib.Core.Logic.{_⊎_, inl, inr, _≢_, dite}
@@ -11,9 +11,9 @@ use Rattle.device.specs.Permissions.{maySend}
 use Rattle.plan.specs.Fields.{nobody}
 use Rattle.plan.specs.Reading.{Held}
 use Rattle.plan.specs.declared.Plan.{Plan}
-use Rattle.state.specs.State.{State, words, word, put, deviceWords, portsAt, portsEnd, portWords, registerAt, timerAt, portAt, register, timer, waiting, nextAt, next, runningAt, running, counterAt, timeAt, timeWaits}
-use Rattle.state.specs.Network.{devices, exists, peer, permissions}
-use Rattle.state.specs.Sound.{Timed, Kept, Clocked, Sound}
+use Rattle.state.specs.State.{State, words, word, put, deviceWords, portsAt, portsEnd, portWords, registerAt, timerAt, portAt, register, timer, waiting, nextAt, next, runningAt, running, counterAt, timeAt, timeWaits, dropsStart, dropsAt, mostDrops}
+use Rattle.state.specs.Network.{devices, exists, peer, permissions, guards}
+use Rattle.state.specs.Sound.{Timed, Kept, Clocked, Guarded, Sound}
 use Rattle.state.proofs.Words.{length-put, word-same, word-other}
 use Rattle.state.proofs.Plans.{FarEnd, few, far-end}
 
@@ -62,15 +62,23 @@ kept-same {q} x e f =
     }
 
 -- the counters, and what ports have of Time-Codes; no port has stopped at which one waits
-clock-same : {plan : Plan} {s t : State} → Clocked plan s → ((i : ℕ) → portsEnd ≤ i → word t i ≡ word s i)
+pub clock-same : {plan : Plan} {s t : State} → Clocked plan s → ((i : ℕ) → portsEnd ≤ i → i < dropsStart → word t i ≡ word s i)
     → ((q : ℕ) → q < 256 → running t q ≡ 0 → timeWaits s q ≡ 0) → Clocked plan t
 clock-same x e f =
     record {
-      counters = λ d h. rw (e (counterAt d) (omega arith)) (x .counters d h);
-      ranges = λ q h. rw (e (timeAt q) (omega arith)) (x .ranges q h);
-      stopped = λ q h z. rw (e (timeAt q) (omega arith)) (f q h z);
-      no-counter = λ d l h. e (counterAt d) (omega arith) ∙ x .no-counter d l h;
-      no-word = λ q h y. e (timeAt q) (omega arith) ∙ x .no-word q h y;
+      counters = λ d h. rw (e (counterAt d) (omega arith) (omega arith)) (x .counters d h);
+      ranges = λ q h. rw (e (timeAt q) (omega arith) (omega arith)) (x .ranges q h);
+      stopped = λ q h z. rw (e (timeAt q) (omega arith) (omega arith)) (f q h z);
+      no-counter = λ d l h. e (counterAt d) (omega arith) (omega arith) ∙ x .no-counter d l h;
+      no-word = λ q h y. e (timeAt q) (omega arith) (omega arith) ∙ x .no-word q h y;
+    }
+
+-- what ports dropped
+guard-same : {plan : Plan} {s t : State} → Guarded plan s → ((i : ℕ) → dropsStart ≤ i → word t i ≡ word s i) → Guarded plan t
+guard-same x e =
+    record {
+      counts = λ q kind h l. rw (e (dropsAt q kind) (omega arith)) (x .counts q kind h l);
+      no-count = λ q kind h l y. e (dropsAt q kind) (omega arith) ∙ x .no-count q kind h l y;
     }
 
 -- two sets that may wait at port q: interrupts (kind 0) and acknowledges (kind 1)
@@ -97,13 +105,14 @@ module _ (plan : Plan) (held : Held plan) {s : State} (x : Sound plan s) where
         ports = λ q l y. kept-same (x .ports q l y) (λ i m. same (portAt q i) (omega arith)) (λ o. same (portAt (peer plan q) runningAt) (omega arith));
         no-device = λ e i l m o. same (deviceWords * e + i) (omega arith) ∙ x .no-device e i l m o;
         no-port = λ q i l y m. same (portAt q i) (omega arith) ∙ x .no-port q i l y m;
-        clock = clock-same (x .clock) (λ i l. same i (omega arith)) (λ q l z. x .clock .stopped q l (sym (same (portAt q runningAt) (omega arith)) ∙ z));
+        clock = clock-same (x .clock) (λ i l m. same i (omega arith)) (λ q l z. x .clock .stopped q l (sym (same (portAt q runningAt) (omega arith)) ∙ z));
+        guard = guard-same (x .guard) (λ i l. same i (omega arith));
       }
 
   -- ---- a step in the words behind the ports
 
-  pub clock-step : {t : State} → Fits t → ((i : ℕ) → i < portsEnd → word t i ≡ word s i) → Clocked plan t → Sound plan t
-  clock-step f same clock =
+  pub behind-step : {t : State} → Fits t → ((i : ℕ) → i < portsEnd → word t i ≡ word s i) → Clocked plan t → Guarded plan t → Sound plan t
+  behind-step f same clock guard =
       let n = few plan held in
       record {
         size = f .size;
@@ -113,7 +122,30 @@ module _ (plan : Plan) (held : Held plan) {s : State} (x : Sound plan s) where
         no-device = λ e i l m o. same (deviceWords * e + i) (omega arith) ∙ x .no-device e i l m o;
         no-port = λ q i l y m. same (portAt q i) (omega arith) ∙ x .no-port q i l y m;
         clock = clock;
+        guard = guard;
       }
+
+  -- in those of Time-Codes alone
+  pub clock-step : {t : State} → Fits t → ((i : ℕ) → (portsEnd ≤ i → i < dropsStart → ⊥) → word t i ≡ word s i) → Clocked plan t → Sound plan t
+  clock-step f same clock = behind-step f (λ i l. same i (omega arith)) clock (guard-same (x .guard) (λ i l. same i (omega arith)))
+
+  -- the count of a port of a router
+  pub drops-step : (q kind v : ℕ) → q < 256 → kind < 2 → v ≤ mostDrops → guards plan q ≡ true → Sound plan (put s (dropsAt q kind) v)
+  drops-step q kind v h l b there =
+      let t : State = put s (dropsAt q kind) v in
+      let left : (i : ℕ) → i ≢ dropsAt q kind → word t i ≡ word s i = word-other s (dropsAt q kind) v in
+      behind-step (put-fits (sound-fits x) (dropsAt q kind) v (omega arith) (omega arith)) (λ i g. left i (omega arith))
+      (clock-same (x .clock) (λ i m g. left i (omega arith)) (λ p m z. x .clock .stopped p m (sym (left (portAt p runningAt) (omega arith)) ∙ z)))
+      (record {
+        counts = λ p c m g. elim (ℕ-discrete (dropsAt p c) (dropsAt q kind)) [
+          | yes e ↦ rw (e, word-same s (dropsAt q kind) v (omega (arith, x .size))) b
+          | no ne ↦ rw (left (dropsAt p c) ne) (x .guard .counts p c m g)
+        ];
+        no-count = λ p c m g y. elim (ℕ-discrete p q) [
+          | yes e ↦ absurd (false≢true (sym y ∙ ap (guards plan) e ∙ there))
+          | no ne ↦ left (dropsAt p c) (omega arith) ∙ x .guard .no-count p c m g y
+        ];
+      })
 
   -- ---- a step in the words of ports
 
@@ -129,7 +161,8 @@ module _ (plan : Plan) (held : Held plan) {s : State} (x : Sound plan s) where
         ports = kept;
         no-device = λ e i l m o. same (deviceWords * e + i) (omega arith) ∙ x .no-device e i l m o;
         no-port = λ q i l y m. gone q l y i m ∙ x .no-port q i l y m;
-        clock = clock-same (x .clock) (λ i l. same i (λ a b. omega arith)) still;
+        clock = clock-same (x .clock) (λ i l m. same i (λ a b. omega arith)) still;
+        guard = guard-same (x .guard) (λ i l. same i (λ a b. omega arith));
       }
 
   -- waiting sets and next become 0, at any ports

@@ -1,28 +1,28 @@
 -- What a held plan says, for the states of its network: how many devices, whose the ports and the masks are, where connections lead, and the loads.
-use mathlib.Core.Path.{_≡_, refl, ap}
-use mathlib.Core.Bool.{Bool, true, false, not, _&&_, not-eq-not}
-use mathlib.Core.Logic.{_≢_, dite}
+use mathlib.Core.Path.{_≡_, refl, sym, ap, _∙_}
+use mathlib.Core.Bool.{Bool, true, false, not, _&&_, not-eq-not, false≢true}
+use mathlib.Core.Logic.{_≢_, inl, inr, dite}
 use Prim.Native.Nat.{ℕ, _+_, _*_, _/_, _%_, _≤_, _<_}
 use native.Mathlib.Decide.{decLt, ℕ-discrete}
 use native.Mathlib.Omega.{arith}
 use lib.Bits.{bitAnd}
-use lib.Dec.{eqb}
+use lib.Dec.{eqb, ltb}
 use lib.ListN.{List·getD-eq-default}
 use borrow.Author.Tests.{ltb-true, ltb-false, lt-ltb, eqb-true, eqb-false, eq-eqb, ne-eqb, not-true}
 use Rattle.lists.proofs.Facts.{facts}
-use Rattle.lists.proofs.Tests.{and-left, and-right}
+use Rattle.lists.proofs.Tests.{both, and-left, and-right, or-cases}
 use Rattle.bits.specs.Set.{bit}
 use Rattle.bits.proofs.Sets.{bit-two, bit-and, bit-zero}
 use Rattle.plan.specs.Block.{byte}
-use Rattle.plan.specs.Fields.{nobody, loadsFit, portsFit, masksFit, joins}
+use Rattle.plan.specs.Fields.{nobody, loadsFit, portsFit, masksFit, barFits, joins}
 use Rattle.plan.specs.Reading.{Held}
 use Rattle.plan.specs.declared.Plan.{Plan}
 use Rattle.plan.specs.inner.Memory.{at, deviceRight, rowRight}
 use Rattle.plan.proofs.Entries.{no-port}
 use Rattle.plan.proofs.Rows.{entryOf, right-ports, right-absent}
 use Rattle.plan.proofs.There.{Right, right-says}
-use Rattle.plan.proofs.BothWays.{held-right, held-shaped, held-devices, few-ports}
-use Rattle.state.specs.Network.{devices, role, router, portsOf, exists, peer, source, handler, loadFor, loadOf}
+use Rattle.plan.proofs.BothWays.{held-right, held-shaped, held-devices, held-bars, few-ports}
+use Rattle.state.specs.Network.{devices, role, router, portsOf, exists, peer, bars, guards, source, handler, loadFor, loadOf}
 
 -- the far end of a connected port: it exists, its own far end is the port, and it is another port
 pub record FarEnd (plan : Plan) (q : ℕ) : Type 0 where
@@ -52,7 +52,7 @@ module _ (plan : Plan) (held : Held plan) where
 
   pub device-fits : (d : ℕ) → d < devices plan → (portsFit (role plan d) (portsOf plan d) ≡ true) × (masksFit (role plan d) (source plan d) (handler plan d) ≡ true)
   unfolding rowRight deviceRight
-  device-fits d h = (simp facts at (rw (lt-ltb d (devices plan) h) at (says .rows d (omega (arith, few))))) .0 .0
+  device-fits d h = (simp facts at (rw (lt-ltb d (devices plan) h) at (says .rows d (omega (arith, few))))) .0 .0 .0
 
   -- a node or a router, with few ports
   device-says : (d : ℕ) → d < devices plan → (role plan d < 2) × (portsOf plan d ≤ 8) × (role plan d ≡ 0 → portsOf plan d ≤ 2)
@@ -67,7 +67,7 @@ module _ (plan : Plan) (held : Held plan) where
   most-ports d =
       dite (decLt d (devices plan)) (λ h. device-says d h .1)
       (λ h. dite (decLt d 32)
-      (λ l. omega (arith, right-absent (plan .core) (plan .peers) d few (omega arith) (says .rows d l) .ports))
+      (λ l. omega (arith, right-absent (plan .core) (plan .peers) (plan .barred) d few (omega arith) (says .rows d l) .ports))
       (λ l. omega (arith, List·getD-eq-default (plan .core .ports) 0 {n = d} (omega (arith, held-shaped plan held .ports .long)))))
 
   -- a device with k in one of its masks is a node, and has k in just one
@@ -86,7 +86,7 @@ module _ (plan : Plan) (held : Held plan) where
   pub owned : (q : ℕ) → q < 256 → exists plan q ≡ true → q / 8 < devices plan
   owned q h e =
       dite (decLt (q / 8) (devices plan)) (λ l. l)
-      (λ l. absurd (omega (arith, ltb-true (q % 8) (at (plan .core .ports) (q / 8)) e, right-absent (plan .core) (plan .peers) (q / 8) few (omega arith) (says .rows (q / 8) (omega arith)) .ports)))
+      (λ l. absurd (omega (arith, ltb-true (q % 8) (at (plan .core .ports) (q / 8)) e, right-absent (plan .core) (plan .peers) (plan .barred) (q / 8) few (omega arith) (says .rows (q / 8) (omega arith)) .ports)))
 
   -- a port behind those of the devices does not exist
   pub past-absent : (q : ℕ) → q < 256 → 8 * devices plan ≤ q → exists plan q ≡ false
@@ -101,7 +101,7 @@ module _ (plan : Plan) (held : Held plan) where
   absent-loose q h e =
       let d = q / 8 in
       let p = q % 8 in
-      no-port (right-ports (plan .core) (plan .peers) d few (says .rows d (omega arith)) p (omega arith) (byte (entryOf (plan .core) (plan .peers) d p)) (λ j l. refl))
+      no-port (right-ports (plan .core) (plan .peers) (plan .barred) d few (says .rows d (omega arith)) p (omega arith) (byte (entryOf (plan .core) (plan .peers) (plan .barred) d p)) (λ j l. refl))
       (ltb-false p (at (plan .core .ports) d) e) .0
 
   -- so one that is connected exists
@@ -120,6 +120,21 @@ module _ (plan : Plan) (held : Held plan) where
         back = eqb-true (peer plan r) q (and-right (exists plan r) test (and-left (exists plan r && test) (not (eqb r q)) j));
         other = eqb-false r q (not-true (eqb r q) (and-right (exists plan r && test) (not (eqb r q)) j));
       }
+
+  -- only a port that a router has bars anything
+  pub no-bars : (q kind : ℕ) → q < 256 → kind < 2 → guards plan q ≡ false → bars plan kind q ≡ 0
+  unfolding barFits
+  no-bars q kind h l y =
+      let at : 16 * (q / 8) + (2 * (q % 8) + kind) ≡ 2 * q + kind = omega arith in
+      let port : (2 * (q % 8) + kind) / 2 ≡ q % 8 = omega arith in
+      let fits = rw (at, port) at (held-bars plan held (q / 8) (2 * (q % 8) + kind) (omega arith) (omega arith)) in
+      elim (or-cases (router plan (q / 8) && exists plan q) (eqb (bars plan kind q) 0) fits) [
+        | inl a ↦
+            let is = and-left (router plan (q / 8)) (exists plan q) a in
+            let there = and-right (router plan (q / 8)) (exists plan q) a in
+            absurd (false≢true (sym y ∙ both _ _ (both _ _ (lt-ltb (q / 8) (devices plan) (owned q h there)) is) there))
+        | inr z ↦ eqb-true (bars plan kind q) 0 z
+      ]
 
   -- a timer is loaded with 1 to 65,535
   pub load-fits : (d k : ℕ) → d < devices plan → (1 ≤ loadOf plan d k) × (loadOf plan d k ≤ 65535)

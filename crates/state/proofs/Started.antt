@@ -12,12 +12,12 @@ use Rattle.bits.proofs.Sets.{bit-zero}
 use Rattle.plan.specs.Fields.{nobody}
 use Rattle.plan.specs.Reading.{Held}
 use Rattle.plan.specs.declared.Plan.{Plan}
-use Rattle.state.specs.State.{words, word, deviceWords, portsAt, portsEnd, registerAt, timerAt, portAt, runningAt, running, counterAt, timeAt}
+use Rattle.state.specs.State.{words, word, deviceWords, portsAt, portsEnd, registerAt, timerAt, portAt, runningAt, running, counterAt, timeAt, dropsAt}
 use Rattle.state.specs.Network.{peer}
 use Rattle.state.specs.Sound.{Sound}
 use Rattle.state.specs.Start.{started}
 use Rattle.state.proofs.Words.{word-past}
-use Rattle.state.proofs.Parts.{by-place, by-behind, length-state, register-of, timer-of, port-of, counter-of, time-of}
+use Rattle.state.proofs.Parts.{by-place, by-behind, length-state, register-of, timer-of, port-of, counter-of, time-of, drops-of}
 use Rattle.state.proofs.Plans.{few, absent-loose, far-end}
 
 module _ (plan : Plan) where
@@ -54,7 +54,8 @@ module _ (plan : Plan) where
 
   -- nothing behind the ports
   pub start-behind : (i : ℕ) → portsEnd ≤ i → word (started plan) i ≡ 0
-  start-behind = by-behind (λ i. word (started plan) i ≡ 0) (λ d h. counter-of _ d h) (λ q h. time-of _ q h) (λ i h. word-past (started plan) i (omega (arith, start-length)))
+  start-behind = by-behind (λ i. word (started plan) i ≡ 0) (λ d h. counter-of _ d h) (λ q h. time-of _ q h) (λ q kind h l. drops-of _ q kind h l)
+      (λ i h. word-past (started plan) i (omega (arith, start-length)))
 
   start-small : (i : ℕ) → word (started plan) i < 2 ^ 32
   start-small =
@@ -98,5 +99,9 @@ module _ (plan : Plan) where
           stopped = λ q h z. rw (start-behind (timeAt q) (omega arith));
           no-counter = λ d l h. start-behind (counterAt d) (omega arith);
           no-word = λ q h y. start-behind (timeAt q) (omega arith);
+        };
+        guard = record {
+          counts = λ q kind h l. omega (arith, start-behind (dropsAt q kind) (omega arith));
+          no-count = λ q kind h l y. start-behind (dropsAt q kind) (omega arith);
         };
       }

@@ -1,8 +1,8 @@
 -- The computed test of a state is true exactly where the state is sound. `x-says` reads a test, `x-test` passes it.
-use mathlib.Core.Path.{_≡_, refl, sym, ap, _∙_}
+use mathlib.Core.Path.{_≡_, refl, sym, ap, ap₂, _∙_}
 use mathlib.Core.Bool.{Bool, true, false, not, false≢true}
 use mathlib.Core.Logic.{dite}
-use Prim.Native.Nat.{ℕ, _+_, _*_, _/_, _%_, _^_, _≤_, _<_, min}
+use Prim.Native.Nat.{ℕ, _+_, _-_, _*_, _/_, _%_, _^_, _≤_, _<_, min}
 use native.Mathlib.Decide.{decLt, ℕ-discrete}
 use native.Mathlib.Omega.{arith}
 use lib.Dec.{eqb, ltb}
@@ -12,13 +12,14 @@ use Rattle.lists.proofs.Tests.{and-right, or-left, or-right, every-at, every-al
 use Rattle.bits.specs.Set.{bit}
 use Rattle.bits.proofs.Sets.{bit-two}
 use Rattle.device.specs.Permissions.{maySend}
+use Rattle.plan.specs.inner.Memory.{freeMasks}
 use Rattle.plan.specs.declared.Plan.{Plan}
 use Rattle.lists.proofs.Facts.{facts}
-use Rattle.state.specs.State.{State, word, deviceWords, portsAt, portAt, register, timer, waiting, running, counter, time, timeWaits}
-use Rattle.state.specs.Network.{devices, portsOf, exists, peer, permissions}
-use Rattle.state.specs.Sound.{Timed, Kept, Clocked, Sound}
+use Rattle.state.specs.State.{State, word, deviceWords, portsAt, portAt, register, timer, waiting, running, counter, time, timeWaits, dropsStart, dropsAt, drops, mostDrops}
+use Rattle.state.specs.Network.{devices, role, portsOf, exists, peer, permissions, guards}
+use Rattle.state.specs.Sound.{Timed, Kept, Clocked, Guarded, Sound}
 use Rattle.state.proofs.Keeping.{both-kinds}
-use Rattle.state.specs.inner.Tests.{timerSound, deviceTimed, allTimed, zerosIn, restZero, flagSound, mayWait, waitingSound, portKept, portZero, portSound, portsSound, counterSound, countersSound, timeKept, timeSound, timesSound, sounds}
+use Rattle.state.specs.inner.Tests.{timerSound, deviceTimed, allTimed, zerosIn, restZero, flagSound, mayWait, waitingSound, portKept, portZero, portSound, portsSound, counterSound, countersSound, timeKept, timeSound, timesSound, countSound, countsSound, ownCounts, dropsSound, sounds}
 
 is-true : (b : Bool) → (b ≡ false → ⊥) → b ≡ true
 is-true true h = refl
@@ -38,6 +39,19 @@ module _ (on t : ℕ) where
         | yes b ↦ rw b (simp facts (p b))
         | no n ↦ simp (ne-eqb on 1 n) (eq-eqb t 0 (q (omega arith)))
       ]
+
+-- ---- one count, which a device has of its own or not
+
+module _ (own j count : ℕ) where
+  count-says : (b : Bool) → ltb j own ≡ b → countSound own j count ≡ true → (count ≤ mostDrops) × (b ≡ false → count ≡ 0)
+  unfolding countSound
+  count-says true e f = (simp facts at (rw e at f), λ n. absurd (false≢true (sym n)))
+  count-says false e f = let z = eqb-true count 0 (rw e at f) in (omega arith, λ n. z)
+
+  count-test : (b : Bool) → ltb j own ≡ b → count ≤ mostDrops → (b ≡ false → count ≡ 0) → countSound own j count ≡ true
+  unfolding countSound
+  count-test true e l z = rw e (simp facts l)
+  count-test false e l z = rw e (eq-eqb count 0 (z refl))
 
 -- ---- one port
 
@@ -131,13 +145,13 @@ module _ (plan : Plan) (s : State) where
 
   zeros-say : (from to : ℕ) → zerosIn from to s ≡ true → (i : ℕ) → from ≤ i → i < to → word s i ≡ 0
   unfolding zerosIn
-  zeros-say from to e i h l = eqb-true (word s i) 0 (simp (le-ltb i from h) at (every-at to _ e i l))
+  zeros-say from to e i h l =
+      let place : from + (i - from) ≡ i = omega arith in
+      eqb-true (word s i) 0 (rw place at (every-at (to - from) _ e (i - from) (omega arith)))
 
   zeros-test : (from to : ℕ) → ((i : ℕ) → from ≤ i → i < to → word s i ≡ 0) → zerosIn from to s ≡ true
   unfolding zerosIn
-  zeros-test from to h =
-      every-all to _
-      (λ i l. dite (decLt i from) (λ g. or-left _ _ (lt-ltb i from g)) (λ g. or-right (ltb i from) _ (eq-eqb (word s i) 0 (h i (omega arith) l))))
+  zeros-test from to h = every-all (to - from) _ (λ i l. eq-eqb (word s (from + i)) 0 (h (from + i) (omega arith) (omega arith)))
 
   rest : restZero (devices plan) s ≡ true → (d i : ℕ) → devices plan ≤ d → d < 32 → i < deviceWords → word s (deviceWords * d + i) ≡ 0
   rest e d i h l g = zeros-say (deviceWords * devices plan) portsAt e (deviceWords * d + i) (omega arith) (omega arith)
@@ -205,10 +219,51 @@ module _ (plan : Plan) (s : State) where
   times-test c =
       every-all 256 _ (λ q h. time-test q (exists plan q) refl (c .ranges q h .0, c .ranges q h .1, c .stopped q h, c .no-word q h))
 
+  -- ---- drops
+
+  abbrev own : ℕ → ℕ
+  own = ownCounts (devices plan) (plan .core .role) (plan .core .ports)
+
+  -- a count is the device's own where a router has the port
+  own-guards : (q kind : ℕ) → kind < 2 → ltb (2 * (q % 8) + kind) (own (q / 8)) ≡ guards plan q
+  unfolding ownCounts freeMasks
+  own-guards q kind l =
+      dite (decLt (q / 8) (devices plan))
+      (λ h. rw (lt-ltb (q / 8) (devices plan) h) (elim (ℕ-discrete (role plan (q / 8)) 1) [
+        | yes e ↦ rw (eq-eqb (role plan (q / 8)) 1 e) (dite (decLt (q % 8) (portsOf plan (q / 8)))
+            (λ g. rw (lt-ltb (q % 8) (portsOf plan (q / 8)) g) (lt-ltb (2 * (q % 8) + kind) (min (2 * portsOf plan (q / 8)) 16) (omega arith)))
+            (λ g. rw (le-ltb (q % 8) (portsOf plan (q / 8)) (omega arith)) (le-ltb (2 * (q % 8) + kind) (min (2 * portsOf plan (q / 8)) 16) (omega arith))))
+        | no n ↦ rw (ne-eqb (role plan (q / 8)) 1 n) (le-ltb (2 * (q % 8) + kind) 0 (omega arith))
+      ]))
+      (λ h. rw (le-ltb (q / 8) (devices plan) (omega arith)) (le-ltb (2 * (q % 8) + kind) 0 (omega arith)))
+
+  guarded : dropsSound (devices plan) (plan .core .role) (plan .core .ports) s ≡ true → Guarded plan s
+  unfolding dropsSound countsSound
+  guarded e =
+      let count : (q kind : ℕ) → q < 256 → kind < 2 → (drops s kind q ≤ mostDrops) × (guards plan q ≡ false → drops s kind q ≡ 0) =
+      λ q kind h l.
+      let at : dropsStart + 16 * (q / 8) + (2 * (q % 8) + kind) ≡ dropsAt q kind = omega arith in
+      count-says (own (q / 8)) (2 * (q % 8) + kind) (drops s kind q) (guards plan q) (own-guards q kind l)
+      (rw at at (every-at 16 _ (every-at 32 _ e (q / 8) (omega arith)) (2 * (q % 8) + kind) (omega arith))) in
+      record { counts = λ q kind h l. count q kind h l .0; no-count = λ q kind h l. count q kind h l .1 }
+
+  drops-test : Guarded plan s → dropsSound (devices plan) (plan .core .role) (plan .core .ports) s ≡ true
+  unfolding dropsSound countsSound
+  drops-test g =
+      every-all 32 _ (λ d h. every-all 16 _ (λ j l.
+      let q = 8 * d + j / 2 in
+      let kind = j % 2 in
+      let at : dropsStart + 16 * d + j ≡ dropsAt q kind = omega arith in
+      let device : q / 8 ≡ d = omega arith in
+      let place : 2 * (q % 8) + kind ≡ j = omega arith in
+      let mine : ltb j (own d) ≡ guards plan q = ap₂ (λ a b. ltb a (own b)) (sym place) (sym device) ∙ own-guards q kind (omega arith) in
+      rw at (count-test (own d) j (drops s kind q) (guards plan q) mine (g .counts q kind (omega arith) (omega arith)) (g .no-count q kind (omega arith) (omega arith)))))
+
   pub sounds-sound : ((i : ℕ) → word s i < 2 ^ 32) → sounds plan s ≡ true → Sound plan s
   unfolding sounds portsSound portSound portZero
   sounds-sound fit e =
-      let all = simp facts at e in
+      let every = simp facts at e in
+      let all = every .0 in
       let f = all .0 .0 in
       record {
         size = f .0 .0 .0;
@@ -218,6 +273,7 @@ module _ (plan : Plan) (s : State) where
         no-device = rest (f .0 .1);
         no-port = λ q i l there g. eqb-true (word s (portAt q i)) 0 (every-at 4 _ (simp there at (f .1 q l)) i g);
         clock = clocked (all .0 .1) (all .1);
+        guard = guarded (every .1);
       }
 
   pub sound-sounds : Sound plan s → sounds plan s ≡ true
@@ -225,8 +281,11 @@ module _ (plan : Plan) (s : State) where
   sound-sounds h =
       simp facts (
         (
-          (((h .size, timed-test (h .timers)), rest-test (h .no-device)), λ q l. port-test q (exists plan q) refl (h .ports q l) (λ z i g. h .no-port q i l z g)),
-          counters-test (h .clock),
+          (
+            (((h .size, timed-test (h .timers)), rest-test (h .no-device)), λ q l. port-test q (exists plan q) refl (h .ports q l) (λ z i g. h .no-port q i l z g)),
+            counters-test (h .clock),
+          ),
+          times-test (h .clock),
         ),
-        times-test (h .clock),
+        drops-test (h .guard),
       )

@@ -32,7 +32,7 @@ module _ (plan : Plan) (held : Held plan) {s : State} (x : Sound plan s) where
       let flags : (p : ℕ) → p < 256 → running t p ≡ running s p = λ p l. left (portAt p runningAt) (omega arith) in
       let count : (d : ℕ) → d < 32 → word t (counterAt d) ≡ word s (counterAt d) = λ d l. left (counterAt d) (omega arith) in
       let other : (p : ℕ) → p ≢ q → time t p ≡ time s p = λ p ne. left (timeAt p) (omega arith) in
-      clock-step plan held x (put-fits (sound-fits x) (timeAt q) v (omega arith) (omega arith)) (λ i l. left i (omega arith))
+      clock-step plan held x (put-fits (sound-fits x) (timeAt q) v (omega arith) (omega arith)) (λ i l. left i (λ e. l (omega arith) (omega arith)))
       (record {
         counters = λ d l. rw (count d l) (x .clock .counters d l);
         ranges = λ p l. elim (ℕ-discrete p q) [ yes e ↦ rw (e, own) (a, b) | no ne ↦ rw (other p ne) (x .clock .ranges p l) ];
@@ -51,7 +51,7 @@ module _ (plan : Plan) (held : Held plan) {s : State} (x : Sound plan s) where
       let t : State = put s (counterAt d) v in
       let left : (i : ℕ) → i ≢ counterAt d → word t i ≡ word s i = word-other s (counterAt d) v in
       let words : (p : ℕ) → time t p ≡ time s p = λ p. left (timeAt p) (omega arith) in
-      clock-step plan held x (put-fits (sound-fits x) (counterAt d) v (omega arith) (omega arith)) (λ i l. left i (omega arith))
+      clock-step plan held x (put-fits (sound-fits x) (counterAt d) v (omega arith) (omega arith)) (λ i l. left i (λ e. l (omega arith) (omega arith)))
       (record {
         counters = λ e l. elim (ℕ-discrete e d) [
           | yes is ↦ rw (is, word-same s (counterAt d) v (omega (arith, x .size))) b

@@ -12,7 +12,7 @@ use borrow.Author.Tests.{eq-eqb, ne-eqb}
 use Rattle.lists.specs.Table.{table}
 use Rattle.lists.proofs.Tables.{length-table, getD-table}
 use Rattle.plan.specs.Fields.{nobody}
-use Rattle.state.specs.State.{State, words, word, put, runningAt, registerAt, timerAt, portAt, running, counterAt, timeAt}
+use Rattle.state.specs.State.{State, words, word, put, runningAt, registerAt, timerAt, portAt, running, counterAt, timeAt, dropsAt}
 use Rattle.state.specs.Network.{peerIn}
 use Rattle.state.specs.Start.{startOf}
 use Rattle.state.proofs.Words.{length-put, word-same, word-other}
@@ -71,6 +71,7 @@ module _ (peers : List (List ℕ)) where
         | no n ↦ b .others (portAt p i) (λ o z. omega arith) (omega arith) ∙ rw (ne-eqb i runningAt n)
       ])
       (λ d h. b .others (counterAt d) (λ o z. omega arith) (omega arith)) (λ p h. b .others (timeAt p) (λ o z. omega arith) (omega arith))
+      (λ p kind h g. b .others (dropsAt p kind) (λ o z. omega arith) (omega arith))
     where
       by-peer : (t : Bool) → _≡_ {A = ℕ} (cond (not t) 1 0) (cond (true && not t) 1 0)
       by-peer true = refl

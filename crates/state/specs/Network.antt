@@ -1,7 +1,7 @@
 -- RULES, "Plan file": what a plan says of its devices and ports. Port p of device d is q = 8 x d + p.
-use mathlib.Core.Bool.{Bool}
+use mathlib.Core.Bool.{Bool, _&&_}
 use mathlib.Core.List.{List, []}
-use Prim.Native.Nat.{ℕ, _/_, _%_}
+use Prim.Native.Nat.{ℕ, _+_, _*_, _/_, _%_}
 use lib.Dec.{eqb, ltb}
 use lib.ListN.{getD}
 use Rattle.plan.specs.declared.Plan.{Plan}
@@ -37,6 +37,14 @@ module _ (plan : Plan) where
 
   abbrev pub permissions : ℕ → ℕ
   permissions q = getD (plan .core .permissions) q 0
+
+  -- what port q bars of codes of a kind, as a set
+  abbrev pub bars : ℕ → ℕ → ℕ
+  bars kind q = getD (plan .barred) (2 * q + kind) 0
+
+  -- a port that a router of the plan has: only such a port bars anything, and counts what it drops
+  abbrev pub guards : ℕ → Bool
+  guards q = ltb (q / 8) devices && router (q / 8) && exists q
 
   abbrev pub source : ℕ → ℕ
   source d = getD (plan .core .source) d 0

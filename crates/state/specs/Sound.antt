@@ -11,8 +11,8 @@ use Rattle.device.specs.Permissions.{maySend}
 use Rattle.plan.specs.Fields.{nobody}
 use Rattle.plan.specs.Reading.{Held}
 use Rattle.plan.specs.declared.Plan.{Plan}
-use Rattle.state.specs.State.{State, words, word, deviceWords, portWords, register, timer, waiting, next, running, portAt, counter, time, timeWaits}
-use Rattle.state.specs.Network.{devices, exists, peer, permissions}
+use Rattle.state.specs.State.{State, words, word, deviceWords, portWords, register, timer, waiting, next, running, portAt, counter, time, timeWaits, drops, mostDrops}
+use Rattle.state.specs.Network.{devices, exists, peer, permissions, guards}
 
 -- a timer runs where its bit is 1, within 65,535, and is 0 where it is 0
 pub record Timed (s : State) (d k : ℕ) : Type 0 where
@@ -39,6 +39,11 @@ pub record Clocked (plan : Plan) (s : State) : Type 0 where
   pub no-counter : (d : ℕ) → devices plan ≤ d → d < 32 → counter s d ≡ 0
   pub no-word : (q : ℕ) → q < 256 → exists plan q ≡ false → time s q ≡ 0
 
+-- the counts of what ports dropped: 0 at a port that no router has
+pub record Guarded (plan : Plan) (s : State) : Type 0 where
+  pub counts : (q kind : ℕ) → q < 256 → kind < 2 → drops s kind q ≤ mostDrops
+  pub no-count : (q kind : ℕ) → q < 256 → kind < 2 → guards plan q ≡ false → drops s kind q ≡ 0
+
 pub record Sound (plan : Plan) (s : State) : Type 0 where
   pub size : length s ≡ words
   pub fits : (i : ℕ) → word s i < 2 ^ 32
@@ -48,6 +53,7 @@ pub record Sound (plan : Plan) (s : State) : Type 0 where
   pub no-device : (d i : ℕ) → devices plan ≤ d → d < 32 → i < deviceWords → word s (deviceWords * d + i) ≡ 0
   pub no-port : (q i : ℕ) → q < 256 → exists plan q ≡ false → i < portWords → word s (portAt q i) ≡ 0
   pub clock : Clocked plan s
+  pub guard : Guarded plan s
 
 -- what every call on a state asks first
 abbrev pub stateAsks : Plan → State → List Condition

@@ -22,6 +22,7 @@ startOf peers =
       ports = λ q i. cond (eqb i runningAt && not (eqb (peerIn peers q) nobody)) 1 0;
       counters = λ d. 0;
       times = λ q. 0;
+      drops = λ q kind. 0;
     })
 
 -- it is written into an area of a state's words; one of another length stays as it was

@@ -9,7 +9,7 @@ abbrev pub State : Type 0
 State = List ℕ
 
 abbrev pub words : ℕ
-words = 2368
+words = 2880
 
 -- two areas are each as long as a state
 abbrev pub BothFit : ℕ → ℕ → Type 0
@@ -91,6 +91,21 @@ timeWaits s q = time s q % 128
 abbrev pub lately : State → ℕ → ℕ
 lately s q = time s q / 128 % 2
 
+-- ---- behind these are the drops: of each port how many codes of a kind it dropped, interrupts (0) and acknowledges (1)
+
+abbrev pub dropsStart : ℕ
+dropsStart = timeAt 256
+
+abbrev pub dropsAt : ℕ → ℕ → ℕ
+dropsAt q kind = dropsStart + 2 * q + kind
+
+abbrev pub drops : State → ℕ → ℕ → ℕ
+drops s kind q = word s (dropsAt q kind)
+
+-- no count goes above this
+abbrev pub mostDrops : ℕ
+mostDrops = 65535
+
 -- ---- a state made of its parts
 
 pub record Parts : Type 0 where
@@ -99,8 +114,10 @@ pub record Parts : Type 0 where
   pub ports : ℕ → ℕ → ℕ
   pub counters : ℕ → ℕ
   pub times : ℕ → ℕ
+  pub drops : ℕ → ℕ → ℕ
 
 unfoldable pub stateOf : Parts → State
 stateOf parts =
     joined 32 (λ d. parts .registers d ∷ table 32 (parts .timers d))
-    ++ (joined 256 (λ q. table portWords (parts .ports q)) ++ (table 32 (parts .counters) ++ table 256 (parts .times)))
+    ++ (joined 256 (λ q. table portWords (parts .ports q))
+    ++ (table 32 (parts .counters) ++ (table 256 (parts .times) ++ joined 256 (λ q. table 2 (parts .drops q)))))

@@ -17,7 +17,7 @@ pub use sound::is_sound;
 pub use sound::refusal;
 pub use sound::word;
 
-pub const WORDS: usize = 2368;
+pub const WORDS: usize = 2880;
 
 // A device has its register and its 32 timers, from 33 x d on.
 pub const DEVICE: usize = 33;
@@ -43,6 +43,12 @@ pub const COUNTERS: usize = 2080;
 pub const TIMES: usize = 2112;
 
 pub const LATELY: u32 = 128;
+
+// Behind the Time-Codes are two words for each port: how many interrupts it dropped, and how many
+// acknowledges, up to MOST_DROPS.
+pub const DROPS: usize = 2368;
+
+pub const MOST_DROPS: u32 = 65535;
 
 // Is each of two areas, of which the lengths are given, as long as a state?
 pub fn both_fit(state: usize, second: usize) -> bool

@@ -6,12 +6,14 @@ ghost use Rattle.answers.specs.Decides.{Decides};
 ghost use Rattle.answers.specs.Ordered.{Ordered};
 ghost use Rattle.state.specs.Sound.{Sound, stateAsks};
 ghost use Rattle.state.specs.State.{words, word as State·word};
-ghost use Rattle.state.specs.inner.Tests.{timerSound, deviceTimed, allTimed, zerosIn, restZero, flagSound, mayWait, waitingSound, portKept, portZero, portSound, portsSound, counterSound, countersSound, timeKept, timeSound, timesSound};
+ghost use Rattle.state.specs.inner.Tests.{timerSound, deviceTimed, allTimed, restZero, flagSound, mayWait, waitingSound, portKept, portZero, portSound, portsSound, counterSound, countersSound, timeKept, timeSound, timesSound, countsSound, dropsSound};
 use crate::ACKNOWLEDGES;
 use crate::COUNTERS;
 use crate::DEVICE;
+use crate::DROPS;
 use crate::INTERRUPTS;
 use crate::LATELY;
+use crate::MOST_DROPS;
 use crate::NEXT;
 use crate::PORT;
 use crate::PORTS;
@@ -42,7 +44,10 @@ pub fn is_sound(plan: Plan, state: &[u32]) -> bool
     if !counters_sound(core.devices, state) {
         return false;
     }
-    times_sound(&ports, state)
+    if !times_sound(&ports, state) {
+        return false;
+    }
+    drops_sound(core.devices, &core.role, &ports, state)
 }
 
 // What every call on a state is refused with first, or 0: a plan that no file holds by 1, a state
@@ -131,20 +136,8 @@ fn rest_zero(n: usize, state: &[u32]) -> bool
     if 32 <= n {
         return true;
     }
-    zeros(DEVICE * n, PORTS, state)
-}
-
-// Are the words from one place to another 0? Their sum is, and several at a time are added, where a
-// search for one that is not would look at each.
-fn zeros(from: usize, to: usize, state: &[u32]) -> bool
-    requires { ⌜ (length (now state) ≡ words) × (from ≤ to) × (to ≤ words) ⌝ }
-    ensures { λ r. ⌜ r ≡ zerosIn from to (now (state .entry)) ⌝ }
-{
-    let mut sum: u64 = 0;
-    for i in from..to {
-        sum += inside(state, i) as u64;
-    }
-    sum == 0
+    let from = DEVICE * n;
+    areas::zeros(&state[from..PORTS])
 }
 
 // Are the words of every port sound, and 0 where there is none?
@@ -315,4 +308,38 @@ fn time_kept(time: u32, running: u32) -> bool
         return true;
     }
     time % LATELY == 0
+}
+
+// Are the counts of drops within their bound, and 0 where no router of n devices has the port?
+fn drops_sound(n: usize, role: &[u8; 32], ports: &[u8; 32], state: &[u32]) -> bool
+    requires { ⌜ length (now state) ≡ words ⌝ }
+    ensures { λ r. ⌜ r ≡ dropsSound n (now (role .entry)) (now (ports .entry)) (now (state .entry)) ⌝ }
+{
+    for d in 0..32 {
+        // All that is behind the devices at once.
+        if n <= d {
+            let from = DROPS + 16 * d;
+            return areas::zeros(&state[from..]);
+        }
+        if !counts_sound(state, d, plan::free_masks(role[d], ports[d])) {
+            return false;
+        }
+    }
+    true
+}
+
+// Are the counts of device d within their bound, as many as it has of them, and are the others 0?
+fn counts_sound(state: &[u32], d: usize, own: usize) -> bool
+    requires { ⌜ (length (now state) ≡ words) × (d < 32) × (own ≤ 16) ⌝ }
+    ensures { λ r. ⌜ r ≡ countsSound (now (state .entry)) d own ⌝ }
+{
+    let at = DROPS + 16 * d;
+    for j in 0..own {
+        if MOST_DROPS < inside(state, at + j) {
+            return false;
+        }
+    }
+    let from = at + own;
+    let to = at + 16;
+    areas::zeros(&state[from..to])
 }

@@ -79,9 +79,9 @@ module _ (plan : Plan) (s : State) (k d : ℕ) where
     either e n area (shown {ports = ports} x) = inl (ports, x, refl, away-small plan held s k d h n e (shown-away e ports x))
     either e n area (no-chain x) = inr (refl, λ m w. let c = walk-chain plan s k w in x (c .0) (c .2))
 
-  -- ---- a port has a cause exactly where it leads out
+  -- ---- a port has a cause, one of the five, exactly where it leads out
 
-  pub cause-out : (q c : ℕ) → Cause plan s d k q c → Out plan s d k q → (1 ≤ c) × (c ≤ 4)
+  pub cause-out : (q c : ℕ) → Cause plan s d k q c → Out plan s d k q → (1 ≤ c) × (c ≤ 5)
   cause-out q c (inside x) o = absurd (x o)
   cause-out q c (out o x) _ = some-cause plan s d k q o c x
 

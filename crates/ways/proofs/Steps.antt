@@ -72,7 +72,7 @@ module _ (plan : Plan) (s : State) (k : ℕ) where
 
 module _ (plan : Plan) (s : State) (k : ℕ) (fits : length s ≡ words) where
   abbrev pub ahead : List ℕ
-  ahead = aheadAll (plan .core .permissions) (plan .peers) s k
+  ahead = aheadAll (plan .core .permissions) (plan .peers) (plan .barred) s k
 
   abbrev pub role : List ℕ
   role = plan .core .role

@@ -7,11 +7,12 @@ use Prim.Native.Nat.{ℕ, zero, suc, _+_, _/_, _<_}
 use lib.Dec.{eqb}
 use lib.ListN.{length, getD}
 use Rattle.answers.specs.Ordered.{Condition, ask, Ordered, Tells}
+use Rattle.bits.specs.Set.{bit}
 use Rattle.device.specs.Permissions.{maySend, mayReceive}
 use Rattle.plan.specs.Fields.{nobody}
 use Rattle.plan.specs.declared.Plan.{Plan}
 use Rattle.state.specs.State.{State, running}
-use Rattle.state.specs.Network.{router, peer, permissions}
+use Rattle.state.specs.Network.{router, peer, permissions, bars}
 use Rattle.reach.specs.Walk.{Walk}
 use Rattle.ways.specs.Calls.{wayAsks}
 
@@ -28,11 +29,12 @@ module _ (plan : Plan) (s : State) (d k : ℕ) where
     pub near : (n : ℕ) × Walk plan s 0 k d n (q / 8)
     pub beyond : (n : ℕ) → Walk plan s 0 k d n (peer plan q / 8) → ⊥
 
-  -- what it takes to go over it, each with the number of its cause: stopped, may not send, may not receive, does not forward
+  -- what it takes to go over it, each with the number of its cause: stopped, may not send, may not receive, barred, does not forward. Numbers are
+  -- names, and the order is that of the list
   abbrev pub goAsks : ℕ → List Condition
   goAsks q =
       ask 1 (running s q ≡ 1) ∷ ask 2 (maySend 0 (permissions plan q) ≡ true) ∷ ask 3 (mayReceive 0 (permissions plan (peer plan q)) ≡ true)
-      ∷ ask 4 ((q / 8 ≡ d) ⊎ (router plan (q / 8) ≡ true)) ∷ []
+      ∷ ask 5 (bit (bars plan 0 (peer plan q)) k ≡ 0) ∷ ask 4 ((q / 8 ≡ d) ⊎ (router plan (q / 8) ≡ true)) ∷ []
 
   -- the first that fails, at a port that leads out; 0 at any other
   pub data Cause (q : ℕ) : ℕ → Type 0 where

@@ -36,8 +36,9 @@ pub const NOBODY: u32 = 256;
 // The number for no peer, as wide as the number of a port is here.
 const NO_PEER: usize = plan::NOBODY as usize;
 
-// Causes: the port does not run, it may not send, the port at its other end may not receive, and its device
-// does not forward.
+// Causes: the port does not run, it may not send, the port at its other end may not receive, its device does
+// not forward, and the port at its other end bars the identifier. Numbers are names: the last is looked for
+// before the one in front of it.
 pub const STOPPED: u32 = 1;
 
 pub const MAY_NOT_SEND: u32 = 2;
@@ -45,6 +46,8 @@ pub const MAY_NOT_SEND: u32 = 2;
 pub const MAY_NOT_RECEIVE: u32 = 3;
 
 pub const DOES_NOT_FORWARD: u32 = 4;
+
+pub const BARRED: u32 = 5;
 
 // What a call answers: 0 for done or a refusal's number, and the value beside it.
 pub struct Answer {
@@ -91,7 +94,7 @@ pub fn crossings(plan: Plan, state: &[u32], source: usize, k: u32, far: &mut [u3
     let core = plan.core;
     let role = core.role;
     let peers = plan::peers_of(plan);
-    let to = reach::ahead_all(&core.permissions, &peers, state, k);
+    let to = reach::ahead_all(&core.permissions, &peers, &plan.barred, state, k);
     layers::walk(&role, &to, source, far);
     Answer {
         number: 0,
@@ -119,7 +122,7 @@ pub fn chain(
     let core = plan.core;
     let role = core.role;
     let peers = plan::peers_of(plan);
-    let to = reach::ahead_all(&core.permissions, &peers, state, k);
+    let to = reach::ahead_all(&core.permissions, &peers, &plan.barred, state, k);
     let back = layers::behind_all(&peers, &to);
     let mut far = [UNREACHED; CROSSINGS];
     layers::walk(&role, &back, device, &mut far);
@@ -146,11 +149,19 @@ pub fn cut(plan: Plan, state: &[u32], source: usize, k: u32, causes: &mut [u32])
     let core = plan.core;
     let role = core.role;
     let peers = plan::peers_of(plan);
-    let to = reach::ahead_all(&core.permissions, &peers, state, k);
+    let to = reach::ahead_all(&core.permissions, &peers, &plan.barred, state, k);
     let mut far = [UNREACHED; CROSSINGS];
     layers::walk(&role, &to, source, &mut far);
     Answer {
         number: 0,
-        value: causes::put_causes(&core.permissions, &peers, state, &far, causes),
+        value: causes::put_causes(
+            &core.permissions,
+            &peers,
+            &plan.barred,
+            state,
+            &far,
+            k,
+            causes,
+        ),
     }
 }

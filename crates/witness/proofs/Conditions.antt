@@ -178,11 +178,11 @@ Far = Walk line (busy line) 0 31 0
 
 first : Leads line (busy line) 0 31 0 1
 unfolding line maySend mayReceive bit
-first = record { runs = busy-runs line line-held first-there 0 (omega arith) (omega arith); sends = refl; joined = omega arith; receives = refl; there = refl }
+first = record { runs = busy-runs line line-held first-there 0 (omega arith) (omega arith); sends = refl; joined = omega arith; receives = refl; admits = refl; there = refl }
 
 second : Leads line (busy line) 0 31 9 2
 unfolding line maySend mayReceive bit
-second = record { runs = busy-runs line line-held first-there 9 (omega arith) (omega arith); sends = refl; joined = omega arith; receives = refl; there = refl }
+second = record { runs = busy-runs line line-held first-there 9 (omega arith) (omega arith); sends = refl; joined = omega arith; receives = refl; admits = refl; there = refl }
 
 pub to-router : Far 1 1
 to-router = cross stay (inl refl) 0 (omega arith) first tt

@@ -37,7 +37,7 @@ Far = Walk pair (busy pair) 0 31 0
 
 over : Leads pair (busy pair) 0 31 0 1
 unfolding pair maySend mayReceive bit
-over = record { runs = busy-runs pair pair-held there 0 (omega arith) (omega arith); sends = refl; joined = omega arith; receives = refl; there = refl }
+over = record { runs = busy-runs pair pair-held there 0 (omega arith) (omega arith); sends = refl; joined = omega arith; receives = refl; admits = refl; there = refl }
 
 to-node : Far 1 1
 to-node = cross stay (inl refl) 0 (omega arith) over tt

@@ -17,13 +17,13 @@ use Rattle.bits.specs.First.{searched, firstFrom, following}
 use Rattle.bits.proofs.Sets.{bit-two}
 use Rattle.codes.specs.Codes.{reads}
 use Rattle.device.specs.Permissions.{maySend, mayReceive}
-use Rattle.device.specs.Reaction.{marked, isUsed, ruled, counted, reactsTo, reacts}
-use Rattle.plan.specs.Fields.{nobody, devicesFit, loadsFit, masterFits, portsFit, masksFit, masterIsNode, joins, sourcesFit, shareEvents}
+use Rattle.device.specs.Reaction.{marked, isUsed, barsOf, ruled, counted, reactsTo, reacts}
+use Rattle.plan.specs.Fields.{nobody, devicesFit, loadsFit, masterFits, portsFit, masksFit, masterIsNode, barFits, joins, sourcesFit, shareEvents}
 use Rattle.plan.specs.Reading.{Held}
 use Rattle.plan.specs.inner.Memory.{portRight, deviceRight, rowRight, right}
 use Rattle.plan.specs.declared.Plan.{Plan}
 use Rattle.state.specs.State.{State, word, put, register, stateOf}
-use Rattle.state.specs.Network.{devices, router, peer, permissions, loadFor, loadOf}
+use Rattle.state.specs.Network.{devices, router, peer, permissions, bars, loadFor, loadOf}
 use Rattle.state.specs.Queue.{queueAt, queueAllAt}
 use Rattle.state.specs.Mark.{mark}
 use Rattle.state.specs.Start.{started}
@@ -41,12 +41,12 @@ use Rattle.assurance.specs.Cycle.{Cycle, Ends, OneCycle}
 use Rattle.assurance.proofs.Choices.{runs-there, runs-joined}
 use Rattle.assurance.proofs.Begun.{call-taken}
 use Rattle.assurance.proofs.Crossings.{away-least}
-use Rattle.assurance.proofs.Instances.{tested-held, start-rests, all-grant, farthest-of, on, played}
+use Rattle.assurance.proofs.Instances.{tested-held, none-barred, start-rests, all-grant, farthest-of, on, played}
 use Rattle.assurance.proofs.Cycle.{sooner, lost-back, one-cycle}
 use Rattle.witness.specs.Fork.{fork, asking, answering, left, Unasked}
 
 fork-held : (joined : Bool) → Held (fork joined)
-unfolding fork right rowRight deviceRight portRight every devicesFit loadsFit masterFits portsFit masksFit masterIsNode joins sourcesFit shareEvents
+unfolding fork right rowRight deviceRight portRight every devicesFit loadsFit masterFits portsFit masksFit masterIsNode barFits joins sourcesFit shareEvents
 fork-held true = tested-held (fork true) refl refl
 fork-held false = tested-held (fork false) refl refl
 
@@ -75,12 +75,17 @@ module _ (both : Bool) where
       by-test true is e = absurd (omega (arith, eqb-true (peer plan q) nobody is))
       by-test false is e = eqb-true (permissions plan q) 15 e
 
-  permits : Permits plan first
+  free : (kind q : ℕ) → kind < 2 → q < 256 → bit (bars plan kind q) 31 ≡ 0
+  unfolding fork
+  free = none-barred plan refl 31
+
+  permits : Permits plan 31 first
   unfolding fork
   permits kind q g h runs =
       let x = started-sound plan held in
       let there = owned plan held q h (runs-there plan held x q h runs) in
-      rw (grants q (omega arith) (runs-joined plan held x q h runs)) (all-grant kind g)
+      let all = all-grant kind g in
+      rw (grants q (omega arith) (runs-joined plan held x q h runs)) (all .0, all .1, free kind q g h)
 
   -- from port q over to the port at its other end
   leads : (kind q r : ℕ) → kind < 2 → q < 24 → peer plan q ≡ r → r < 24 → peer plan r < nobody → Leads plan first kind 31 q (r / 8)
@@ -90,6 +95,7 @@ module _ (both : Bool) where
         sends = rw (grants q h (omega arith)) (all-grant kind g .0);
         joined = omega arith;
         receives = rw (is, grants r l back) (all-grant kind g .1);
+        admits = rw is (free kind r g (omega arith));
         there = ap (λ q. q / 8) (sym is);
       }
 
@@ -212,7 +218,7 @@ still-holds t h =
 
 -- computed, with no waiting: node 1 acknowledges when all hold 31, after a round, and a round later router 2 alone does
 pub is-left : left (answering false 1 1) ≡ true
-unfolding asking answering fork counted firstWaits goes timeGoes stamped every upTo table joined bit join leave searched firstFrom following reads maySend mayReceive marked isUsed ruled reactsTo reacts word put stateOf loadFor queueAt queueAllAt called mark fall chosen sentWord sends unqueued timed forwarded tells acted arrived fallen sentBytes posted arrives reached round
+unfolding asking answering fork counted firstWaits goes timeGoes stamped every upTo table joined bit join leave searched firstFrom following reads maySend mayReceive marked isUsed barsOf ruled reactsTo reacts word put stateOf loadFor queueAt queueAllAt called mark fall chosen sentWord sends unqueued timed forwarded tells acted arrived fallen sentBytes posted arrives reached round
 is-left = refl
 
 pub is-needed : Unasked → ⊥

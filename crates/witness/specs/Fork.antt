@@ -38,6 +38,7 @@ fork joined =
           ∷ (0 ∷ cond joined 17 nobody ∷ replicate 6 nobody)
           ∷ (1 ∷ cond joined 9 nobody ∷ replicate 6 nobody)
           ∷ replicate 29 (replicate 8 nobody);
+      barred = replicate 512 0;
     }
 
 -- node 0 requests 31, and rounds are played

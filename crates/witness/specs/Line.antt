@@ -32,6 +32,7 @@ line =
           ∷ (0 ∷ 16 ∷ replicate 6 nobody)
           ∷ (9 ∷ replicate 7 nobody)
           ∷ replicate 29 (replicate 8 nobody);
+      barred = replicate 512 0;
     }
 
 -- node 0, source of every identifier and master, at a port of router 1 that may not receive interrupts
@@ -51,6 +52,7 @@ deaf =
             permissions = (15 ∷ replicate 7 0) ++ (13 ∷ replicate 247 0);
           };
       peers = (8 ∷ replicate 7 nobody) ∷ (0 ∷ replicate 7 nobody) ∷ replicate 30 (replicate 8 nobody);
+      barred = replicate 512 0;
     }
 
 -- node 0, source of every identifier and master, at node 1; all identifiers are events
@@ -70,6 +72,7 @@ pair =
             permissions = (15 ∷ replicate 7 0) ++ (15 ∷ replicate 247 0);
           };
       peers = (8 ∷ replicate 7 nobody) ∷ (0 ∷ replicate 7 nobody) ∷ replicate 30 (replicate 8 nobody);
+      barred = replicate 512 0;
     }
 
 -- the host of node 0 has requested every identifier below 30

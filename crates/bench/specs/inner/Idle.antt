@@ -6,7 +6,7 @@ use lib.ListN.{length, getD}
 use Rattle.bits.specs.Set.{bit}
 use Rattle.plan.specs.Fields.{nobody}
 use Rattle.plan.specs.declared.Plan.{Plan}
-use Rattle.state.specs.State.{State, words, word, registerAt, portsAt, portsEnd, portWords, register, timer, waiting, counterAt, timeAt, time}
+use Rattle.state.specs.State.{State, words, word, registerAt, portsAt, portsEnd, portWords, register, timer, waiting, counterAt, timeAt, time, dropsStart}
 use Rattle.state.specs.Network.{devices, portsOf, peer}
 use Rattle.bench.specs.Round.{nothing, sentWords}
 
@@ -24,9 +24,9 @@ pub record Unused (s : State) (d ports : ℕ) : Type 0 where
 abbrev pub portsPast : ℕ → ℕ
 portsPast n = portsAt + portWords * (8 * n)
 
--- behind the ports, word i is none of the counters of n devices, and none of their ports' Time-Codes
+-- behind the ports, word i is none of the counters of n devices, none of their ports' Time-Codes, and none of their drops
 abbrev pub Behind : ℕ → ℕ → Type 0
-Behind n i = (portsEnd ≤ i → counterAt n ≤ i) × (timeAt 0 ≤ i → timeAt (8 * n) ≤ i)
+Behind n i = (portsEnd ≤ i → counterAt n ≤ i) × (timeAt 0 ≤ i → timeAt (8 * n) ≤ i) × (dropsStart ≤ i → dropsStart + 16 * n ≤ i)
 
 -- there are n devices: the words that are not theirs and not their ports' are 0
 pub record Blank (n : ℕ) (s : State) : Type 0 where

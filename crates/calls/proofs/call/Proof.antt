@@ -15,7 +15,7 @@ returns-2 c =
     let a = e .before .before .before .before in
     let r = call-ready _ _ _ _ _ (e .before .call-refusal .ensures) (e .if1 .left) in
     outcome-done (e .before .call-refusal .ensures) (e .if1 .left)
-    (c .before .before .take .ensures (a .args .plan .peers) ∙ called-in _ _ _ _ _ (r .0) (r .1) (r .2) (a .pre))
+    (c .before .before .take .ensures (a .args .plan .peers) (a .args .plan .barred) ∙ called-in _ _ _ _ _ (r .0) (r .1) (r .2) (a .pre))
 
 call-refusal-requires : tie.Need-call-refusal-requires
 call-refusal-requires c κs = search needs

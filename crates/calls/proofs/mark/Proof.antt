@@ -12,7 +12,7 @@ slice-write-state-2 c = simp length-set (omega arith)
 
 returns : tie.Need-returns
 unfolding mark put word
-returns c peers = rw (c .marked .ensures, c .before .before .timer-load .ensures, c .before .before .before .before .load-for .ensures)
+returns c peers barred = rw (c .marked .ensures, c .before .before .timer-load .ensures, c .before .before .before .before .load-for .ensures)
 
 load-for-requires : tie.Need-load-for-requires
 load-for-requires c κs = search needs

@@ -9,24 +9,24 @@ use Rattle.calls.proofs.take.Statement.{statement}
 use Rattle.calls.proofs.take.Tie as tie
 
 returns : tie.Need-returns
-returns c peers = sym (called-not _ _ _ _ _ (λ long h l g. c .if1 .taken long))
+returns c peers barred = sym (called-not _ _ _ _ _ (λ long h l g. c .if1 .taken long))
 
 returns-2 : tie.Need-returns-2
-returns-2 c peers = sym (called-not _ _ _ _ _ (λ long h l g. omega arith))
+returns-2 c peers barred = sym (called-not _ _ _ _ _ (λ long h l g. omega arith))
 
 returns-3 : tie.Need-returns-3
-returns-3 c peers = sym (called-not _ _ _ _ _ (λ long h l g. omega arith))
+returns-3 c peers barred = sym (called-not _ _ _ _ _ (λ long h l g. omega arith))
 
 returns-4 : tie.Need-returns-4
-returns-4 c peers = sym (called-not _ _ _ _ _ (λ long h l g. omega arith))
+returns-4 c peers barred = sym (called-not _ _ _ _ _ (λ long h l g. omega arith))
 
 returns-5 : tie.Need-returns-5
 unfolding called
-returns-5 c peers =
+returns-5 c peers barred =
     let m = c .before .before .before .before .before .before .before .before in
     c .before .before .queue-all .ensures
     ∙ queued-in _ _ _ _ _ _ (search needs) (omega arith) (omega arith)
-    ∙ ap (queueAllAt _ _ _ _ _) (m .mark .ensures peers)
+    ∙ ap (queueAllAt _ _ _ _ _) (m .mark .ensures peers barred)
     ∙ sym (called-in _ _ _ _ _ (search needs) (omega arith) (omega arith) (omega arith))
 
 mark-requires : tie.Need-mark-requires

@@ -1,8 +1,8 @@
--- What the three functions of a reset leave, one after the other: words that become 0.
+-- What the four functions of a reset leave, one after the other: words that become 0.
 use mathlib.Core.Bool.{cond, not, _&&_}
 use Prim.Native.Nat.{ℕ, _/_}
 use lib.Dec.{eqb}
-use Rattle.state.specs.State.{State, word, portAt, register, timer, runningAt, counter, time, stateOf}
+use Rattle.state.specs.State.{State, word, portAt, register, timer, runningAt, counter, time, drops, stateOf}
 
 -- the register and the timers of device d
 abbrev pub cleared : ℕ → State → State
@@ -14,6 +14,7 @@ cleared d s =
       ports = λ q i. word s (portAt q i);
       counters = counter s;
       times = time s;
+      drops = λ q kind. drops s kind q;
     })
 
 -- the waiting sets and next of its ports: all but the flags
@@ -26,6 +27,7 @@ emptied d s =
       ports = λ q i. cond (eqb (q / 8) d && not (eqb i runningAt)) 0 (word s (portAt q i));
       counters = counter s;
       times = time s;
+      drops = λ q kind. drops s kind q;
     })
 
 -- its counter, and what its ports have of Time-Codes
@@ -38,4 +40,18 @@ untimed d s =
       ports = λ q i. word s (portAt q i);
       counters = λ e. cond (eqb e d) 0 (counter s e);
       times = λ q. cond (eqb (q / 8) d) 0 (time s q);
+      drops = λ q kind. drops s kind q;
+    })
+
+-- what its ports dropped
+abbrev pub uncounted : ℕ → State → State
+uncounted d s =
+    stateOf
+    (record {
+      registers = register s;
+      timers = timer s;
+      ports = λ q i. word s (portAt q i);
+      counters = counter s;
+      times = time s;
+      drops = λ q kind. cond (eqb (q / 8) d) 0 (drops s kind q);
     })

@@ -1,9 +1,11 @@
 use mathlib.Core.Path.{_≡_, sym, _∙_}
 use mathlib.Core.Bool.{true}
+use Prim.Native.Nat.{ℕ}
 use borrow.Author.Tests.{not-true, not-false}
+use Rattle.bits.specs.Set.{bit}
 use Rattle.device.specs.Permissions.{mayReceive}
-use Rattle.device.specs.Reaction.{isUsed}
-use Rattle.device.proofs.Rule.{Accepts, stopped, forbidden, unused, opposite, taken}
+use Rattle.device.specs.Reaction.{isUsed, barsOf}
+use Rattle.device.proofs.Rule.{Accepts, stopped, forbidden, barred, unused, opposite, taken}
 use borrow.Author.Needs.{needs}
 use Rattle.device.proofs.ruled.Statement.{statement}
 use Rattle.device.proofs.ruled.Tie as tie
@@ -15,17 +17,28 @@ runs c = not-false _ (c .if1 .left)
 may : (c : tie.Else2) → let a = c .before .before .before .before .args in mayReceive (a .kind) (a .side .permissions) ≡ true
 may c = sym (c .before .may-receive .ensures) ∙ not-false _ (c .if2 .left)
 
-used : (c : tie.Else3) → let a = c .before .before .before .before .before .before .args in isUsed (a .side .events) (a .kind) (a .k) ≡ true
-used c = sym (c .before .is-used .ensures) ∙ not-false _ (c .if3 .left)
+-- the bit of the identifier in what the port bars
+bars : (c : tie.After-get) → let a = c .before .before .before .before .before .before .args in c .get .result ≡ bit (barsOf (a .side) (a .kind)) (a .k)
+bars c = rw (← c .before .bars-of .ensures) (c .get .ensures)
 
--- all four tests were passed
-accepts : (c : tie.Else4) → let a = c .before .before .before .before .before .before .before .before .args in Accepts (a .side) (a .register) (a .kind) (a .k)
+unbarred : (c : tie.Else3) → let a = c .before .before .before .before .before .before .before .args in bit (barsOf (a .side) (a .kind)) (a .k) ≡ 0
+unbarred c = sym (bars (c .before)) ∙ c .if3 .left
+
+used : (c : tie.Else4) → let a = c .before .before .before .before .before .before .before .before .before .args in isUsed (a .side .events) (a .kind) (a .k) ≡ true
+used c = sym (c .before .is-used .ensures) ∙ not-false _ (c .if4 .left)
+
+-- all five tests were passed
+accepts : (c : tie.Else5) → let a = c .before .before .before .before .before .before .before .before .before .before .before .args in Accepts (a .side) (a .register) (a .kind) (a .k)
 accepts c =
+    let u = c .before .before in
+    let b = u .before .before in
+    let m = b .before .before .before in
     record {
-      runs = runs (c .before .before .before .before .before .before);
-      may = may (c .before .before .before .before);
-      used = used (c .before .before);
-      stood = sym (c .before .get .ensures) ∙ c .if4 .left;
+      runs = runs (m .before .before);
+      may = may m;
+      unbarred = unbarred b;
+      used = used u;
+      stood = sym (c .before .get2 .ensures) ∙ c .if5 .left;
     }
 
 returns : tie.Need-returns
@@ -36,26 +49,39 @@ returns-2 c = c .outcome2 .ensures ∙ forbidden _ _ _ _ _ _ (runs (c .before .b
 
 returns-3 : tie.Need-returns-3
 returns-3 c =
-    let m = c .before .before .before in
-    c .outcome3 .ensures ∙ unused _ _ _ _ _ _ (runs (m .before .before)) (may m) (sym (c .before .before .is-used .ensures) ∙ not-true _ (c .before .if3 .taken))
+    let m = c .before .before .before .before in
+    c .outcome3 .ensures ∙ barred _ _ _ _ _ _ (runs (m .before .before)) (may m) (λ e. c .before .if3 .taken (bars (c .before .before) ∙ e))
 
 returns-4 : tie.Need-returns-4
 returns-4 c =
-    let u = c .before .before .before in
-    c .outcome4 .ensures
-    ∙ opposite _ _ _ _ _ _ (runs (u .before .before .before .before)) (may (u .before .before)) (used u) (λ e. c .before .if4 .taken (c .before .before .get .ensures ∙ e))
+    let b = c .before .before .before in
+    let m = b .before .before .before in
+    c .outcome4 .ensures ∙ unused _ _ _ _ _ _ (runs (m .before .before)) (may m) (unbarred b) (sym (c .before .before .is-used .ensures) ∙ not-true _ (c .before .if4 .taken))
 
 returns-5 : tie.Need-returns-5
-returns-5 c = c .outcome5 .ensures ∙ taken _ _ _ _ _ _ _ _ (accepts (c .before .before .before)) (c .before .before .marked .ensures) (c .before .passed-on .ensures)
+returns-5 c =
+    let u = c .before .before .before in
+    let b = u .before .before in
+    let m = b .before .before .before in
+    c .outcome5 .ensures ∙ opposite _ _ _ _ _ _ (runs (m .before .before)) (may m) (unbarred b) (used u) (λ e. c .before .if5 .taken (c .before .before .get2 .ensures ∙ e))
+
+returns-6 : tie.Need-returns-6
+returns-6 c = c .outcome6 .ensures ∙ taken _ _ _ _ _ _ _ _ (accepts (c .before .before .before)) (c .before .before .marked .ensures) (c .before .passed-on .ensures)
 
 may-receive-requires : tie.Need-may-receive-requires
 may-receive-requires c κs = search needs
+
+bars-of-requires : tie.Need-bars-of-requires
+bars-of-requires c κs = search needs
 
 is-used-requires : tie.Need-is-used-requires
 is-used-requires c κs = search needs
 
 get-requires : tie.Need-get-requires
 get-requires c κs = search needs
+
+get-requires-2 : tie.Need-get-requires-2
+get-requires-2 c κs = search needs
 
 marked-requires : tie.Need-marked-requires
 marked-requires c κs = search needs
@@ -72,11 +98,14 @@ outcome-requires-3 c κs = search needs
 outcome-requires-4 : tie.Need-outcome-requires-4
 outcome-requires-4 c κs = search needs
 
+outcome-requires-5 : tie.Need-outcome-requires-5
+outcome-requires-5 c κs = search needs
+
 passed-on-requires : tie.Need-passed-on-requires
 passed-on-requires c κs = search needs
 
-outcome-requires-5 : tie.Need-outcome-requires-5
-outcome-requires-5 c κs = search needs
+outcome-requires-6 : tie.Need-outcome-requires-6
+outcome-requires-6 c κs = search needs
 
 pub ruled-spec : {M : Type 1} → statement M
 ruled-spec =
@@ -87,13 +116,17 @@ ruled-spec =
     may-receive-requires
     outcome-requires-2
     returns-2
-    is-used-requires
+    bars-of-requires
+    get-requires
     outcome-requires-3
     returns-3
-    get-requires
+    is-used-requires
     outcome-requires-4
     returns-4
+    get-requires-2
+    outcome-requires-5
+    returns-5
     marked-requires
     passed-on-requires
-    outcome-requires-5
-    returns-5)
+    outcome-requires-6
+    returns-6)

@@ -1,5 +1,5 @@
 -- `plan::blank` meets its contract: its parts are those of `zeros`. Assumes nothing.
-use mathlib.Core.Path.{ap₂, _∙_}
+use mathlib.Core.Path.{_∙_}
 use borrow.Author.Needs.{needs}
 use Rattle.plan.specs.Reading.{zeros}
 use Rattle.plan.proofs.blank.Statement.{statement}
@@ -7,7 +7,11 @@ use Rattle.plan.proofs.blank.Tie as tie
 
 returns : tie.Need-returns
 unfolding zeros
-returns c = ap₂ (λ core peers. record { core = core; peers = peers }) (c .whole .ensures .0 ∙ c .before .core-with .ensures) (c .whole .ensures .1)
+returns c =
+    let core = c .whole .ensures .0 ∙ c .before .core-with .ensures in
+    let peers = c .whole .ensures .1 in
+    let barred = c .whole .ensures .2 in
+    λ i. record { core = core i; peers = peers i; barred = barred i }
 
 core-with-requires : tie.Need-core-with-requires
 core-with-requires c κs = search needs

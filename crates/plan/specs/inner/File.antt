@@ -7,7 +7,7 @@ use lib.Dec.{eqb}
 use lib.ListN.{set}
 use Rattle.lists.specs.Table.{table, joined}
 use Rattle.plan.specs.Block.{Field, check, checkField}
-use Rattle.plan.specs.Fields.{entryFields, ownFields, nobody}
+use Rattle.plan.specs.Fields.{entryFields, ownFields, barField, nobody}
 use Rattle.plan.specs.Header.{headerFields, headerOf, headerNumbers}
 use Rattle.plan.specs.declared.Core.{Core}
 use Rattle.plan.specs.declared.Header.{Header}
@@ -55,21 +55,25 @@ headerHoldings h = holdings headerFields (headerNumbers h)
 abbrev pub entryNumbers : ℕ → ℕ → List ℕ
 entryNumbers peer permissions = cond (eqb peer nobody) 255 (peer / 8) ∷ cond (eqb peer nobody) 255 (peer % 8) ∷ permissions ∷ 0 ∷ []
 
--- the block of device d: its own numbers, then its entries
+-- the block of device d: its own numbers, its entries, and what its ports bar
 abbrev pub ownHoldings : ℕ → ℕ → ℕ → ℕ → ℕ → List Holding
 ownHoldings d role ports source handler = holdings ownFields (2 ∷ d ∷ role ∷ ports ∷ source ∷ handler ∷ [])
 
 abbrev pub entryHoldings : ℕ → ℕ → ℕ → List Holding
 entryHoldings p peer permissions = holdings (entryFields p) (entryNumbers peer permissions)
 
-unfoldable pub deviceHoldings : Core → List (List ℕ) → ℕ → List Holding
-deviceHoldings core peers d =
+abbrev pub barHoldings : ℕ → ℕ → List Holding
+barHoldings j mask = holdings (barField j ∷ []) (mask ∷ [])
+
+unfoldable pub deviceHoldings : Core → List (List ℕ) → List ℕ → ℕ → List Holding
+deviceHoldings core peers barred d =
     ownHoldings d (at (core .role) d) (at (core .ports) d) (at (core .source) d) (at (core .handler) d)
     ++ joined 8 (λ p. entryHoldings p (peerAt peers d p) (at (core .permissions) (8 * d + p)))
+    ++ joined 16 (λ j. barHoldings j (at barred (16 * d + j)))
 
 -- ---- the file
 
 unfoldable pub fileOf : Plan → List ℕ
 fileOf plan =
     blockOf (headerHoldings (headerOf (plan .core)))
-    ++ joined (plan .core .devices) (λ d. blockOf (deviceHoldings (plan .core) (plan .peers) d))
+    ++ joined (plan .core .devices) (λ d. blockOf (deviceHoldings (plan .core) (plan .peers) (plan .barred) d))

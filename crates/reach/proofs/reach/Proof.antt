@@ -35,7 +35,7 @@ behind plan s d k = passed (stateAsks plan s) (drop 2 (reachAsks plan s d k))
 
 -- among the plan's peers and from the source alone, or from others that are equal
 walked : (plan : Plan) (s : State) (d k : ℕ) (peers : List (List ℕ)) (start : ℕ) (r : Seen) → Held plan → d < 32 → peers ≡ plan .peers → start ≡ join 0 d
-    → Finds (λ depth. portVisit (plan .core .role) (plan .core .ports) (ahead (plan .core .permissions) peers s k) depth d 0 (seen start 0)) (left start + 9) r
+    → Finds (λ depth. portVisit (plan .core .role) (plan .core .ports) (ahead (plan .core .permissions) peers (plan .barred) s k) depth d 0 (seen start 0)) (left start + 9) r
     → Reached plan s d k (r .set) × (r .examined ≡ portsExamined plan d (r .set))
 unfolding visited
 walked plan s d k peers start r held h e j w =
@@ -43,7 +43,7 @@ walked plan s d k peers start r held h e j w =
     rw same (visits-reach plan held s d k h, visits-examine plan held s d k h)
 
 -- what the tests that are passed say
-ready : (c : tie.Else1) → Holds (stateAsks (c .before .before .before .args .plan) (now (c .before .before .before .args .state)))
+ready : (c : tie.Else1) → Holds (stateAsks (c .before .before .before .args .t1) (now (c .before .before .before .args .state)))
 ready c = holds (stateAsks _ _) refl (c .before .refusal .ensures) (c .if1 .left)
 
 returns : tie.Need-returns
@@ -51,12 +51,12 @@ returns c =
     let r = c .before .before in
     let a = r .before .before .args in
     refuses _ _ _ _ _ _ _ _ _ (c .refused .ensures) (c .before .if1 .taken)
-    (stopped (stateAsks _ _) (drop 2 (reachAsks (a .plan) (now (a .state)) (a .device) (a .k))) (r .refusal .ensures) (c .before .if1 .taken))
+    (stopped (stateAsks _ _) (drop 2 (reachAsks (a .t1) (now (a .state)) (a .device) (a .k))) (r .refusal .ensures) (c .before .if1 .taken))
 
 -- source and identifier are as they have to be
 asked : (c : tie.Else2) → let a = c .before .before .before .before .before .before .before .before .args in
-    Holds (sourceAsks (a .plan .core .devices) (a .plan .core .source) (a .device) (a .k))
-asked c = let a = c .before .before .before .before .before .before .before .before .args in holds (sourceAsks (a .plan .core .devices) (a .plan .core .source) (a .device) (a .k)) refl (c .before .source-refusal .ensures) (c .if2 .left)
+    Holds (sourceAsks (a .t1 .core .devices) (a .t1 .core .source) (a .device) (a .k))
+asked c = let a = c .before .before .before .before .before .before .before .before .args in holds (sourceAsks (a .t1 .core .devices) (a .t1 .core .source) (a .device) (a .k)) refl (c .before .source-refusal .ensures) (c .if2 .left)
 
 small : (c : tie.Else2) → c .before .before .before .before .before .before .before .before .args .device < 32
 small c = omega (arith, few _ (ready (c .before .before .before .before .before) .0), asked c .0)
@@ -71,13 +71,13 @@ cast-join c = omega (arith, small (c .before .before .before))
 
 each-port-requires : tie.Need-each-port-requires
 each-port-requires c κs =
-    let f = c .before .before .before .before .before .before .before .before .before in
+    let f = c .before .before .before .before .before .before .before .before .before .before .before in
     let plain = ready (f .before .before .before .before .before) in
     (plain .1 .0 .size, most-ports _ (plain .0), small f)
 
 returns-3 : tie.Need-returns-3
 returns-3 c =
-    let j = c .before .before .before .before .before .before .before in
+    let j = c .before .before .before .before .before .before .before .before .before in
     let f = j .before .before .before .before in
     let plain = ready (f .before .before .before .before .before) in
     let seen = walked _ _ _ _ _ _ _ (plain .0) (small f) (j .before .peers-of .ensures) (j .join .ensures) (c .before .each-port .ensures) in

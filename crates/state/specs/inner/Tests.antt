@@ -1,7 +1,7 @@
 -- No rules: whether a state is sound, as one computed test. Nothing here has to be believed; `Tested` proves what it comes to.
 use mathlib.Core.Bool.{Bool, cond, not, _&&_, _||_}
 use mathlib.Core.List.{List}
-use Prim.Native.Nat.{ℕ, _*_, _/_, _%_, min}
+use Prim.Native.Nat.{ℕ, _+_, _-_, _*_, _/_, _%_, min}
 use lib.Bits.{bitAnd}
 use lib.Dec.{eqb, ltb, leb}
 use lib.ListN.{length, getD}
@@ -9,8 +9,9 @@ use Rattle.lists.specs.Table.{every}
 use Rattle.bits.specs.Set.{bit}
 use Rattle.device.specs.Permissions.{maySend}
 use Rattle.plan.specs.Fields.{nobody}
+use Rattle.plan.specs.inner.Memory.{freeMasks}
 use Rattle.plan.specs.declared.Plan.{Plan}
-use Rattle.state.specs.State.{State, words, word, deviceWords, portsAt, portWords, portAt, register, timer, waiting, next, running, counter, time}
+use Rattle.state.specs.State.{State, words, word, deviceWords, portsAt, portWords, portAt, register, timer, waiting, next, running, counter, time, dropsStart, mostDrops}
 use Rattle.state.specs.Network.{peerIn}
 
 unfoldable pub timerSound : ℕ → ℕ → Bool
@@ -25,7 +26,7 @@ allTimed n s = every (min n 32) (deviceTimed s)
 
 -- the words from one place to another are 0
 unfoldable pub zerosIn : ℕ → ℕ → State → Bool
-zerosIn from to s = every to (λ i. ltb i from || eqb (word s i) 0)
+zerosIn from to s = every (to - from) (λ i. eqb (word s (from + i)) 0)
 
 -- those behind n devices, up to the ports
 abbrev pub restZero : ℕ → State → Bool
@@ -78,6 +79,20 @@ timeSound s q ports = cond (ltb (q % 8) ports) (timeKept (time s q) (running s q
 unfoldable pub timesSound : List ℕ → State → Bool
 timesSound ports s = every 256 (λ q. timeSound s q (getD ports (q / 8) 0))
 
+-- of the 16 counts of a device, those in front, as many as it has of them, are within their bound, and the others 0
+unfoldable pub countSound : ℕ → ℕ → ℕ → Bool
+countSound own j count = cond (ltb j own) (leb count mostDrops) (eqb count 0)
+
+unfoldable pub countsSound : State → ℕ → ℕ → Bool
+countsSound s d own = every 16 (λ j. countSound own j (word s (dropsStart + 16 * d + j)))
+
+-- two for each port of a router; of n devices
+unfoldable pub ownCounts : ℕ → List ℕ → List ℕ → ℕ → ℕ
+ownCounts n role ports d = cond (ltb d n) (freeMasks (getD role d 0) (getD ports d 0)) 0
+
+unfoldable pub dropsSound : ℕ → List ℕ → List ℕ → State → Bool
+dropsSound n role ports s = every 32 (λ d. countsSound s d (ownCounts n role ports d))
+
 unfoldable pub sounds : Plan → State → Bool
 sounds plan s =
     eqb (length s) words
@@ -86,3 +101,4 @@ sounds plan s =
     && portsSound (plan .core .ports) (plan .core .permissions) (plan .peers) s
     && countersSound (plan .core .devices) s
     && timesSound (plan .core .ports) s
+    && dropsSound (plan .core .devices) (plan .core .role) (plan .core .ports) s

@@ -43,7 +43,7 @@ filled area before e l = e ∙ ap (λ (n : ℕ). table n (λ _. nobody)) l
 
 -- by the layers of the plan's own table, from device e back
 module _ (plan : Plan) (s : State) (k d e : ℕ) (peers : List (List ℕ)) (to from far : List ℕ) (held : Held plan) (sound : Sound plan s) (h : d < devices plan) (g : e < devices plan)
-    (p : peers ≡ plan .peers) (t : to ≡ aheadAll (plan .core .permissions) peers s k) (b : from ≡ table 256 (behind peers to)) (f : far ≡ layers from (plan .core .role) e) where
+    (p : peers ≡ plan .peers) (t : to ≡ aheadAll (plan .core .permissions) peers (plan .barred) s k) (b : from ≡ table 256 (behind peers to)) (f : far ≡ layers from (plan .core .role) e) where
   own : to ≡ ahead plan s k (sound .size)
   own = t ∙ rw p
 
@@ -81,7 +81,7 @@ module _ (plan : Plan) (s : State) (k d e : ℕ) (peers : List (List ℕ)) (to f
       subst (λ (r : List ℕ). ChainTo plan s k d e (at far d) r) (sym a) (subst (λ (n : ℕ). ChainTo plan s k d e n (padded [])) (sym z) (not-reached out))
 
 -- what the tests that are passed say
-passes : (c : tie.Else1) → let a = c .before .before .before .before .args in Ready (a .plan) (now (a .state)) (a .source) (a .k) (a .device) 32 (now (a .ports))
+passes : (c : tie.Else1) → let a = c .before .before .before .before .args in Ready (a .t1) (now (a .state)) (a .source) (a .k) (a .device) 32 (now (a .ports))
 passes c = ready _ _ _ _ _ _ _ _ (c .before .refusal .ensures) (c .if1 .left)
 
 returns : tie.Need-returns
@@ -90,37 +90,37 @@ returns c =
     answer-refused _ _ _ _ _ _ _ _ _ _ _ (r .refusal .ensures) (c .before .if1 .taken) (c .refused .ensures)
 
 walk-requires : tie.Need-walk-requires
-walk-requires c κs = (refl, passes (c .before .before .before .before .before .before .before .before .before .before .before .before .before) .device-small)
+walk-requires c κs = (refl, passes (c .before .before .before .before .before .before .before .before .before .before .before .before .before .before .before) .device-small)
 
 mul-n : tie.Need-mul-n
-mul-n c = record { fits = omega (arith, passes (c .before .before .before .before .before .before .before .before .before .before .before .before .before .before .before .before .before .before .before) .source-small) }
+mul-n c = record { fits = omega (arith, passes (c .before .before .before .before .before .before .before .before .before .before .before .before .before .before .before .before .before .before .before .before .before) .source-small) }
 
 array-read-n : tie.Need-array-read-n
-array-read-n c = passes (c .before .before .before .before .before .before .before .before .before .before .before .before .before .before .before .before .before .before .before) .source-small
+array-read-n c = passes (c .before .before .before .before .before .before .before .before .before .before .before .before .before .before .before .before .before .before .before .before .before) .source-small
 
 follow-requires : tie.Need-follow-requires
 follow-requires c κs =
     let x = c .before .before .before .before .before .before .before in
-    let f = x .before .before .before .before .before .before .before .before .before .before .before .before .before .before .before .before .before in
+    let f = x .before .before .before .before .before .before .before .before .before .before .before .before .before .before .before .before .before .before .before in
     let r = passes f in
-    (x .fill .kept .0 ∙ r .fits, r .source-small, c .before .before .before .before .if2 .taken, goes-down _ _ _ _ _ _ _ _ _ (r .held) (r .sound) (r .source) (r .device) (x .before .before .before .before .before .before .before .before .before .before .before .before .before .before .peers-of .ensures) (x .before .before .before .before .before .before .before .before .before .before .ahead-all .ensures) (x .before .before .before .before .before .before .before .behind-all .ensures) (x .before .before .before .walk .ensures), refl)
+    (x .fill .kept .0 ∙ r .fits, r .source-small, c .before .before .before .before .if2 .taken, goes-down _ _ _ _ _ _ _ _ _ (r .held) (r .sound) (r .source) (r .device) (x .before .before .before .before .before .before .before .before .before .before .before .before .before .before .before .before .peers-of .ensures) (x .before .before .before .before .before .before .before .before .before .before .ahead-all .ensures) (x .before .before .before .before .before .before .before .behind-all .ensures) (x .before .before .before .walk .ensures), refl)
 
 returns-2 : tie.Need-returns-2
 returns-2 c =
     let x = c .before .before .before .before .before .before .before .before .before .before in
-    let f = x .before .before .before .before .before .before .before .before .before .before .before .before .before .before .before .before .before in
+    let f = x .before .before .before .before .before .before .before .before .before .before .before .before .before .before .before .before .before .before .before in
     let r = passes f in
     answer-done _ _ _ _ _ _ _ _ _ _ _ (f .before .refusal .ensures) (f .if1 .left)
-    (shows _ _ _ _ _ _ _ _ _ (r .held) (r .sound) (r .source) (r .device) (x .before .before .before .before .before .before .before .before .before .before .before .before .before .before .peers-of .ensures) (x .before .before .before .before .before .before .before .before .before .before .ahead-all .ensures) (x .before .before .before .before .before .before .before .behind-all .ensures) (x .before .before .before .walk .ensures) _ _ (c .before .before .before .before .before .before .before .if2 .taken)
+    (shows _ _ _ _ _ _ _ _ _ (r .held) (r .sound) (r .source) (r .device) (x .before .before .before .before .before .before .before .before .before .before .before .before .before .before .before .before .peers-of .ensures) (x .before .before .before .before .before .before .before .before .before .before .ahead-all .ensures) (x .before .before .before .before .before .before .before .behind-all .ensures) (x .before .before .before .walk .ensures) _ _ (c .before .before .before .before .before .before .before .if2 .taken)
     (c .before .before .follow .ensures) (filled _ (now (f .before .before .before .before .args .ports)) (x .fill .ensures) (r .fits)))
 
 returns-3 : tie.Need-returns-3
 returns-3 c =
     let x = c .before .before .before in
-    let f = x .before .before .before .before .before .before .before .before .before .before .before .before .before .before .before .before .before in
+    let f = x .before .before .before .before .before .before .before .before .before .before .before .before .before .before .before .before .before .before .before in
     let r = passes f in
     answer-done _ _ _ _ _ _ _ _ _ _ _ (f .before .refusal .ensures) (f .if1 .left)
-    (hides _ _ _ _ _ _ _ _ _ (r .held) (r .sound) (r .source) (r .device) (x .before .before .before .before .before .before .before .before .before .before .before .before .before .before .peers-of .ensures) (x .before .before .before .before .before .before .before .before .before .before .ahead-all .ensures) (x .before .before .before .before .before .before .before .behind-all .ensures) (x .before .before .before .walk .ensures) _ (λ l. omega (arith, l, c .if2 .left)) (filled _ (now (f .before .before .before .before .args .ports)) (x .fill .ensures) (r .fits)))
+    (hides _ _ _ _ _ _ _ _ _ (r .held) (r .sound) (r .source) (r .device) (x .before .before .before .before .before .before .before .before .before .before .before .before .before .before .before .before .peers-of .ensures) (x .before .before .before .before .before .before .before .before .before .before .ahead-all .ensures) (x .before .before .before .before .before .before .before .behind-all .ensures) (x .before .before .before .walk .ensures) _ (λ l. omega (arith, l, c .if2 .left)) (filled _ (now (f .before .before .before .before .args .ports)) (x .fill .ensures) (r .fits)))
 
 pub chain-spec : {M : Type 1} → statement M
 chain-spec =

@@ -9,7 +9,7 @@ use Rattle.ways.proofs.crossings.Statement.{statement}
 use Rattle.ways.proofs.crossings.Tie as tie
 
 -- what the tests that are passed say
-passes : (c : tie.Else1) → let a = c .before .before .before .before .args in Ready (a .plan) (now (a .state)) (a .source) (a .k) (a .source) 32 (now (a .far))
+passes : (c : tie.Else1) → let a = c .before .before .before .before .args in Ready (a .t1) (now (a .state)) (a .source) (a .k) (a .source) 32 (now (a .far))
 passes c = ready _ _ _ _ _ _ _ _ (c .before .refusal .ensures) (c .if1 .left)
 
 returns : tie.Need-returns
@@ -18,22 +18,22 @@ returns c =
     answer-refused _ _ _ _ _ _ _ _ _ _ _ (r .refusal .ensures) (c .before .if1 .taken) (c .refused .ensures)
 
 walk-requires : tie.Need-walk-requires
-walk-requires c κs = let f = c .before .before .before .before .before .before .before .before .before .before in (passes f .fits, passes f .source-small)
+walk-requires c κs = let f = c .before .before .before .before .before .before .before .before .before .before .before .before in (passes f .fits, passes f .source-small)
 
 greatest-requires : tie.Need-greatest-requires
 greatest-requires c κs =
     let w = c .before .before .before in
-    w .walk .kept .1 .1 .1 .0 ∙ passes (w .before .before .before .before .before .before .before .before .before .before .before) .fits
+    w .walk .kept .1 .1 .1 .0 ∙ passes (w .before .before .before .before .before .before .before .before .before .before .before .before .before) .fits
 
 returns-2 : tie.Need-returns-2
 returns-2 c =
     let w = c .before .before .before .before in
     let a = w .before .before .before .before in
-    let f = w .before .before .before .before .before .before .before .before .before .before .before in
+    let f = w .before .before .before .before .before .before .before .before .before .before .before .before .before in
     let r = passes f in
     answer-done _ _ _ _ _ _ _ _ _ _ _ (f .before .refusal .ensures) (f .if1 .left)
     (all-crossings _ (r .held) _ _ _ (r .source) (r .sound .size) _
-    (walked _ (r .held) _ _ _ (r .source) (r .sound) _ _ _ (a .before .before .before .before .peers-of .ensures) (a .ahead-all .ensures) (w .walk .ensures)) _ (c .greatest .ensures))
+    (walked _ (r .held) _ _ _ (r .source) (r .sound) _ _ _ (a .before .before .before .before .before .before .peers-of .ensures) (a .ahead-all .ensures) (w .walk .ensures)) _ (c .greatest .ensures))
 
 pub crossings-spec : {M : Type 1} → statement M
 crossings-spec =

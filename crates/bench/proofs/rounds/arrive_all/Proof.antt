@@ -53,29 +53,29 @@ module _ {plan : Plan} {sent : List ℕ} {size : ℕ} {x : Seen} {q : ℕ} {y : 
 
 -- port q is one of device d
 module _ (plan : Plan) (sent : List ℕ) (q d byte : ℕ) (device : q / 8 ≡ d) (e : byte ≡ getD sent (getD (getD (plan .peers) d []) (q % 8) 0) nothing) where
-  here-byte : byte < nothing → (w : World) → arrives plan sent q w ≡ arrived (loadOf plan d) (plan .core .permissions) q (router plan d) (plan .core .events) byte w
+  here-byte : byte < nothing → (w : World) → arrives plan sent q w ≡ arrived (loadOf plan d) (plan .core .permissions) q (plan .barred) (router plan d) (plan .core .events) byte w
   here-byte h w = rw (← device) (arrives-byte plan sent q byte (rw device e) w h)
 
   here-nothing : nothing ≤ byte → (w : World) → arrives plan sent q w ≡ w
   here-nothing h w = arrives-nothing plan sent q byte (rw device e) w h
 
 abbrev Inv-loop2 : tie.InvT-loop2
-Inv-loop2 peers sent state₀ told₀ count core count₀ d role first past q₀ d-end state told count' q =
-    ((size : ℕ) (x : Seen) → Reached (record { core = core; peers = peers }) sent size x first (seen state₀ told₀ count₀)
-    → Reached (record { core = core; peers = peers }) sent size x q (seen state told count'))
+Inv-loop2 peers barred sent state₀ told₀ count core count₀ d role first past q₀ d-end state told count' q =
+    ((size : ℕ) (x : Seen) → Reached (record { core = core; peers = peers; barred = barred }) sent size x first (seen state₀ told₀ count₀)
+    → Reached (record { core = core; peers = peers; barred = barred }) sent size x q (seen state told count'))
     × (first ≤ q)
     × (q ≤ past)
     × (past ≤ 8 * core .devices)
 
 abbrev μ-loop2 : tie.MeasureT-loop2
-μ-loop2 peers sent state₀ told₀ count core count₀ d role first past q₀ d-end state told count' q = past - q
+μ-loop2 peers barred sent state₀ told₀ count core count₀ d role first past q₀ d-end state told count' q = past - q
 
 abbrev Inv-loop : tie.InvT-loop
-Inv-loop peers sent state₀ told₀ count core count₀ d₀ d-end state told count' d =
-    Reached (record { core = core; peers = peers }) sent (length told₀) (seen state₀ told₀ count) (8 * d) (seen state told count') × (d-end ≡ core .devices)
+Inv-loop peers barred sent state₀ told₀ count core count₀ d₀ d-end state told count' d =
+    Reached (record { core = core; peers = peers; barred = barred }) sent (length told₀) (seen state₀ told₀ count) (8 * d) (seen state told count') × (d-end ≡ core .devices)
 
 abbrev μ-loop : tie.MeasureT-loop
-μ-loop peers sent state₀ told₀ count core count₀ d₀ d-end state told count' d = d-end - d
+μ-loop peers barred sent state₀ told₀ count core count₀ d₀ d-end state told count' d = d-end - d
 
 loop-holds : tie.Need-loop-holds Inv-loop2 μ-loop2 Inv-loop μ-loop
 loop-holds c =
@@ -128,8 +128,8 @@ loop2-again c =
           (λ w. again u (omega (arith, l .loop2 .inv .3))
           (lands (w .11) (w .12) (w .13) (leads (λ told. here-byte _ _ _ _ _ device byte (w .0 .taken) _) (w .6 .ensures .0)))
           (omega (arith, w .13, w .6 .ensures .1))
-          (ap length (w .11) ∙ w .6 .kept .1 .1 .1 .1 .1 .1 .0)
-          (ap length (w .12) ∙ w .6 .kept .1 .1 .1 .1 .1 .1 .1 .0))
+          (ap length (w .11) ∙ w .6 .kept .1 .1 .1 .1 .1 .1 .1 .0)
+          (ap length (w .12) ∙ w .6 .kept .1 .1 .1 .1 .1 .1 .1 .1 .0))
           (λ w. again u (omega (arith, l .loop2 .inv .3)) (lands (w .1) (w .2) (w .3) (silent (λ told. here-nothing _ _ _ _ _ device byte (w .0 .left) _))) (omega (arith, w .3)) (ap length (w .1)) (ap length (w .2)))
           (c .if1 .came),
       omega arith,

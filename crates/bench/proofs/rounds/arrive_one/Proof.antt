@@ -19,9 +19,9 @@ returns : tie.Need-returns
 unfolding word put
 returns c =
     let b = c .before .before .before .before .before .before .before in
-    let a = b .before .before .before .before .before .before .before .before .args in (
-      leads (λ told. arrived-acts _ (a .permissions .now) (a .q) (a .state .now) (eqb (a .role) 1) (a .events) (a .byte) (b .react .result) told
-          (rw (b .before .before .before .word .ensures .0) at (b .react .ensures))) (c .before .before .before .before .act .ensures .0),
+    let a = c .before .before .before .before .before .before .before .before .before .before .before .before .before .before .before .before .before .args in (
+      leads (λ told. arrived-acts _ (a .permissions .now) (a .q) (a .state .now) (a .barred .now) (eqb (a .role) 1) (a .events) (a .byte) (b .react .result) told
+          (rw (c .before .before .before .before .before .before .before .before .before .before .before .before .word .ensures .0) at (b .react .ensures))) (c .before .before .before .before .act .ensures .0),
       c .before .before .before .before .act .ensures .1,
     )
 
@@ -32,7 +32,7 @@ react-requires : tie.Need-react-requires
 react-requires c κs = search needs
 
 act-requires : tie.Need-act-requires
-act-requires c κs = search needs
+act-requires c κs = (simp length-set (omega arith), omega arith, omega arith)
 
 pub arrive-one-spec : {M : Type 1} → statement M
 arrive-one-spec =
@@ -46,6 +46,13 @@ arrive-one-spec =
     (λ c. search needs)
     (λ c. search needs)
     word-requires
+    (λ c. search needs)
+    (λ c. search needs)
+    (λ c. search needs)
+    (λ c. search needs)
+    (λ c. search needs)
+    (λ c. search needs)
+    (λ c. search needs)
     (λ c. search needs)
     (λ c. search needs)
     (λ c. search needs)

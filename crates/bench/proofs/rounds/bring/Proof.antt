@@ -23,10 +23,15 @@ copy-requires-4 c κs =
     let s = c .before .before .before .before .before .before .before .before .before .before .before .before .before .before .before in
     (omega arith, omega (arith, s .pre .1 .size), omega (arith, s .pre .2 .size, c .before .before .before .before .before .before .before .before .before .before .before .copy .ensures .size, c .before .before .before .before .before .before .before .copy2 .ensures .size, c .before .before .before .copy3 .ensures .size))
 
+copy-requires-5 : tie.Need-copy-requires-5
+copy-requires-5 c κs =
+    let s = c .before .before .before .before .before .before .before .before .before .before .before .before .before .before .before .before .before .before .before in
+    (omega arith, omega (arith, s .pre .1 .size), omega (arith, s .pre .2 .size, c .before .before .before .before .before .before .before .before .before .before .before .before .before .before .before .copy .ensures .size, c .before .before .before .before .before .before .before .before .before .before .before .copy2 .ensures .size, c .before .before .before .before .before .before .before .copy3 .ensures .size, c .before .before .before .copy4 .ensures .size))
+
 returns : tie.Need-returns
 returns c =
-    let s = c .before .before .before .before .before .before .before .before .before .before .before .before .before .before .before .before .before .before in
-    brought (s .pre .0) (s .pre .1) (s .pre .2) (c .before .before .before .before .before .before .before .before .before .before .before .before .before .before .copy .ensures) (c .before .before .before .before .before .before .before .before .before .before .copy2 .ensures) (c .before .before .before .before .before .before .copy3 .ensures) (c .before .before .copy4 .ensures)
+    let s = c .before .before .before .before .before .before .before .before .before .before .before .before .before .before .before .before .before .before .before .before .before .before in
+    brought (s .pre .0) (s .pre .1) (s .pre .2) (c .before .before .before .before .before .before .before .before .before .before .before .before .before .before .before .before .before .before .copy .ensures) (c .before .before .before .before .before .before .before .before .before .before .before .before .before .before .copy2 .ensures) (c .before .before .before .before .before .before .before .before .before .before .copy3 .ensures) (c .before .before .before .before .before .before .copy4 .ensures) (c .before .before .copy5 .ensures)
 
 pub bring-spec : {M : Type 1} → statement M
 bring-spec =
@@ -43,5 +48,8 @@ bring-spec =
     (λ c. search needs)
     (λ c. search needs)
     copy-requires-4
+    (λ c. search needs)
+    (λ c. search needs)
+    copy-requires-5
     (λ c. search needs)
     returns)

@@ -14,7 +14,7 @@ use Rattle.bench.proofs.rounds.round.Statement.{statement}
 use Rattle.bench.proofs.rounds.round.Tie as tie
 
 -- past the first two conditions
-ready : (c : tie.Else1) → Holds (stateAsks (c .before .before .before .before .before .before .args .plan) (c .before .before .before .before .before .before .args .old .now))
+ready : (c : tie.Else1) → Holds (stateAsks (c .before .before .before .before .before .before .args .t1) (c .before .before .before .before .before .before .args .old .now))
 ready c = holds (stateAsks _ _) refl (c .before .refusal .ensures) (c .if1 .left)
 
 returns : tie.Need-returns
@@ -31,22 +31,22 @@ returns-4 c = rw (c .refused4 .ensures) (told-long _ _ _ (ready (c .before .befo
 
 play-requires : tie.Need-play-requires
 play-requires c κs =
-    let e = c .before .before .before .before .peers-of .ensures in
-    let r = ready (c .before .before .before .before .before .before .before .before .before .before .before .before .before .before .before .before .before .before .before .before .before) in
+    let e = c .before .before .before .before .before .before .peers-of .ensures in
+    let r = ready (c .before .before .before .before .before .before .before .before .before .before .before .before .before .before .before .before .before .before .before .before .before .before .before) in
     let h = held-parts _ e (r .0) in (
       held-laid _ h,
       sound-idles _ h (sound-parts e (r .1 .0)),
-      zeros-blank _ (c .before .before .before .before .before .before .before .before .before .before .before .before .before .before .before .before .fill .ensures ∙ ap (λ (k : ℕ). table k (λ _. 0)) (c .before .before .before .before .before .before .before .before .before .before .before .before .before .before .before .before .before .before .before .before .if2 .left)),
-      silent-all _ _ (c .before .before .before .before .before .before .before .before .before .before .before .before .fill2 .ensures ∙ ap (λ (k : ℕ). table k (λ _. nothing)) (c .before .before .before .before .before .before .before .before .before .before .before .before .before .before .before .before .before .before .before .if3 .left)),
+      zeros-blank _ (c .before .before .before .before .before .before .before .before .before .before .before .before .before .before .before .before .before .before .fill .ensures ∙ ap (λ (k : ℕ). table k (λ _. 0)) (c .before .before .before .before .before .before .before .before .before .before .before .before .before .before .before .before .before .before .before .before .before .before .if2 .left)),
+      silent-all _ _ (c .before .before .before .before .before .before .before .before .before .before .before .before .before .before .fill2 .ensures ∙ ap (λ (k : ℕ). table k (λ _. nothing)) (c .before .before .before .before .before .before .before .before .before .before .before .before .before .before .before .before .before .before .before .before .before .if3 .left)),
     )
 
-cast-t27 : tie.Need-cast-t27
-cast-t27 c = omega (arith, count-fits (ready (c .before .before .before .before .before .before .before .before .before .before .before .before .before .before .before .before .before .before .before .before .before .before .before .before .before .before .before .before) .0) (played-plan (c .before .before .before .before .before .before .before .before .before .before .before .peers-of .ensures) (c .before .before .before .before .before .before .play .ensures)))
+cast-t30 : tie.Need-cast-t30
+cast-t30 c = omega (arith, count-fits (ready (c .before .before .before .before .before .before .before .before .before .before .before .before .before .before .before .before .before .before .before .before .before .before .before .before .before .before .before .before .before .before) .0) (played-plan (c .before .before .before .before .before .before .before .before .before .before .before .before .before .peers-of .ensures) (c .before .before .before .before .before .before .play .ensures)))
 
 returns-5 : tie.Need-returns-5
 returns-5 c =
-    plays _ _ _ (ready (c .before .before .before .before .before .before .before .before .before .before .before .before .before .before .before .before .before .before .before .before .before .before .before .before .before .before .before .before)) (c .before .before .before .before .before .before .before .before .before .before .before .before .before .before .before .before .before .before .before .before .before .before .before .before .before .before .before .if2 .left) (c .before .before .before .before .before .before .before .before .before .before .before .before .before .before .before .before .before .before .before .before .before .before .before .before .before .before .if3 .left) (c .before .before .before .before .before .before .before .before .before .before .before .before .before .before .before .before .before .before .before .before .before .before .before .before .before .if4 .left) (c .before .before .before .before .before .before .before .before .before .before .before .before .before .before .before .fill3 .ensures)
-    (played-plan (c .before .before .before .before .before .before .before .before .before .before .before .peers-of .ensures) (c .before .before .before .before .before .before .play .ensures))
+    plays _ _ _ (ready (c .before .before .before .before .before .before .before .before .before .before .before .before .before .before .before .before .before .before .before .before .before .before .before .before .before .before .before .before .before .before)) (c .before .before .before .before .before .before .before .before .before .before .before .before .before .before .before .before .before .before .before .before .before .before .before .before .before .before .before .before .before .if2 .left) (c .before .before .before .before .before .before .before .before .before .before .before .before .before .before .before .before .before .before .before .before .before .before .before .before .before .before .before .before .if3 .left) (c .before .before .before .before .before .before .before .before .before .before .before .before .before .before .before .before .before .before .before .before .before .before .before .before .before .before .before .if4 .left) (c .before .before .before .before .before .before .before .before .before .before .before .before .before .before .before .before .before .fill3 .ensures)
+    (played-plan (c .before .before .before .before .before .before .before .before .before .before .before .before .before .peers-of .ensures) (c .before .before .before .before .before .before .play .ensures))
 
 refusal-requires : tie.Need-refusal-requires
 refusal-requires c κs = search needs
@@ -93,7 +93,7 @@ round-spec =
     fill-requires-3
     peers-of-requires
     play-requires
-    cast-t27
+    cast-t30
     (λ c. search needs)
     (λ c. search needs)
     (λ c. search needs)

@@ -55,10 +55,10 @@ module _ {plan : Plan} (held : Held plan) {s : State} (sound : Sound plan s) {al
         }
 
 abbrev Inv-loop : tie.InvT-loop
-Inv-loop core state₀ second₀ allowance peers sent₀ told₀ home₀ n₀ state second sent told home n = Known (record { core = core; peers = peers }) state₀ allowance n home state second sent
+Inv-loop core barred state₀ second₀ allowance peers sent₀ told₀ home₀ n₀ state second sent told home n = Known (record { core = core; peers = peers; barred = barred }) state₀ allowance n home state second sent
 
 abbrev μ-loop : tie.MeasureT-loop
-μ-loop core state₀ second₀ allowance peers sent₀ told₀ home₀ n₀ state second sent told home n = allowance - n
+μ-loop core barred state₀ second₀ allowance peers sent₀ told₀ home₀ n₀ state second sent told home n = allowance - n
 
 loop-holds : tie.Need-loop-holds Inv-loop μ-loop
 loop-holds c =

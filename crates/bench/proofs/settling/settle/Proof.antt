@@ -10,7 +10,7 @@ use Rattle.bench.proofs.settling.settle.Statement.{statement}
 use Rattle.bench.proofs.settling.settle.Tie as tie
 
 -- past the first two conditions
-ready : (c : tie.Else1) → Holds (stateAsks (c .before .before .before .before .before .args .plan) (c .before .before .before .before .before .args .state .now))
+ready : (c : tie.Else1) → Holds (stateAsks (c .before .before .before .before .before .args .t1) (c .before .before .before .before .before .args .state .now))
 ready c = holds (stateAsks _ _) refl (c .before .refusal .ensures) (c .if1 .left)
 
 returns : tie.Need-returns
@@ -24,13 +24,13 @@ returns-3 c = rw (c .refused3 .ensures) (too-many _ _ _ (ready (c .before .befor
 
 run-requires : tie.Need-run-requires
 run-requires c κs =
-    let e = c .before .before .peers-of .ensures in
-    let r = ready (c .before .before .before .before .before .before .before .before .before .before) in
-    (held-parts _ e (r .0), sound-parts e (r .1 .0), c .before .before .before .before .before .before .fill .ensures ∙ ap (λ (k : ℕ). table k (λ _. 0)) (c .before .before .before .before .before .before .before .before .before .if2 .left), omega arith)
+    let e = c .before .before .before .before .peers-of .ensures in
+    let r = ready (c .before .before .before .before .before .before .before .before .before .before .before .before) in
+    (held-parts _ e (r .0), sound-parts e (r .1 .0), c .before .before .before .before .before .before .before .before .fill .ensures ∙ ap (λ (k : ℕ). table k (λ _. 0)) (c .before .before .before .before .before .before .before .before .before .before .before .if2 .left), omega arith)
 
 returns-4 : tie.Need-returns-4
 returns-4 c =
-    ends _ _ _ (ready (c .before .before .before .before .before .before .before .before .before .before .before .before .before .before .before)) (c .before .before .before .before .before .before .before .before .before .before .before .before .before .before .if2 .left) (omega arith) (ends-plan (c .before .before .before .before .before .before .before .peers-of .ensures) (c .before .before .before .before .run .ensures))
+    ends _ _ _ (ready (c .before .before .before .before .before .before .before .before .before .before .before .before .before .before .before .before .before)) (c .before .before .before .before .before .before .before .before .before .before .before .before .before .before .before .before .if2 .left) (omega arith) (ends-plan (c .before .before .before .before .before .before .before .before .before .peers-of .ensures) (c .before .before .before .before .run .ensures))
 
 refusal-requires : tie.Need-refusal-requires
 refusal-requires c κs = search needs

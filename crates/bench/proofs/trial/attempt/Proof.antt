@@ -22,7 +22,7 @@ run-requires c κs =
     let fresh = is-begun _ _ (p .1) (c .before .before .before .before .before .before .before .before .before .before .before .before .before .begin .ensures) in
     let answer = c .before .before .before .before .before .before .before .send-refusal .ensures in
     let z = c .before .before .before .before .before .before .if1 .left in
-    let taken = c .before .before .before .before .take .ensures _ ∙ called-in _ _ _ _ _ (c .before .before .before .before .before .before .before .before .before .before .before .before .before .begin .kept .1 .0 ∙ p .1) (p .3) (is-small _ (p .0) _ _ (p .4)) (omega arith) in
+    let taken = c .before .before .before .before .take .ensures _ _ ∙ called-in _ _ _ _ _ (c .before .before .before .before .before .before .before .before .before .before .before .before .before .begin .kept .1 .0 ∙ p .1) (p .3) (is-small _ (p .0) _ _ (p .4)) (omega arith) in
     (p .0, is-sound _ (p .0) _ _ (p .4) fresh answer z taken, p .2, omega arith)
 
 holders-requires : tie.Need-holders-requires
@@ -35,7 +35,7 @@ returns-2 c =
     let fresh = is-begun _ _ (p .1) (c .before .before .before .before .before .before .before .before .before .before .before .before .before .before .before .before .before .before .before .before .begin .ensures) in
     let answer = c .before .before .before .before .before .before .before .before .before .before .before .before .before .before .send-refusal .ensures in
     let z = c .before .before .before .before .before .before .before .before .before .before .before .before .before .if1 .left in
-    let taken = c .before .before .before .before .before .before .before .before .before .before .before .take .ensures _ ∙ called-in _ _ _ _ _ (c .before .before .before .before .before .before .before .before .before .before .before .before .before .before .before .before .before .before .before .before .begin .kept .1 .0 ∙ p .1) (p .3) (is-small _ (p .0) _ _ (p .4)) (omega arith) in
+    let taken = c .before .before .before .before .before .before .before .before .before .before .before .take .ensures _ _ ∙ called-in _ _ _ _ _ (c .before .before .before .before .before .before .before .before .before .before .before .before .before .before .before .before .before .before .before .before .begin .kept .1 .0 ∙ p .1) (p .3) (is-small _ (p .0) _ _ (p .4)) (omega arith) in
     (is-tried _ (p .0) _ _ (p .4) fresh answer z taken (c .before .before .before .before .before .before .run .ensures) (c .holders .ensures), ends-second (c .before .before .before .before .before .before .run .ensures))
 
 begin-requires : tie.Need-begin-requires

@@ -9,7 +9,7 @@ use Rattle.bench.proofs.trial.trials.Statement.{statement}
 use Rattle.bench.proofs.trial.trials.Tie as tie
 
 -- past the first check
-held : (c : tie.Else1) → Held (c .before .before .before .before .before .args .plan)
+held : (c : tie.Else1) → Held (c .before .before .before .before .before .args .t1)
 held c = granted (c .before .is-held .ensures) (c .if1 .left)
 
 returns : tie.Need-returns
@@ -20,15 +20,15 @@ returns-2 c = misfits _ _ _ _ (held (c .before .before)) (denied (c .before .fit
 
 try-all-requires : tie.Need-try-all-requires
 try-all-requires c κs =
-    let f = granted (c .before .before .before .before .before .before .before .before .before .before .fits2 .ensures) (c .before .before .before .before .before .before .before .before .before .if2 .left) in
-    (held-parts _ (c .before .before .before .peers-of .ensures) (held (c .before .before .before .before .before .before .before .before .before .before .before)), f .0 .0, c .before .before .before .before .before .before .before .fill .ensures ∙ ap (λ n. table n (λ _. 0)) (f .0 .1), f .1)
+    let f = granted (c .before .before .before .before .before .before .before .before .before .before .before .before .fits2 .ensures) (c .before .before .before .before .before .before .before .before .before .before .before .if2 .left) in
+    (held-parts _ (c .before .before .before .before .before .peers-of .ensures) (held (c .before .before .before .before .before .before .before .before .before .before .before .before .before)), f .0 .0, c .before .before .before .before .before .before .before .before .before .fill .ensures ∙ ap (λ n. table n (λ _. 0)) (f .0 .1), f .1)
 
 returns-3 : tie.Need-returns-3
 returns-3 c =
     let b = c .before .before .before .before .before .before .before .before .before .before in
-    let f = granted (c .before .before .before .before .before .before .before .before .before .before .before .before .before .before .before .before .before .before .before .before .before .fits2 .ensures) (c .before .before .before .before .before .before .before .before .before .before .before .before .before .before .before .before .before .before .before .before .if2 .left) in
-    finds _ _ _ _ (held (c .before .before .before .before .before .before .before .before .before .before .before .before .before .before .before .before .before .before .before .before .before .before)) (c .before .before .before .before .before .before .before .before .before .before .before .before .before .before .peers-of .ensures) f (b .try-all .ensures .0)
-    (c .before .before .fill2 .ensures ∙ ap (λ n. table n (λ i. 0)) (b .try-all .kept .1 .1 .0 ∙ f .0 .0))
+    let f = granted (c .before .before .before .before .before .before .before .before .before .before .before .before .before .before .before .before .before .before .before .before .before .before .before .fits2 .ensures) (c .before .before .before .before .before .before .before .before .before .before .before .before .before .before .before .before .before .before .before .before .before .before .if2 .left) in
+    finds _ _ _ _ (held (c .before .before .before .before .before .before .before .before .before .before .before .before .before .before .before .before .before .before .before .before .before .before .before .before)) (c .before .before .before .before .before .before .before .before .before .before .before .before .before .before .before .before .peers-of .ensures) f (b .try-all .ensures .0)
+    (c .before .before .fill2 .ensures ∙ ap (λ n. table n (λ i. 0)) (b .try-all .kept .1 .1 .1 .0 ∙ f .0 .0))
     (b .try-all .ensures .1)
 
 is-held-requires : tie.Need-is-held-requires

@@ -38,10 +38,10 @@ answered-none : (asks : List Condition) {r : Tried} {number : ℕ} → r ≡ rec
 answered-none asks e z o = subst (Ordered asks) (sym (ap (λ (t : Tried). t .number) e) ∙ z) o
 
 abbrev Inv-loop : tie.InvT-loop
-Inv-loop peers state₀ second₀ found₀ core i₀ state second found i = Going (record { core = core; peers = peers }) i state second found
+Inv-loop peers barred state₀ second₀ found₀ core i₀ state second found i = Going (record { core = core; peers = peers; barred = barred }) i state second found
 
 abbrev μ-loop : tie.MeasureT-loop
-μ-loop peers state₀ second₀ found₀ core i₀ state second found i = 1024 - i
+μ-loop peers barred state₀ second₀ found₀ core i₀ state second found i = 1024 - i
 
 loop-holds : tie.Need-loop-holds Inv-loop μ-loop
 loop-holds c =
@@ -69,7 +69,7 @@ loop-again c =
     let e = c .before .before .refused .ensures in
     let h = c .before .before .before .before .before .before .before .before .before .before .pre .0 in
     ⊎-elim
-    (λ w. goes-on (l .inv) (omega arith) (as-tried (w .10) (w .3 .ensures .0)) (ap length (w .8) ∙ w .3 .kept .1 .1 .0) (w .9 ∙ w .3 .ensures .1))
+    (λ w. goes-on (l .inv) (omega arith) (as-tried (w .10) (w .3 .ensures .0)) (ap length (w .8) ∙ w .3 .kept .1 .1 .1 .0) (w .9 ∙ w .3 .ensures .1))
     (λ w. goes-on (l .inv) (omega arith) (as-tried (w .3 ∙ e) (is-foreign _ h _ _ _ f (λ z. w .0 .left (ap (λ (t : Tried). t .number) e ∙ z)))) (ap length (w .1)) (w .2 ∙ l .inv .cleared))
     (c .if1 .came)
 

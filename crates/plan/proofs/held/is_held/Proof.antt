@@ -28,7 +28,7 @@ module _ (plan : Plan) where
 
   -- the last three tests
   abbrev rowsRight : Bool
-  rowsRight = every 32 (rowRight (plan .core) (plan .peers))
+  rowsRight = every 32 (rowRight (plan .core) (plan .peers) (plan .barred))
 
   abbrev allJoin : Bool
   allJoin = every n (λ d. every 8 (joins (at (plan .core .ports)) (peerAt (plan .peers)) d))
@@ -60,41 +60,45 @@ module _ (plan : Plan) where
   all-sources found f b = let m : min n 32 ≡ n = omega (arith, few f) in sym (b ∙ ap (sourcesFit (plan .core .events) (at (plan .core .source))) m)
 
 -- what is known of the parameter, and what the first test says
-shape : (c : tie.Start) → Shaped (c .args .plan)
-shape c = owned (c .args .plan) _ (c .good .0)
+shape : (c : tie.Start) → Shaped (c .args .t1)
+shape c = owned (c .args .t1) _ (c .good .0)
 
-header : (c : tie.After-header-fits) {b : Bool} → c .header-fits .result ≡ b → headerFits (headerOf (c .before .before .before .args .plan .core)) ≡ b
+header : (c : tie.After-header-fits) {b : Bool} → c .header-fits .result ≡ b → headerFits (headerOf (c .before .before .before .args .t1 .core)) ≡ b
 header c e = sym (c .header-fits .ensures ∙ ap headerFits (c .before .header-of .ensures)) ∙ e
 
 returns : tie.Need-returns
 returns c = decided _ (shape (c .before .before .before .before)) false _ _ _ (header (c .before) (not-true _ (c .if1 .taken))) refl refl refl
 
 rows-right-requires : tie.Need-rows-right-requires
-rows-right-requires c κs = few (c .before .before .before .before .before .args .plan) (header (c .before .before) (not-false _ (c .before .if1 .left)))
+rows-right-requires c κs =
+    let e = c .before .before .before .before in
+    let start = e .before .before .before .before in
+    (few (start .args .t1) (header (e .before) (not-false _ (e .if1 .left))), shape start .barred .long)
 
 returns-2 : tie.Need-returns-2
 returns-2 c =
-    let e = c .before .before .before in
-    let plan = e .before .before .before .before .args .plan in
-    let rows : rowsRight plan ≡ false = rw (← c .before .before .peers-of .ensures) (sym (c .before .rows-right .ensures) ∙ not-true _ (c .if2 .taken)) in
+    let e = c .before .before .before .before .before .before in
+    let plan = e .before .before .before .before .args .t1 in
+    let rows : rowsRight plan ≡ false =
+    ap (λ peers. every 32 (rowRight (plan .core) peers (plan .barred))) (sym (c .before .before .before .before .before .peers-of .ensures)) ∙ sym (c .before .rows-right .ensures) ∙ not-true _ (c .if2 .taken) in
     decided plan (shape (e .before .before .before .before)) true false _ _ (header (e .before) (not-false _ (e .if1 .left))) rows refl refl
 
 -- the first two tests were passed, and this is what the third one says
 module _ (c : tie.After-bad-block) where
   abbrev start : tie.After-header-fits
-  start = c .before .before .before .before .before .before
+  start = c .before .before .before .before .before .before .before .before .before
 
   abbrev whole : Plan
-  whole = start .before .before .before .args .plan
+  whole = start .before .before .before .args .t1
 
   fits : headerFits (headerOf (whole .core)) ≡ true
-  fits = header start (not-false _ (c .before .before .before .before .before .if1 .left))
+  fits = header start (not-false _ (c .before .before .before .before .before .before .before .before .if1 .left))
 
   rows : rowsRight whole ≡ true
-  rows = ap (λ peers. every 32 (rowRight (whole .core) peers)) (sym (c .before .before .before .before .peers-of .ensures)) ∙ sym (c .before .before .before .rows-right .ensures) ∙ not-false _ (c .before .before .if2 .left)
+  rows = ap (λ peers. every 32 (rowRight (whole .core) peers (whole .barred))) (sym (c .before .before .before .before .before .before .before .peers-of .ensures)) ∙ sym (c .before .before .before .rows-right .ensures) ∙ not-false _ (c .before .before .if2 .left)
 
   joined : allJoin whole ≡ eqb (c .bad-block .result) 0
-  joined = all-join whole _ _ (c .before .before .before .before .peers-of .ensures) fits (c .bad-block .ensures)
+  joined = all-join whole _ _ (c .before .before .before .before .before .before .before .peers-of .ensures) fits (c .bad-block .ensures)
 
 returns-3 : tie.Need-returns-3
 returns-3 c =

@@ -35,6 +35,9 @@ core-of-requires c κs = let p = passes c in (count-few _ p, counts _ p)
 peers-of-requires : tie.Need-peers-of-requires
 peers-of-requires c κs = let p = passes (c .before) in (count-few _ p, counts _ p)
 
+barred-of-requires : tie.Need-barred-of-requires
+barred-of-requires c κs = let p = passes (c .before .before .before .before .before .before .before .before) in (count-few _ p, counts _ p)
+
 returns-2 : tie.Need-returns-2
 returns-2 c = c .refused2 .ensures ∙ search-refuses _ (passes (c .before .before .before .before .before .before .before .before)) (searched (c .before .before .before .before)) (c .before .if2 .taken)
 
@@ -43,9 +46,11 @@ returns-3 c = c .refused3 .ensures ∙ sources-refuse _ (passes (c .before .befo
 
 returns-4 : tie.Need-returns-4
 returns-4 c =
-    let core = c .whole .ensures .0 ∙ c .before .before .before .before .before .before .before .before .core-of .ensures in
-    let peers = c .whole .ensures .1 ∙ c .before .before .before .before .before .before .before .peers-of .ensures in
-    sources-accept _ (passes (c .before .before .before .before .before .before .before .before .before)) (searched (c .before .before .before .before .before)) (c .before .before .if2 .left) (tested (c .before .before .before)) (not-false _ (c .before .if3 .left)) (same-plan core peers)
+    let b = c .before in
+    let core = c .whole .ensures .0 ∙ b .before .before .before .before .before .before .before .before .core-of .ensures in
+    let peers = c .whole .ensures .1 ∙ b .before .before .before .before .before .before .before .peers-of .ensures in
+    sources-accept _ (passes (b .before .before .before .before .before .before .before .before .before)) (searched (b .before .before .before .before .before)) (b .before .before .if2 .left) (tested (b .before .before .before)) (not-false _ (b .before .if3 .left))
+    (same-plan core peers (c .whole .ensures .2 ∙ b .barred-of .ensures))
 
 scan-requires : tie.Need-scan-requires
 scan-requires c κs = search needs
@@ -83,5 +88,6 @@ read-spec =
     returns-2
     refused-requires-3
     returns-3
+    barred-of-requires
     whole-requires
     returns-4)

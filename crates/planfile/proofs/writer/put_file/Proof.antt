@@ -10,10 +10,10 @@ use Rattle.planfile.proofs.writer.put_file.Statement.{statement}
 use Rattle.planfile.proofs.writer.put_file.Tie as tie
 
 abbrev Inv-loop : tie.InvT-loop
-Inv-loop core area₀ peers d₀ d-end area d = Blocks core peers area d
+Inv-loop core barred area₀ peers d₀ d-end area d = Blocks core peers barred area d
 
 abbrev μ-loop : tie.MeasureT-loop
-μ-loop core area₀ peers d₀ d-end area d = core .devices - d
+μ-loop core barred area₀ peers d₀ d-end area d = core .devices - d
 
 put-requires : tie.Need-put-requires Inv-loop μ-loop
 put-requires c κs = let e = ap (λ (h : Header). h .devices) (c .before .header-of .ensures) in (omega arith, search needs)

@@ -32,18 +32,18 @@ returns-2 c =
 
 put-file-requires : tie.Need-put-file-requires
 put-file-requires c κs =
-    let t = c .before .before .before .before .before in
+    let t = c .before .before .before .before .before .before .before in
     let held = t .before .is-held .ensures .only (not-false _ (t .if1 .left)) in
     (held-devices _ held .1, omega arith)
 
 returns-3 : tie.Need-returns-3
 returns-3 c =
     let f = c .before .before in
-    let t = f .before .before .before .before .before .before in
+    let t = f .before .before .before .before .before .before .before .before in
     let held = t .before .is-held .ensures .only (not-false _ (t .if1 .left)) in
-    let plan = t .before .before .before .args .plan in
-    done plan held (written-and-read plan held) (f .before .before .before .if2 .left)
-    (f .put-file .ensures ∙ ap (λ (q : List (List ℕ)). fileOf (record { core = plan .core; peers = q })) (f .before .before .peers-of .ensures))
+    let plan = t .before .before .before .args .t1 in
+    done plan held (written-and-read plan held) (f .before .before .before .before .before .if2 .left)
+    (f .put-file .ensures ∙ ap (λ (q : List (List ℕ)). fileOf (record { core = plan .core; peers = q; barred = plan .barred })) (f .before .before .before .before .peers-of .ensures))
 
 is-held-requires : tie.Need-is-held-requires
 is-held-requires c κs = search needs

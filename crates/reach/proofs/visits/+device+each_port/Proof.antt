@@ -29,31 +29,31 @@ use Rattle.reach.proofs.visits.+device+each_port.Lts-each_port as port-
 use Rattle.reach.proofs.visits.+device+each_port.{statement}
 use Rattle.reach.proofs.visits.+device+each_port.Tie.{close}
 
-abbrev μ-device : Measures 5 device-kinds.ps ℕ
-μ-device κs a = left (a .1 .1 .1 .1 .1 .1 .1 .0)
+abbrev μ-device : Measures 6 device-kinds.ps ℕ
+μ-device κs a = left (a .1 .1 .1 .1 .1 .1 .1 .1 .0)
 
-abbrev μ-each-port : Measures 5 each-port-kinds.ps ℕ
-μ-each-port κs a = left (a .1 .1 .1 .1 .1 .1 .1 .0) + 9
+abbrev μ-each-port : Measures 6 each-port-kinds.ps ℕ
+μ-each-port κs a = left (a .1 .1 .1 .1 .1 .1 .1 .1 .0) + 9
 
 abbrev Inv-loop : port-lts.InvT-loop
-Inv-loop role ports permissions peers state k d start set₀ examined₀ p₀ p-end set examined p =
-    Turned role ports (ahead permissions peers state k) d start set examined p × (p ≤ p-end) × (p-end ≡ getD ports d 0)
+Inv-loop role ports permissions peers barred state k d start set₀ examined₀ p₀ p-end set examined p =
+    Turned role ports (ahead permissions peers barred state k) d start set examined p × (p ≤ p-end) × (p-end ≡ getD ports d 0)
 
 abbrev μ-loop : port-lts.MeasureT-loop
-μ-loop role ports permissions peers state k d start set₀ examined₀ p₀ p-end set examined p = p-end - p
+μ-loop role ports permissions peers barred state k d start set₀ examined₀ p₀ p-end set examined p = p-end - p
 
 module _ (t : ℕ) where
-  abbrev device-at : In 5 device-kinds.ps
-  device-at = and 5 device-kinds.ps (is 5 device-kinds.ps μ-device t) device.Pre
+  abbrev device-at : In 6 device-kinds.ps
+  device-at = and 6 device-kinds.ps (is 6 device-kinds.ps μ-device t) device.Pre
 
-  abbrev device-below : In 5 device-kinds.ps
-  device-below = and 5 device-kinds.ps (falls 5 device-kinds.ps _<_ μ-device t) device.Pre
+  abbrev device-below : In 6 device-kinds.ps
+  device-below = and 6 device-kinds.ps (falls 6 device-kinds.ps _<_ μ-device t) device.Pre
 
-  abbrev port-at : In 5 each-port-kinds.ps
-  port-at = and 5 each-port-kinds.ps (is 5 each-port-kinds.ps μ-each-port t) each-port.Pre
+  abbrev port-at : In 6 each-port-kinds.ps
+  port-at = and 6 each-port-kinds.ps (is 6 each-port-kinds.ps μ-each-port t) each-port.Pre
 
-  abbrev port-below : In 5 each-port-kinds.ps
-  port-below = and 5 each-port-kinds.ps (falls 5 each-port-kinds.ps _<_ μ-each-port t) each-port.Pre
+  abbrev port-below : In 6 each-port-kinds.ps
+  port-below = and 6 each-port-kinds.ps (falls 6 each-port-kinds.ps _<_ μ-each-port t) each-port.Pre
 
   -- what each calls
   abbrev device-calls : device-lts.Claims
@@ -143,10 +143,10 @@ module _ (t : ℕ) where
   Behind c behind =
       let l = c .before .before .before in
       let a = l .before .before .before .before .args in
-      Finds (λ depth. deviceVisit (now (a .role)) (now (a .ports)) (ahead (now (a .permissions)) (now (a .peers)) (now (a .state)) (a .k)) depth (c .before .ahead .result) (l .loop .set)) (left (l .loop .set)) behind
+      Finds (λ depth. deviceVisit (now (a .role)) (now (a .ports)) (ahead (now (a .permissions)) (now (a .peers)) (now (a .barred)) (now (a .state)) (a .k)) depth (c .before .ahead .result) (l .loop .set)) (left (l .loop .set)) behind
 
   turned : (c : port-lts.After-is-new port-calls port-at each-port.Post Inv-loop μ-loop) (behind : Seen) → Behind c behind → let l = c .before .before .before in let a = l .before .before .before .before .args in
-      Turned (now (a .role)) (now (a .ports)) (ahead (now (a .permissions)) (now (a .peers)) (now (a .state)) (a .k)) (a .d) (a .start)
+      Turned (now (a .role)) (now (a .ports)) (ahead (now (a .permissions)) (now (a .peers)) (now (a .barred)) (now (a .state)) (a .k)) (a .d) (a .start)
       (behind .set) (l .loop .examined + 1 + behind .examined) (l .loop .p + 1)
   turned c behind w =
       let l = c .before .before .before in

@@ -13,23 +13,23 @@ use Rattle.reach.specs.Visits.{ahead, aheadAll}
 use Rattle.reach.proofs.visits.ahead_all.Statement.{statement}
 use Rattle.reach.proofs.visits.ahead_all.Tie as tie
 
-module _ (permissions : List ℕ) (peers : List (List ℕ)) (s : State) (k : ℕ) where
-  no-state : (length s ≡ words → ⊥) → replicate 256 32 ≡ aheadAll permissions peers s k
+module _ (permissions : List ℕ) (peers : List (List ℕ)) (barred : List ℕ) (s : State) (k : ℕ) where
+  no-state : (length s ≡ words → ⊥) → replicate 256 32 ≡ aheadAll permissions peers barred s k
   unfolding aheadAll
   no-state n = is-table 256 _ (replicate 256 32) 0 (length-replicate {A = ℕ} 256 32) (λ i h. getD-replicate 256 i 32 0 h ∙ rw (ne-eqb (length s) words n))
 
-  a-state : length s ≡ words → {q : ℕ} {out : List ℕ} → Filled 256 256 32 (ahead permissions peers s k) q out → 256 ≤ q → out ≡ aheadAll permissions peers s k
+  a-state : length s ≡ words → {q : ℕ} {out : List ℕ} → Filled 256 256 32 (ahead permissions peers barred s k) q out → 256 ≤ q → out ≡ aheadAll permissions peers barred s k
   unfolding aheadAll
   a-state e f h = filled-whole f h ∙ same-table 256 _ _ (λ i l. rw (eq-eqb (length s) words e))
 
 abbrev Inv-loop : tie.InvT-loop
-Inv-loop permissions peers state k all₀ q₀ all q = Filled 256 256 32 (ahead permissions peers state k) q all
+Inv-loop permissions peers barred state k all₀ q₀ all q = Filled 256 256 32 (ahead permissions peers barred state k) q all
 
 abbrev μ-loop : tie.MeasureT-loop
-μ-loop permissions peers state k all₀ q₀ all q = 256 - q
+μ-loop permissions peers barred state k all₀ q₀ all q = 256 - q
 
 returns : tie.Need-returns Inv-loop μ-loop
-returns c = no-state _ _ _ _ (c .if1 .taken)
+returns c = no-state _ _ _ _ _ (c .if1 .taken)
 
 loop-holds : tie.Need-loop-holds Inv-loop μ-loop
 loop-holds c = filled-none (omega arith)
@@ -41,7 +41,7 @@ loop-again : tie.Need-loop-again Inv-loop μ-loop
 loop-again c = filled-more (c .before .before .loop .inv) (c .before .loop-test .taken) (c .ahead .ensures)
 
 returns-2 : tie.Need-returns-2 Inv-loop μ-loop
-returns-2 c = a-state _ _ _ _ (search needs) (c .before .loop .inv) (c .loop-test .left)
+returns-2 c = a-state _ _ _ _ _ (search needs) (c .before .loop .inv) (c .loop-test .left)
 
 pub ahead-all-spec : {M : Type 1} → statement M
 ahead-all-spec =

@@ -13,7 +13,7 @@ use Rattle.answers.specs.Decides.{Decides}
 use Rattle.plan.specs.declared.Plan.{Plan}
 use Rattle.state.specs.State.{State, words, word}
 use Rattle.state.specs.Sound.{Sound}
-use Rattle.state.specs.inner.Tests.{allTimed, restZero, portsSound, countersSound, timesSound, sounds}
+use Rattle.state.specs.inner.Tests.{allTimed, restZero, portsSound, countersSound, timesSound, dropsSound, sounds}
 use Rattle.state.proofs.Tested.{sounds-sound, sound-sounds}
 use Rattle.state.proofs.sound.is_sound.Statement.{statement}
 use Rattle.state.proofs.sound.is_sound.Tie as tie
@@ -29,12 +29,15 @@ module _ (plan : Plan) (s : State) where
   abbrev allTimes : Bool
   allTimes = timesSound (plan .core .ports) s
 
-  -- by the answers to the six tests; those after one that fails do not matter
-  decided : ((i : ℕ) → word s i < 2 ^ 32) → (a b c d g h : Bool) → eqb (length s) words ≡ a → allTimed (plan .core .devices) s ≡ b
-      → restZero (plan .core .devices) s ≡ c → allPorts ≡ d → allCounters ≡ g → allTimes ≡ h → Decides (Sound plan s) (a && b && c && d && g && h)
+  abbrev allDrops : Bool
+  allDrops = dropsSound (plan .core .devices) (plan .core .role) (plan .core .ports) s
+
+  -- by the answers to the seven tests; those after one that fails do not matter
+  decided : ((i : ℕ) → word s i < 2 ^ 32) → (a b c d g h k : Bool) → eqb (length s) words ≡ a → allTimed (plan .core .devices) s ≡ b
+      → restZero (plan .core .devices) s ≡ c → allPorts ≡ d → allCounters ≡ g → allTimes ≡ h → allDrops ≡ k → Decides (Sound plan s) (a && b && c && d && g && h && k)
   unfolding sounds
-  decided fit a b c d g h p q r t u v =
-      let e : (a && b && c && d && g && h) ≡ sounds plan s = rw (p, q, r, t, u, v) in
+  decided fit a b c d g h k p q r t u v w =
+      let e : (a && b && c && d && g && h && k) ≡ sounds plan s = rw (p, q, r, t, u, v, w) in
       record { only = λ f. sounds-sound plan s fit (sym e ∙ f); all = λ x. e ∙ sound-sounds plan s x }
 
   -- among the plan's peers or others that are equal
@@ -47,25 +50,26 @@ unfolding word
 fit c i = omega (arith, c .shared-slice-known .given i)
 
 returns : tie.Need-returns
-returns c = decided _ _ (fit (c .before)) false _ _ _ _ _ (ne-eqb _ _ (c .if1 .taken)) refl refl refl refl refl
+returns c = decided _ _ (fit (c .before)) false _ _ _ _ _ _ (ne-eqb _ _ (c .if1 .taken)) refl refl refl refl refl refl
 
 returns-2 : tie.Need-returns-2
 returns-2 c =
     let e = c .before .before .before in
     let timed = sym (c .before .all-timed .ensures) ∙ not-true _ (c .if2 .taken) in
-    decided _ _ (fit (e .before)) true false _ _ _ _ (eq-eqb _ _ (e .if1 .left)) timed refl refl refl refl
+    decided _ _ (fit (e .before)) true false _ _ _ _ _ (eq-eqb _ _ (e .if1 .left)) timed refl refl refl refl refl
 
 returns-3 : tie.Need-returns-3
 returns-3 c =
     let e = c .before .before .before .before .before in
     let timed = sym (c .before .before .before .all-timed .ensures) ∙ not-false _ (c .before .before .if2 .left) in
     let rest = sym (c .before .rest-zero .ensures) ∙ not-true _ (c .if3 .taken) in
-    decided _ _ (fit (e .before)) true true false _ _ _ (eq-eqb _ _ (e .if1 .left)) timed rest refl refl refl
+    decided _ _ (fit (e .before)) true true false _ _ _ _ (eq-eqb _ _ (e .if1 .left)) timed rest refl refl refl refl
 
--- the first three tests are passed, when the ports are looked at: the answer is that of the last three
+-- the first three tests are passed, when the ports are looked at: the answer is that of the last four
 looked : (c : tie.After-ports-sound) → let e = c .before .before .before .before .before .before .before .before .before .before .before .before .before .before in
     (r : Bool)
-    → ((g h : Bool) → allCounters (e .args .plan) (now (e .args .state)) ≡ g → allTimes (e .args .plan) (now (e .args .state)) ≡ h → (c .ports-sound .result && g && h) ≡ r)
+    → ((g h k : Bool) → allCounters (e .args .plan) (now (e .args .state)) ≡ g → allTimes (e .args .plan) (now (e .args .state)) ≡ h
+    → allDrops (e .args .plan) (now (e .args .state)) ≡ k → (c .ports-sound .result && g && h && k) ≡ r)
     → Decides (Sound (e .args .plan) (now (e .args .state))) r
 looked c r last =
     let t = c .before .before .before .before .before .before .before in
@@ -75,22 +79,33 @@ looked c r last =
     let timed = sym (t .before .before .before .all-timed .ensures) ∙ not-false _ (t .before .before .if2 .left) in
     let rest = sym (t .before .rest-zero .ensures) ∙ not-false _ (t .if3 .left) in
     let ports = all-ports plan s _ _ (c .before .before .before .before .before .peers-of .ensures) (c .ports-sound .ensures) in
-    subst (Decides (Sound plan s)) (last (allCounters plan s) (allTimes plan s) refl refl)
-    (decided plan s (fit (e .before)) true true true (c .ports-sound .result) (allCounters plan s) (allTimes plan s) (eq-eqb _ _ (e .if1 .left)) timed rest ports refl refl)
+    subst (Decides (Sound plan s)) (last (allCounters plan s) (allTimes plan s) (allDrops plan s) refl refl refl)
+    (decided plan s (fit (e .before)) true true true (c .ports-sound .result) (allCounters plan s) (allTimes plan s) (allDrops plan s) (eq-eqb _ _ (e .if1 .left)) timed rest ports refl refl refl)
 
 returns-4 : tie.Need-returns-4
-returns-4 c = looked (c .before) false (λ g h u v. rw (not-true (c .before .ports-sound .result) (c .if4 .taken)))
+returns-4 c = looked (c .before) false (λ g h k u v w. rw (not-true (c .before .ports-sound .result) (c .if4 .taken)))
 
 returns-5 : tie.Need-returns-5
 returns-5 c =
     looked (c .before .before .before) false
-    (λ g h u v. rw (not-false (c .before .before .before .ports-sound .result) (c .before .before .if4 .left), ← u, ← c .before .counters-sound .ensures, not-true (c .before .counters-sound .result) (c .if5 .taken)))
+    (λ g h k u v w. rw (not-false (c .before .before .before .ports-sound .result) (c .before .before .if4 .left), ← u, ← c .before .counters-sound .ensures, not-true (c .before .counters-sound .result) (c .if5 .taken)))
+
+-- the counters are sound as well
+counted : (c : tie.After-times-sound) → let e = c .before .before .before .before .before .before .before .before .before .before .before .before .before .before .before .before .before .before .before in
+    (r : Bool)
+    → ((h k : Bool) → allTimes (e .args .plan) (now (e .args .state)) ≡ h → allDrops (e .args .plan) (now (e .args .state)) ≡ k → (h && k) ≡ r)
+    → Decides (Sound (e .args .plan) (now (e .args .state))) r
+counted c r last =
+    looked (c .before .before .before .before .before) r
+    (λ g h k u v w. rw (not-false (c .before .before .before .before .before .ports-sound .result) (c .before .before .before .before .if4 .left), ← u, ← c .before .before .before .counters-sound .ensures, not-false (c .before .before .before .counters-sound .result) (c .before .before .if5 .left)) (last h k v w))
 
 returns-6 : tie.Need-returns-6
-returns-6 c =
-    let b = c .before .before .before .before in
-    looked (b .before) (c .times-sound .result)
-    (λ g h u v. rw (not-false (b .before .ports-sound .result) (b .if4 .left), ← u, ← c .before .before .before .counters-sound .ensures, not-false (c .before .before .before .counters-sound .result) (c .before .before .if5 .left)) (sym v ∙ sym (c .times-sound .ensures)))
+returns-6 c = counted (c .before) false (λ h k v w. rw (← v, ← c .before .times-sound .ensures, not-true (c .before .times-sound .result) (c .if6 .taken)))
+
+returns-7 : tie.Need-returns-7
+returns-7 c =
+    let t = c .before .before .before .before .before in
+    counted t (c .drops-sound .result) (λ h k v w. rw (← v, ← t .times-sound .ensures, not-false (t .times-sound .result) (c .before .before .before .before .if6 .left)) (sym w ∙ sym (c .drops-sound .ensures)))
 
 all-timed-requires : tie.Need-all-timed-requires
 all-timed-requires c κs = search needs
@@ -110,6 +125,9 @@ counters-sound-requires c κs = search needs
 times-sound-requires : tie.Need-times-sound-requires
 times-sound-requires c κs = search needs
 
+drops-sound-requires : tie.Need-drops-sound-requires
+drops-sound-requires c κs = search needs
+
 pub is-sound-spec : {M : Type 1} → statement M
 is-sound-spec =
     tie.close
@@ -125,4 +143,6 @@ is-sound-spec =
     counters-sound-requires
     returns-5
     times-sound-requires
-    returns-6)
+    returns-6
+    drops-sound-requires
+    returns-7)

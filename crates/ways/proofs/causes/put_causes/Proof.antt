@@ -44,10 +44,10 @@ module _ {f : ℕ → ℕ} {area : List ℕ} where
       (done (p .written) h, p .counted ∙ ap (λ n. marks n f) e)
 
 abbrev Inv-loop : tie.InvT-loop
-Inv-loop permissions peers state far causes₀ count₀ q₀ causes count q = Put (causeAt permissions peers state far) causes count q
+Inv-loop permissions peers barred state far k causes₀ count₀ q₀ causes count q = Put (causeAt permissions peers barred state far k) causes count q
 
 abbrev μ-loop : tie.MeasureT-loop
-μ-loop permissions peers state far causes₀ count₀ q₀ causes count q = 256 - q
+μ-loop permissions peers barred state far k causes₀ count₀ q₀ causes count q = 256 - q
 
 loop-holds : tie.Need-loop-holds Inv-loop μ-loop
 loop-holds c = begins (search needs)

@@ -3,8 +3,8 @@ use borrow.Author.Needs.{needs}
 use Rattle.device.specs.declared.Reaction.{Reaction}
 use Rattle.codes.specs.Numbers.{kindOf, topOf, valueOf}
 use Rattle.device.specs.Reaction.{actionOf, codeIn}
-use Rattle.door.proofs.bench_for_header_react_4.Statement.{statement}
-use Rattle.door.proofs.bench_for_header_react_4.Tie as tie
+use Rattle.door.proofs.bench_for_header_react_guarded.Statement.{statement}
+use Rattle.door.proofs.bench_for_header_react_guarded.Tie as tie
 
 returns : tie.Need-returns
 returns c =
@@ -38,8 +38,8 @@ value-of-requires c κs = search needs
 action-of-requires : tie.Need-action-of-requires
 action-of-requires c κs = search needs
 
-pub bench-for-header-react-4-spec : {M : Type 1} → statement M
-bench-for-header-react-4-spec = tie.close (tie.spec
+pub bench-for-header-react-guarded-spec : {M : Type 1} → statement M
+bench-for-header-react-guarded-spec = tie.close (tie.spec
     react-requires
     code-in-requires
     kind-of-requires
