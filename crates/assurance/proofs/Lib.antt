@@ -29,3 +29,4 @@ pub mod Cycle
 pub mod Clock
 pub mod Event
 pub mod Instances
+pub mod Guarding

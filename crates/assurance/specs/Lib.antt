@@ -6,3 +6,4 @@ pub mod Clock
 pub mod Event
 pub mod Ticking
 pub mod Distribution
+pub mod Guarding

@@ -6,3 +6,4 @@ pub mod Copied
 pub mod Forked
 pub mod OnTime
 pub mod Fading
+pub mod Guarded

@@ -4,3 +4,4 @@ pub mod Copying
 pub mod Fork
 pub mod TimeRate
 pub mod FadeRate
+pub mod Guard
