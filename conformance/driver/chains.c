@@ -109,6 +109,48 @@ static void known_causes(void) {
     says(5, UNREACHED, "cut 3\n3 4 may-not-send\n3 5 may-not-receive\n4 1 may-not-receive\n");
 }
 
+static void bar(u32 device, u32 port, flag barred) {
+    set_bar(&plan, device, port, INTERRUPT, K, barred);
+}
+
+/* The number of the cause at a port, in the area. */
+static void cuts(u32 device, u32 port, u32 number) {
+    found.length = CUT_WORDS;
+    must_be("a cut", 0, try_way(CUT, &plan, &state, (struct question){.k = K}, &found));
+    must_be("the number of a cause", number, found.words[8 * device + port]);
+}
+
+/* One way after the other is barred where it comes to router 3; then other causes are there as well, and go before that. What the
+ * sending port bars, and bars of the acknowledge or of another identifier, change nothing. Of a node it is seen behind that that
+ * it does not forward. */
+static void known_barred(void) {
+    branches();
+    bar(2, 1, 1);
+    bar(1, 1, 1);
+    set_bar(&plan, 3, 6, ACKNOWLEDGE, K, 1);
+    set_bar(&plan, 3, 6, INTERRUPT, K + 1, 1);
+    says(3, 2, "reached 2\n0 0 2 0\n2 1 3 6\n");
+    bar(3, 6, 1);
+    says(3, 2, "reached 2\n0 0 2 0\n2 2 3 1\n");
+    bar(3, 1, 1);
+    says(3, 2, "reached 2\n0 1 1 0\n1 1 3 0\n");
+    bar(3, 0, 1);
+    says(4, UNREACHED, "cut 3\n1 1 barred\n2 1 barred\n2 2 barred\n");
+    link_runs(2, 1, 0);
+    permit_port(2, 2, EVERYTHING - 1);
+    permit_port(3, 0, EVERYTHING - 2);
+    says(4, UNREACHED, "cut 3\n1 1 may-not-receive\n2 1 stopped\n2 2 may-not-send\n");
+    permit_port(3, 0, EVERYTHING);
+    says(4, UNREACHED, "cut 3\n1 1 barred\n2 1 stopped\n2 2 may-not-send\n");
+    bar(3, 0, 0);
+    bar(5, 0, 1);
+    says(5, UNREACHED, "cut 1\n4 1 barred\n");
+    cuts(4, 1, 5);
+    bar(5, 0, 0);
+    says(5, UNREACHED, "cut 1\n4 1 does-not-forward\n");
+    cuts(4, 1, 4);
+}
+
 /* A source of which nothing runs reaches itself, and both its ports lead out of that. */
 static void known_alone(void) {
     branches();
@@ -167,10 +209,10 @@ static void known_refusal(u32 mended) {
 }
 
 /* An area of words has one length. A text needs its least one, and a state's file has four bytes for each word; before there were
- * Time-Codes a state had 2,080 words. */
+ * Time-Codes a state had 2,080 words, and before drops were counted 2,368. */
 static void known_lengths(void) {
     static const size texts[] = {0, 1, WHY_BYTES - 1, WHY_BYTES, WHY_BYTES + 1};
-    static const size files[] = {0, 1, 4, STATE_WORDS, 2 * STATE_WORDS, 8320, 9468, 9471, 9473, 9476, 2 * 9472, 9472};
+    static const size files[] = {0, 1, 4, 2880, 2 * 2880, 8320, 9472, 11516, 11519, 11521, 11524, 2 * 11520, 11520};
     struct question asks = {.device = 1, .k = K};
     branches();
     for (u32 i = 0; i < 4 * 3; i++) {
@@ -187,7 +229,7 @@ static void known_lengths(void) {
     for (u32 i = 0; i < sizeof files / sizeof *files; i++) {
         file.length = files[i];
         must_be("a text", 0, try_why(&plan, &file, asks, &printed));
-        must_say("what it says of a state's file of this length", files[i] == 9472 ? "reached 1\n0 1 1 0\n" : "r2\n", &printed);
+        must_say("what it says of a state's file of this length", files[i] == 11520 ? "reached 1\n0 1 1 0\n" : "r2\n", &printed);
     }
     printed.text_length = WHY_BYTES;
 }
@@ -195,6 +237,7 @@ static void known_lengths(void) {
 void known_chains(void) {
     known_ways();
     known_causes();
+    known_barred();
     known_alone();
     known_line();
     for (u32 mended = NONE_MENDED; mended <= ALL_MENDED; mended++)

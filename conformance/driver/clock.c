@@ -295,9 +295,10 @@ static void known_words(void) {
     try_word(word(31, 7), is_zero);
 }
 
-/* A state as it was before there were Time-Codes is none any more, and so is one that ends somewhere in their words. */
+/* A state as it was before there were Time-Codes, or before drops were counted, is none any more, and so is one that ends somewhere
+ * in their words. */
 static void known_lengths(void) {
-    static const size lengths[] = {1056, 2080, 2111, 2112, 2367, 2369};
+    static const size lengths[] = {1056, 2080, 2111, 2112, 2367, 2368, 2369, 2624, 2879, 2881};
     for (u32 i = 0; i < sizeof lengths / sizeof *lengths; i++) {
         star(15);
         played.next.length = lengths[i];

@@ -92,35 +92,49 @@ static void check_time(u32 role, u32 byte, u32 action, u32 before, u32 after) {
 
 /* Where a byte comes to. */
 struct place {
-    u32 role, running, permissions;
+    u32 role, running, permissions, events;
+    struct bars bars;
 };
 
-/* An interrupt has to find a bit of 0 and an acknowledge one of 1, or it is ignored, as it is where it may not be received; an
- * acknowledge of an event is ignored whatever it finds. That the port stands still comes before all that. */
-static void check_interrupts(const struct place *place, u32 events, u32 byte, u32 before, u32 action) {
+/* A router drops what is barred for its kind, whatever else it finds. An interrupt has to find a bit of 0 and an acknowledge one of
+ * 1, or it is ignored, as it is where it may not be received; an acknowledge of an event is ignored whatever it finds. Before the
+ * bars comes whether it may be received, and before all that whether the port stands still. */
+static void check_interrupts(const struct place *place, u32 byte, u32 before, u32 action) {
     u32 kind = readings[byte].kind, k = readings[byte].value;
     if (kind == TIME_CODE || kind == RESERVED)
         return;
     flag acknowledge = kind == ACKNOWLEDGE, received = place->permissions & (acknowledge ? 8 : 2);
-    flag of_event = acknowledge && events >> k & 1, taken = received && !of_event && (before >> k & 1) == acknowledge;
+    flag barred = (acknowledge ? place->bars.acknowledges : place->bars.interrupts) >> k & 1;
+    flag of_event = acknowledge && place->events >> k & 1, taken = received && !of_event && (before >> k & 1) == acknowledge;
     must_be("what is done with an interrupt or an acknowledge",
-            !place->running ? LINK_ERROR : !taken ? IGNORED : place->role ? FORWARDED : TELLS_HOST, action);
+            !place->running ? LINK_ERROR
+            : received && barred && place->role ? DROPPED
+            : !taken ? IGNORED
+            : place->role ? FORWARDED
+                          : TELLS_HOST,
+            action);
+}
+
+static u32 react_at(const struct place *place, u32 *bits, u32 *counter, u32 byte) {
+    if (!place->bars.interrupts && !place->bars.acknowledges)
+        return try_react(place->role, place->running, place->permissions, place->events, bits, counter, byte);
+    return try_react_guarded(place->role, place->running, place->permissions, place->events, place->bars, bits, counter, byte);
 }
 
 /* Whatever is done with a code, it is handed on as it was read. An interrupt or acknowledge that is forwarded or told has turned
  * its bit round, and all else leaves the register as it was. */
-static void try_reaction(const struct place *place, u32 events, u32 before, u32 counter, u32 byte) {
+static void try_reaction(const struct place *place, u32 before, u32 counter, u32 byte) {
     u32 after = before, then = counter;
-    u32 action = try_react(place->role, place->running, place->permissions, events, &after, &then, byte);
+    u32 action = react_at(place, &after, &then, byte);
     const struct reading *read = &readings[byte];
     must_read(read, &(struct reading){value_given(0), value_given(1), value_given(2)});
     check_time(place->role, byte, action, counter, then);
-    check_interrupts(place, events, byte, before, action);
+    check_interrupts(place, byte, before, action);
     flag turned = read->kind != TIME_CODE && (action == FORWARDED || action == TELLS_HOST);
     must_be("the register then", turned ? before ^ 1u << read->value : before, after);
 }
 
-/* Masks are registers and events: with the bit of the byte's identifier, and without it, among any others, among none and among
+/* Masks are registers, events and bars: with the bit of the byte's identifier, and without it, among any others, among none and among
  * all. */
 enum { MASKS = 6 };
 static void some_masks(u32 byte, u32 masks[MASKS]) {
@@ -135,17 +149,34 @@ static void try_registers(struct place place, u32 byte) {
     some_masks(byte, registers);
     some_masks(byte, events);
     place.permissions |= above;
-    for (u32 i = 0; i < MASKS * MASKS; i++)
-        try_reaction(&place, events[i % MASKS], registers[i / MASKS], counter, byte);
+    for (u32 i = 0; i < MASKS * MASKS; i++) {
+        place.events = events[i % MASKS];
+        try_reaction(&place, registers[i / MASKS], counter, byte);
+    }
+}
+
+/* The same for what is barred of either kind, each time with another register and other events. */
+static void try_guarded(struct place place, u32 byte) {
+    u32 registers[MASKS], interrupts[MASKS], acknowledges[MASKS], counter = once_in(2) ? (byte + 63) % 64 : random_word();
+    some_masks(byte, registers);
+    some_masks(byte, interrupts);
+    some_masks(byte, acknowledges);
+    for (u32 i = 0; i < MASKS * MASKS; i++) {
+        place.bars = (struct bars){interrupts[i % MASKS], acknowledges[i / MASKS]};
+        place.events = once_in(2) ? 0 : registers[pick(MASKS)];
+        try_reaction(&place, registers[pick(MASKS)], counter, byte);
+    }
 }
 
 /* A step below the byte, beside that, and far from it; the same above 63, and at the greatest numbers. */
-static void try_counters(const struct place *place, u32 byte) {
-    u32 below = (byte + 63) % 64, any = random_word(), held = random_word(), events = once_in(2) ? 0 : random_word();
+static void try_counters(struct place place, u32 byte) {
+    u32 below = (byte + 63) % 64, any = random_word(), held = random_word(), bars = once_in(2) ? 0xFFFFFFFF : random_word();
+    place.events = once_in(2) ? 0 : random_word();
+    place.bars = once_in(2) ? (struct bars){0, 0} : (struct bars){bars, ~bars};
     const u32 counters[] = {below, 64 + below, any - any % 64 + below, 0xFFFFFFC0 + below, 256 + below, byte % 64, 64 + byte % 64,
                             (below + 63) % 64, (byte + 1) % 64, 0, 63, 64, 0x80000000, 0xFFFFFFFF, any};
     for (u32 i = 0; i < sizeof counters / sizeof *counters; i++)
-        try_reaction(place, events, held, counters[i], byte);
+        try_reaction(&place, held, counters[i], byte);
 }
 
 void try_tables(void) {
@@ -158,8 +189,9 @@ void try_tables(void) {
         for (u32 running = 0; running < TRUTHS; running++)
             for (u32 permissions = 0; permissions < 16; permissions++)
                 for (u32 byte = 0; byte < BYTES; byte++) {
-                    struct place place = {truths[role], truths[running], permissions};
+                    struct place place = {.role = truths[role], .running = truths[running], .permissions = permissions};
                     try_registers(place, byte);
-                    try_counters(&place, byte);
+                    try_guarded(place, byte);
+                    try_counters(place, byte);
                 }
 }

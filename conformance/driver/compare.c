@@ -3,7 +3,7 @@
  * Each area is lent to each of the two in a place of its own, with guard bytes at both sides, and with the same content. */
 #include "driver.h"
 
-enum { GUARD = 64, GUARD_BYTE = 0xA5, LENT = 6, ASKED = 7 };
+enum { GUARD = 64, GUARD_BYTE = 0xA5, LENT = 6, ASKED = 9 };
 
 /* What a call may do with an area: nothing, write it unless it refuses, or write it in any case. */
 enum use { INPUT, AREA, VALUE };
@@ -168,19 +168,34 @@ u32 try_code_write(u32 kind, u32 value) {
     return finish(judge, bench_code_write(kind, value, by_bench(byte)));
 }
 
-u32 try_react(u32 role, u32 running, u32 permissions, u32 events, u32 *device_register, u32 *counter, u8 byte) {
-    begin(REACT, GIVEN(role, running, permissions, events, *device_register, *counter, byte));
+u32 try_react_guarded(u32 role, u32 running, u32 permissions, u32 events, struct bars bars, u32 *device_register, u32 *counter,
+                      u8 byte) {
+    begin(REACT, GIVEN(role, running, permissions, events, bars.interrupts, bars.acknowledges, *device_register, *counter, byte));
     struct lent *bits = lend("register", AREA, 4, device_register, 1), *count = lend("counter", AREA, 4, counter, 1);
     struct lent *kind = lend("kind", VALUE, 4, &no_part, 1), *top = lend("top", VALUE, 4, &no_part, 1);
     struct lent *value = lend("value", VALUE, 4, &no_part, 1);
-    u32 judge = judge_react(role, running, permissions, events, by_judge(bits), by_judge(count), byte, by_judge(kind),
-                            by_judge(top), by_judge(value));
-    u32 bench = bench_react(role, running, permissions, events, by_bench(bits), by_bench(count), byte, by_bench(kind),
-                            by_bench(top), by_bench(value));
+    u32 judge = judge_react_guarded(role, running, permissions, events, bars.interrupts, bars.acknowledges, by_judge(bits),
+                                    by_judge(count), byte, by_judge(kind), by_judge(top), by_judge(value));
+    u32 bench = bench_react_guarded(role, running, permissions, events, bars.interrupts, bars.acknowledges, by_bench(bits),
+                                    by_bench(count), byte, by_bench(kind), by_bench(top), by_bench(value));
     finish(judge, bench);
     memcpy(device_register, by_bench(bits), bits->bytes);
     memcpy(counter, by_bench(count), count->bytes);
     return bench;
+}
+
+/* For a port that bars nothing the header has a function without bars, which does the same. */
+u32 try_react(u32 role, u32 running, u32 permissions, u32 events, u32 *device_register, u32 *counter, u8 byte) {
+    u32 bits = *device_register, count = *counter, kind = no_part, top = no_part, value = no_part;
+    u32 action = try_react_guarded(role, running, permissions, events, (struct bars){0, 0}, device_register, counter, byte);
+    must_be("the action without bars", action,
+            bench_react(role, running, permissions, events, &bits, &count, byte, &kind, &top, &value));
+    must_be("the register without bars", *device_register, bits);
+    must_be("the counter without bars", *counter, count);
+    must_be("the kind without bars", value_given(0), kind);
+    must_be("the top bits without bars", value_given(1), top);
+    must_be("the value without bars", value_given(2), value);
+    return action;
 }
 
 u32 try_plan_read(const struct plan *plan) {

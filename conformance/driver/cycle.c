@@ -1,9 +1,9 @@
-/* T-01, the return trip, tried: an interrupt that is no event's spreads, a handler that was told of it acknowledges, and the
- * acknowledge brings the network back to where it was, so that the next cycle can begin. Meanwhile other identifiers are used,
- * and a master ticks. */
+/* T-01, the return trip, tried: an interrupt that is no event's and is barred nowhere spreads, a handler that was told of it
+ * acknowledges, and the acknowledge, which is barred nowhere either, brings the network back to where it was, so that the next
+ * cycle can begin. Meanwhile other identifiers are used, which may be barred, and a master ticks. */
 #include "driver.h"
 
-enum { MOST_CYCLES = 3, MOST_GAP = 40, NOT_YET = 1 << 30 };
+enum { NOWHERE = 255, MOST_CYCLES = 3, MOST_GAP = 40, NOT_YET = 1 << 30 };
 
 /* One cycle. By the request's clock the handler waits until the gap behind the first window is over; by its own clock it
  * counts from the round in which it was told. */
@@ -22,9 +22,9 @@ static u32 others; /* pairs that do not allow T-01 */
 
 /* Is every device that the source reached found from the handler, by codes that go over such devices alone? Where one port of
  * the source runs, it always is: all that it reached hangs together without it. */
-static flag all_found(u32 source, u32 handler, const u32 *reached, u32 count) {
+static flag all_found(u32 k, u32 source, u32 handler, const u32 *reached, u32 count) {
     u32 distance[DEVICES];
-    flag all = crossings(&course.records, handler, ACKNOWLEDGE, reached, distance) == count;
+    flag all = crossings(&course.records, handler, (struct code){ACKNOWLEDGE, k}, reached, distance) == count;
     if (!all && running_ports(&course, source) < NODE_PORTS)
         fail("T-01: not all found, though one port of the source runs (source, handler)", source, handler);
     return all;
@@ -39,11 +39,11 @@ static void find_pairs(u32 k, flag any) {
     for (u32 s = 0; s < course.records.devices; s++) {
         if (device[s].router || !(any || device[s].source[k]))
             continue;
-        u32 reached = crossings(&course.records, s, INTERRUPT, 0, distance);
+        u32 reached = crossings(&course.records, s, (struct code){INTERRUPT, k}, 0, distance);
         for (u32 h = 0; h < course.records.devices; h++) {
             if (h == s || distance[h] == UNREACHED || device[h].router || !(any || device[h].handler[k]))
                 continue;
-            if (!all_found(s, h, distance, reached)) {
+            if (!all_found(k, s, h, distance, reached)) {
                 others++;
                 continue;
             }
@@ -53,13 +53,24 @@ static void find_pairs(u32 k, flag any) {
     }
 }
 
-/* Any identifier that is no event; where all are events, one is made so. */
+/* Any identifier that is no event; where all are events, one is made so. What bars it goes, and what bars others stays. */
 static u32 no_event(void) {
     u32 k = pick(IDENTIFIERS);
     for (u32 i = 0; i < IDENTIFIERS && is_event(&course.plan, k); i++)
         k = (k + 1) % IDENTIFIERS;
     be_acknowledged(&course.plan, k);
+    unbar(&course.plan, k);
     return k;
+}
+
+/* Is anything barred at a port that is joined? */
+static flag others_barred(void) {
+    for (u32 i = 0; i < course.plan.bytes[1] * PORTS; i++) {
+        const u8 *bars = port_bars(&course.plan, i / PORTS, i % PORTS);
+        if (port_entry(&course.plan, i / PORTS, i % PORTS)[0] != NOWHERE && (number_at(bars, 4) || number_at(bars + 4, 4)))
+            return 1;
+    }
+    return 0;
 }
 
 /* A pair for k at least. The roles are those of the plan, or anybody's; 0 if no pair of nodes allows T-01. */
@@ -260,6 +271,7 @@ static void count_cycle(const struct cycle *cycle, u32 rounds, struct trips *tri
     trips->back_by_both += cycle->back_by_both;
     trips->beyond += cycle->beyond;
     trips->ticked += course.ticks > 0;
+    trips->barred += others_barred();
 }
 
 static void play_cycles(struct cycle *cycles, u32 count, flag hushed, struct trips *trips) {

@@ -147,6 +147,15 @@ static void unmask(struct plan *plan) {
     }
 }
 
+/* A byte of the bars, of any port: at a router's it may do no harm. */
+static void misbar(struct plan *plan, u32 device) {
+    u32 port = pick(PORTS), ports = device_block(plan, device)[3];
+    if (once_in(2))
+        port = ports < PORTS ? ports : PORTS - 1; /* the first that it lacks */
+    u8 dirt = 1 + pick(255);
+    port_bars(plan, device, port)[pick(8)] = dirt;
+}
+
 static void damage_block_0(struct plan *plan) {
     u8 dirt = 1 + pick(255);
     switch (pick(10)) {
@@ -167,14 +176,15 @@ static void damage_block_0(struct plan *plan) {
 
 static void damage_device(struct plan *plan, u32 device) {
     u8 *block = device_block(plan, device), dirt = 1 + pick(255);
-    switch (pick(9)) {
+    switch (pick(10)) {
     case 0: change(block + pick(2)); break;
-    case 1: change(block + pick(44)); break;
-    case 2: block[44 + pick(466)] = dirt; break;
+    case 1: change(block + pick(BARS)); break;
+    case 2: block[BEHIND_BARS + pick(once_in(4) ? 1 : 510 - BEHIND_BARS)] = dirt; break;
     case 3: change_check(plan, 1 + device); return;
     case 4: misdress(plan, device); break;
     case 5: misfit(plan, device); break;
     case 6: misport(plan, device); break;
+    case 7: misbar(plan, device); break;
     default: misconnect(plan, device);
     }
     if (!once_in(6))

@@ -1,4 +1,5 @@
-/* Demand 3, tried: how an interrupt spreads, of an event or of another identifier, while others are used and a master ticks. */
+/* Demand 3, tried: how an interrupt spreads, of an event or of another identifier, as far as nothing bars it, while others are used
+ * and a master ticks. */
 #include "driver.h"
 
 static struct course course;
@@ -13,6 +14,7 @@ static void count(const struct spread *spread, struct demands *demands) {
     demands->others += !is_event(&course.plan, spread->k);
     demands->from_both += running_ports(&course, spread->start) == NODE_PORTS;
     demands->ticked += course.ticks > 0;
+    demands->barred += meets_bars(spread, &course);
     demands->longest = greater(demands->longest, spread->window);
     demands->slowest = greater(demands->slowest, spread->slowest);
 }

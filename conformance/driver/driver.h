@@ -61,6 +61,11 @@ struct state_file {
     u8 bytes[2 * 4 * STATE_WORDS];
 };
 
+/* What a port bars, in masks. */
+struct bars {
+    u32 interrupts, acknowledges;
+};
+
 /* What a word that a host is told is about. */
 enum { OF_INTERRUPT = 1, OF_ACKNOWLEDGE, OF_TIMEOUT, OF_TIME };
 
@@ -95,6 +100,8 @@ void table(void);
 u32 try_code_read(u8 byte);
 u32 try_code_write(u32 kind, u32 value);
 u32 try_react(u32 role, u32 running, u32 permissions, u32 events, u32 *device_register, u32 *counter, u8 byte);
+u32 try_react_guarded(u32 role, u32 running, u32 permissions, u32 events, struct bars bars, u32 *device_register, u32 *counter,
+                      u8 byte);
 u32 try_plan_read(const struct plan *plan);
 u32 judge_change(struct change change, const u8 *plan, size plan_length, u32 *state, size state_length);
 u32 try_change(struct change change, const struct plan *plan, struct state *state);
@@ -115,8 +122,8 @@ flag all_counted(const char *what, const char *const *names, const size *counts,
 void say_where(void);
 
 /* plans.c: accepted files of every shape. A mask is named by where it stands in a block, and so are the events and the master in
- * block 0. */
-enum { SOURCES = 4, HANDLERS = 8, EVENTS = 6, MASTER = 10 };
+ * block 0. The bars of the ports stand behind their entries, eight bytes for each. */
+enum { SOURCES = 4, HANDLERS = 8, BARS = 44, BEHIND_BARS = 108, EVENTS = 6, MASTER = 10 };
 u32 master_of(const struct plan *plan); /* NO_MASTER for none */
 void name_master(struct plan *plan, u32 device);
 flag in_mask(struct plan *plan, u32 device, u32 mask, u32 k);
@@ -130,6 +137,10 @@ void set_event(struct plan *plan, u32 k, flag event); /* its sources stay, so th
 void lose_sources(struct plan *plan, u32 k, u32 but); /* all that k has, but this one */
 void be_acknowledged(struct plan *plan, u32 k); /* no event, and of its sources any one stays */
 void give_role(struct plan *plan, u32 device, u32 mask, u32 k);
+u8 *port_bars(struct plan *plan, u32 device, u32 port); /* four bytes for interrupts, and four for acknowledges */
+flag is_barred(struct plan *plan, u32 device, u32 port, enum kind kind, u32 k); /* by the bytes, whatever the device is */
+void set_bar(struct plan *plan, u32 device, u32 port, enum kind kind, u32 k, flag barred);
+void unbar(struct plan *plan, u32 k); /* of neither kind is it barred anywhere */
 void blank(struct plan *plan, u32 devices);
 void be_router(struct plan *plan, u32 device, u32 ports);
 void be_node(struct plan *plan, u32 device, u32 ports);
@@ -142,16 +153,17 @@ void make_plan(struct plan *plan);
 void damage(struct plan *plan);
 
 /* states.c: any sound state, and states with one clause of soundness broken; 0 where the plan has no place for it. */
-enum { CLAUSES = 23 };
+enum { CLAUSES = 28 };
 u32 *device_words(struct state *state, u32 device);
 u32 *port_words(struct state *state, u32 device, u32 port);
 u32 *counter_word(struct state *state, u32 device);
 u32 *time_word(struct state *state, u32 device, u32 port);
+u32 *drop_word(struct state *state, u32 device, u32 port, enum kind kind);
 void sound_state(struct plan *plan, struct state *state);
 void set_running(struct plan *plan, struct state *state, u32 device, u32 port, flag running); /* what cannot wait there is lost */
 flag break_state(struct plan *plan, struct state *state, u32 clause);
 void state_bytes(const struct state *state, struct state_file *file); /* with any given but 0 */
-void states_table(void); /* what sound ones have of Time-Codes and of events, and how often each clause was broken */
+void states_table(void); /* what sound ones have of Time-Codes, events and drops, and how often each clause was broken */
 flag all_states_tried(void);
 
 /* A network whose rounds are played one after the other, and what the last of them built. The judge keeps it in its records,
@@ -204,6 +216,7 @@ void has_come(struct spread *spread, u32 device, u32 round); /* to a device that
 void check_held(struct spread *spread, struct course *course, u32 round);
 void check_sent(struct spread *spread, const struct course *course, u32 round);
 void check_all_sent(const struct spread *spread, struct course *course); /* by each port of the start that runs and may */
+flag meets_bars(const struct spread *spread, struct course *course); /* is it kept from going on, somewhere, by a bar alone? */
 void check_rest(const struct spread *spread, struct course *course);
 
 /* What a source's host is told first of its request. UNTOLD: nothing yet, or no node is joined to anything and can request. */
@@ -224,6 +237,7 @@ struct trips {
     size pairs, other_pairs; /* that allow T-01, and that do not */
     size from_both, back_by_both, beyond; /* cycles: by source and handler with two ports that run; see cycle.c */
     size ticked; /* cycles with ticks all the while */
+    size barred; /* cycles while others are barred */
     u32 longest; /* in rounds, of the cycles */
     u32 slowest, slowest_back; /* the rounds of a first crossing, by interrupts and by acknowledges */
 };
@@ -232,6 +246,7 @@ struct trips {
 struct demands {
     size networks, from_both, ticked;
     size events, others; /* by what k was */
+    size barred; /* k was stopped by bars alone somewhere */
     u32 longest, slowest; /* the rounds of a window, and of a first crossing */
 };
 
@@ -268,11 +283,21 @@ void known_examined(void);
 void examined_table(void);
 flag all_examined_tried(void);
 
-/* known.c, clock.c, profile.c, chains.c, codes.c, trials.c, demand.c, cycle.c and drop.c: what is tried. */
+/* guard.c: which bars a file may have, how drops are counted, and what a guard is for. */
+void count_bars(struct plan *plan);
+void try_bars(const struct plan *plan);
+void drops_in_call(struct plan *plan, struct state *before, struct state *after, const struct change *change, u32 number);
+void drops_in_round(struct plan *plan, struct state *before, struct played *played);
+void try_guards(const struct plan *plan);
+void guards_table(void);
+flag all_guards_tried(void);
+
+/* known.c, clock.c, profile.c, chains.c, edge.c, codes.c, trials.c, demand.c, cycle.c and drop.c: what is tried. */
 void known_values(void);
 void known_times(void);
 void known_events(void);
 void known_chains(void);
+void known_bars(void);
 void try_tables(void);
 void try_files(struct plan *plan);
 void try_calls(struct plan *plan);

@@ -116,17 +116,20 @@ void events_in_round(struct plan *plan, struct state *before, struct played *pla
             continue;
         const u8 *entry = port_entry(plan, i / PORTS, i % PORTS), *peer = port_entry(plan, entry[0], entry[1]);
         const u32 *words = device_words(before, entry[0]);
-        fates[IN_VAIN] += words[0] >> k & 1 && words[1 + k] > 1 && peer[2] & 8;
+        flag dropped = is_barred(plan, entry[0], entry[1], ACKNOWLEDGE, k);
+        fates[IN_VAIN] += words[0] >> k & 1 && words[1 + k] > 1 && peer[2] & 8 && !dropped;
     }
 }
 
 /* ---- a request, and its end */
 
 /* How T-08 was tried. */
-enum way { NETWORKS, REQUESTS, TURNS, OTHER_TURNS, BY_BOTH, TICKED, BUSY, TOLD, ENDED, DENIED, HELD_ALREADY, EXACT, WAYS };
+enum way {
+    NETWORKS, REQUESTS, TURNS, OTHER_TURNS, BY_BOTH, TICKED, BY_BARS, BUSY, TOLD, ENDED, DENIED, HELD_ALREADY, EXACT, WAYS
+};
 static const char *const way_names[WAYS] = {
     "networks", "requests", "requests after another", "requests after another source's", "requests from two ports that run",
-    "requests with ticks", "networks crowded with other codes", "hosts told of the interrupt",
+    "requests with ticks", "requests that a bar stops somewhere", "networks crowded with other codes", "hosts told of the interrupt",
     "hosts told of the timeout", "acknowledges meanwhile: 13", "requests meanwhile: 9", "requests that took all their rounds"};
 static size times[WAYS];
 static u32 longest, nearest = NOT_YET; /* in rounds: of a request, and of the last bit's end before the end of the rounds */
@@ -315,6 +318,7 @@ static void count(const struct request *request) {
     times[REQUESTS]++;
     times[BY_BOTH] += running_ports(&course, request->out.start) == NODE_PORTS;
     times[TICKED] += course.ticks > 0;
+    times[BY_BARS] += meets_bars(&request->out, &course);
     longest = request->rounds > longest ? request->rounds : longest;
     if (!farthest(request->out.distance))
         return;

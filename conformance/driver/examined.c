@@ -6,12 +6,13 @@ enum { K = 5, EVERYTHING = 15, NOWHERE = 255 };
 
 /* What there was in a reach that was not refused. */
 enum having {
-    ANSWERED, ALONE, TWO_ROUTERS, SMALLER, A_NODE, ROUTER_LEFT, TWO_LINKS, BACK, OPEN, STANDS_STILL, MAY_NOT, HAVINGS
+    ANSWERED, ALONE, TWO_ROUTERS, SMALLER, A_NODE, ROUTER_LEFT, TWO_LINKS, BACK, OPEN, STANDS_STILL, MAY_NOT, BARS_IT, HAVINGS
 };
 static const char *const having_names[HAVINGS] = {
     "an answer", "the source alone", "two routers or more", "a router with fewer than eight ports", "a node beside the source",
     "a router that is not reached", "a router by two ports of one device", "a port that leads back to the source",
-    "a port that is joined to nothing", "a port that stands still", "a port that runs and is not permitted"};
+    "a port that is joined to nothing", "a port that stands still", "a port that runs and is not permitted",
+    "a port whose other end bars the interrupt"};
 static size havings[HAVINGS];
 static u32 most;
 
@@ -21,27 +22,39 @@ static flag is_router(struct plan *plan, u32 device) {
     return device_block(plan, device)[2] == 1;
 }
 
-/* The device to which interrupts get by this port, or NOWHERE. */
-static u32 leads_to(struct plan *plan, struct state *state, u32 d, u32 p) {
+/* May interrupts go by this port, which is joined, as far as its permission and that of its other end are concerned? */
+static flag permits(struct plan *plan, u32 d, u32 p) {
     const u8 *entry = port_entry(plan, d, p);
-    if (entry[0] == NOWHERE || !port_words(state, d, p)[AT_RUNNING] || !(entry[2] & 1))
-        return NOWHERE;
-    return port_entry(plan, entry[0], entry[1])[2] & 2 ? entry[0] : NOWHERE;
+    return entry[2] & 1 && port_entry(plan, entry[0], entry[1])[2] & 2;
 }
 
-/* A port that is examined. */
-static void port_has(struct plan *plan, struct state *state, u32 source, u32 d, u32 p, flag has[HAVINGS]) {
+static flag bars_it(struct plan *plan, u32 d, u32 p, u32 k) {
+    const u8 *entry = port_entry(plan, d, p);
+    return is_barred(plan, entry[0], entry[1], INTERRUPT, k);
+}
+
+/* The device to which interrupts of k get by this port, or NOWHERE. */
+static u32 leads_to(struct plan *plan, struct state *state, u32 d, u32 p, u32 k) {
+    const u8 *entry = port_entry(plan, d, p);
+    if (entry[0] == NOWHERE || !port_words(state, d, p)[AT_RUNNING])
+        return NOWHERE;
+    return permits(plan, d, p) && !bars_it(plan, d, p, k) ? entry[0] : NOWHERE;
+}
+
+/* A port of d that is examined. */
+static void port_has(struct plan *plan, struct state *state, u32 source, u32 k, u32 d, u32 p, flag has[HAVINGS]) {
     flag joined = port_entry(plan, d, p)[0] != NOWHERE, running = port_words(state, d, p)[AT_RUNNING];
-    u32 to = leads_to(plan, state, d, p);
+    u32 to = leads_to(plan, state, d, p, k);
     has[OPEN] |= !joined;
     has[STANDS_STILL] |= joined && !running;
-    has[MAY_NOT] |= running && to == NOWHERE;
+    has[MAY_NOT] |= running && !permits(plan, d, p);
+    has[BARS_IT] |= running && permits(plan, d, p) && bars_it(plan, d, p, k);
     has[BACK] |= to == source;
     for (u32 other = 0; to != NOWHERE && to != d && is_router(plan, to) && other < p; other++)
-        has[TWO_LINKS] |= leads_to(plan, state, d, other) == to;
+        has[TWO_LINKS] |= leads_to(plan, state, d, other, k) == to;
 }
 
-static void count(struct plan *plan, struct state *state, u32 source, u32 set) {
+static void count(struct plan *plan, struct state *state, u32 source, u32 k, u32 set) {
     flag has[HAVINGS] = {[ANSWERED] = 1, [ALONE] = set == 1u << source};
     u32 routers = 0;
     for (u32 d = 0; d < plan->bytes[1]; d++) {
@@ -52,7 +65,7 @@ static void count(struct plan *plan, struct state *state, u32 source, u32 set) {
         has[SMALLER] |= router && reached && ports < PORTS;
         routers += router && reached;
         for (u32 p = 0; reached && (router || d == source) && p < ports; p++)
-            port_has(plan, state, source, d, p, has);
+            port_has(plan, state, source, k, d, p, has);
     }
     has[TWO_ROUTERS] = routers > 1;
     for (u32 i = 0; i < HAVINGS; i++)
@@ -63,7 +76,7 @@ u32 examine(struct plan *plan, struct state *state, size device, u32 k) {
     u32 number = try_reach(plan, state, device, k);
     if (number)
         return number;
-    count(plan, state, device, value_given(1));
+    count(plan, state, device, k, value_given(1));
     if (most < value_given(2))
         most = value_given(2);
     return 0;
@@ -120,8 +133,9 @@ static void known_refusals(void) {
 }
 
 /* Source 0 leads to router 1, which has five ports, and by its other port nowhere. Between router 1 and router 2, which has six,
- * there are two links. Router 4 with eight is behind router 2. Node 3 is at router 1 and has router 5 behind it. The link to router
- * 4 stops, then one of the two, and then router 1 may not send by the other. */
+ * there are two links. Router 4 with eight is behind router 2. Node 3 is at router 1 and has router 5 behind it. Router 4 bars the
+ * interrupt, or, which does no harm, the acknowledge; the link to it stops, then one of the two, and then router 1 may not send by
+ * the other. */
 static void known_routers(void) {
     static const u32 joined[][4] = {{0, 0, 1, 0}, {1, 1, 2, 3}, {1, 2, 2, 0}, {2, 1, 4, 0}, {1, 3, 3, 0}, {3, 1, 5, 0}};
     blank(&plan, 6);
@@ -136,6 +150,11 @@ static void known_routers(void) {
     begin();
     examines(5, 2 + 5 + 6 + 8);
     known_refusals();
+    set_bar(&plan, 4, 0, ACKNOWLEDGE, K, 1);
+    examines(5, 2 + 5 + 6 + 8);
+    set_bar(&plan, 4, 0, INTERRUPT, K, 1);
+    examines(4, 2 + 5 + 6);
+    set_bar(&plan, 4, 0, INTERRUPT, K, 0);
     stop(2, 1);
     examines(4, 2 + 5 + 6);
     stop(1, 1);

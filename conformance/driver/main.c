@@ -22,13 +22,16 @@ static void play(size which) {
         known_events();
         known_chains();
         known_examined();
+        known_bars();
         try_tables();
     }
     make_plan(&plan);
     count_shapes(&plan);
+    count_bars(&plan);
     try_files(&plan);
     try_masters(&plan);
     try_sources(&plan);
+    try_bars(&plan);
     try_calls(&plan);
     try_ports(&plan);
     try_run(&plan, which % 16 == 15 ? 500 : 40);
@@ -45,6 +48,7 @@ static void play(size which) {
     of_events += drop.event;
     try_events(&plan);
     try_whys(&plan);
+    try_guards(&plan);
 }
 
 static flag tried(const char *what, size times) {
@@ -59,12 +63,14 @@ static flag all_tried(void) {
     all &= tried("demand 3 of an event", demands.events);
     all &= tried("demand 3 of an identifier that is none", demands.others);
     all &= tried("demand 3 from two ports", demands.from_both);
+    all &= tried("demand 3 with a bar in the way", demands.barred);
     all &= tried("demand 3 with a first crossing of 64 rounds", demands.slowest == CROSSING);
     all &= tried("T-01", trips.networks);
     all &= tried("T-01, two cycles in a row", trips.cycles - trips.networks);
     all &= tried("T-01 from a source with two ports that run", trips.from_both);
     all &= tried("T-01 with a handler that has two", trips.back_by_both);
     all &= tried("T-01 with an acknowledge that gets to devices out of the source's reach", trips.beyond);
+    all &= tried("T-01 while others are barred", trips.barred);
     all &= tried("T-01 with a first crossing of 64 rounds by an acknowledge", trips.slowest_back == CROSSING);
     all &= tried("a pair that does not allow T-01", trips.other_pairs);
     all &= tried("T-03, an acknowledge after a cable was out and in again", replugged[ACKNOWLEDGED]);
@@ -85,16 +91,18 @@ static void progress(size played, size cases) {
 static void report(void) {
     printf("demand 3 tried on %lu of the networks, for up to %u rounds; in the others no node is joined to anything\n"
            "  of an event: %lu, of another identifier: %lu\n"
-           "  from a source with two ports that run: %lu, with ticks all the while: %lu; the slowest first crossing: %u rounds\n",
-           demands.networks, demands.longest, demands.events, demands.others, demands.from_both, demands.ticked, demands.slowest);
+           "  from a source with two ports that run: %lu, with ticks all the while: %lu, with a bar in the way: %lu\n"
+           "  the slowest first crossing: %u rounds\n",
+           demands.networks, demands.longest, demands.events, demands.others, demands.from_both, demands.ticked, demands.barred,
+           demands.slowest);
     printf("T-01 tried on %lu of the networks, in %lu cycles of up to %u rounds; in %lu no node reaches another, and in %lu one\n"
            "  does, but no pair of them allows it\n"
            "  pairs that allow it: %lu, and that do not: %lu\n",
            trips.networks, trips.cycles, trips.longest, trips.alone, trips.unfound, trips.pairs, trips.other_pairs);
     printf("  cycles from a source with two ports that run: %lu, with such a handler: %lu, with an acknowledge that gets to devices\n"
-           "  out of the source's reach: %lu, with ticks all the while: %lu\n"
+           "  out of the source's reach: %lu, with ticks all the while: %lu, while others are barred: %lu\n"
            "  the slowest first crossing of an interrupt: %u rounds, of an acknowledge: %u\n",
-           trips.from_both, trips.back_by_both, trips.beyond, trips.ticked, trips.slowest, trips.slowest_back);
+           trips.from_both, trips.back_by_both, trips.beyond, trips.ticked, trips.barred, trips.slowest, trips.slowest_back);
     printf("T-03 tried on %lu of the networks; in the others no node is joined to anything\n",
            drops[ACKNOWLEDGED] + drops[TIMED_OUT]);
     printf("  told of the acknowledge %lu times, %lu of them after a cable was out and in again; of the timeout %lu times, %lu of "
@@ -130,8 +138,9 @@ int main(int count, char **words) {
     events_table();
     whys_table();
     examined_table();
+    guards_table();
     if (whole && !(all_hit() && all_ticks_answered() && all_states_tried() && all_tried() && all_ports_tried() &&
-                   all_time_tried() && all_events_tried() && all_whys_tried() && all_examined_tried()))
+                   all_time_tried() && all_events_tried() && all_whys_tried() && all_examined_tried() && all_guards_tried()))
         return 1;
     printf("judge: ok\n");
     return 0;

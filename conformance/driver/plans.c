@@ -70,6 +70,32 @@ void give_role(struct plan *plan, u32 device, u32 mask, u32 k) {
     seal(plan, 1 + device);
 }
 
+u8 *port_bars(struct plan *plan, u32 device, u32 port) {
+    return device_block(plan, device) + BARS + 8 * port;
+}
+
+static u8 *bar_byte(struct plan *plan, u32 device, u32 port, enum kind kind, u32 k) {
+    return port_bars(plan, device, port) + (kind == ACKNOWLEDGE ? 4 : 0) + k / 8;
+}
+
+flag is_barred(struct plan *plan, u32 device, u32 port, enum kind kind, u32 k) {
+    return *bar_byte(plan, device, port, kind, k) >> k % 8 & 1;
+}
+
+void set_bar(struct plan *plan, u32 device, u32 port, enum kind kind, u32 k, flag barred) {
+    u8 *byte = bar_byte(plan, device, port, kind, k), bit = 1 << k % 8;
+    *byte = barred ? *byte | bit : *byte & ~bit;
+    seal(plan, 1 + device);
+}
+
+void unbar(struct plan *plan, u32 k) {
+    for (u32 d = 0; d < plan->bytes[1]; d++)
+        for (u32 p = 0; p < PORTS; p++) {
+            set_bar(plan, d, p, INTERRUPT, k, 0);
+            set_bar(plan, d, p, ACKNOWLEDGE, k, 0);
+        }
+}
+
 void put_number(u8 *at, u32 bytes, u32 number) {
     for (u32 i = 0; i < bytes; i++)
         at[i] = number >> 8 * i;
@@ -361,6 +387,20 @@ static void dress(struct plan *plan, u32 devices) {
     }
 }
 
+/* In half of the plans nothing is barred, as in those from before anything could be. In the others some ports of routers are
+ * guarded, or all, whether they lead anywhere or not, against few identifiers or many: of one kind, or of both. */
+static void choose_bars(struct plan *plan, u32 devices) {
+    static const u32 seldom[] = {1, 2, 3, 3, 6, 12};
+    u32 style = once_in(2) ? 0 : 1 + pick(4), guarded = seldom[pick(sizeof seldom / sizeof *seldom)];
+    for (u32 i = 0; style && i < devices * PORTS; i++) {
+        u32 d = i / PORTS, p = i % PORTS, which = pick(3), interrupts = some_bits(style), acknowledges = some_bits(style);
+        if (device_block(plan, d)[2] == 0 || p >= device_block(plan, d)[3] || !once_in(guarded))
+            continue;
+        put_number(port_bars(plan, d, p), 4, which == 1 ? 0 : interrupts);
+        put_number(port_bars(plan, d, p) + 4, 4, which == 2 ? 0 : acknowledges);
+    }
+}
+
 static void load(struct plan *plan) {
     u32 most[] = {5, 5, 40, 300, 65535}, limit = most[pick(5)], one = 1 + pick(limit), other = 1 + pick(limit);
     if (once_in(10))
@@ -388,6 +428,7 @@ void make_plan(struct plan *plan) {
     shape(plan, devices);
     dress(plan, devices);
     choose_events(plan);
+    choose_bars(plan, devices);
     load(plan);
     seal_devices(plan);
     choose_master(plan, devices);

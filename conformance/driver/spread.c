@@ -139,7 +139,7 @@ u32 farthest(const u32 distance[DEVICES]) {
 
 void measure(struct course *course, struct spread *spread, const u32 *within) {
     read_records(course);
-    crossings(&course->records, spread->start, spread->kind, within, spread->distance);
+    crossings(&course->records, spread->start, (struct code){spread->kind, spread->k}, within, spread->distance);
     spread->window = CROSSING * (farthest(spread->distance) + 1);
 }
 
@@ -240,6 +240,19 @@ void check_all_sent(const struct spread *spread, struct course *course) {
     for (u32 p = 0; p < PORTS; p++)
         if (spread->sent[PORTS * spread->start + p] != sends(course, spread->start, p, spread->kind))
             broken(spread, "sent by another port than those that run and may (device, port)", spread->start, p);
+}
+
+flag meets_bars(const struct spread *spread, struct course *course) {
+    for (u32 i = 0; i < course->plan.bytes[1] * PORTS; i++) {
+        u32 d = i / PORTS, p = i % PORTS, received = spread->kind == INTERRUPT ? 2 : 8;
+        flag router = device_block(&course->plan, d)[2] == 1;
+        if (spread->distance[d] == UNREACHED || !(router || d == spread->start) || !sends(course, d, p, spread->kind))
+            continue;
+        const u8 *entry = port_entry(&course->plan, d, p), *peer = port_entry(&course->plan, entry[0], entry[1]);
+        if (peer[2] & received && is_barred(&course->plan, entry[0], entry[1], spread->kind, spread->k))
+            return 1;
+    }
+    return 0;
 }
 
 void check_rest(const struct spread *spread, struct course *course) {

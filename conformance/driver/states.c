@@ -17,6 +17,10 @@ u32 *time_word(struct state *state, u32 device, u32 port) {
     return state->words + FIRST_TIME + PORTS * device + port;
 }
 
+u32 *drop_word(struct state *state, u32 device, u32 port, enum kind kind) {
+    return state->words + FIRST_DROP + DROP_WORDS * (PORTS * device + port) + (kind == ACKNOWLEDGE);
+}
+
 static u32 some_of(u32 density) {
     u32 all = random_word();
     return density == 0 ? 0 : density == 1 ? all & random_word() & random_word() : density == 2 ? all : 0xFFFFFFFF;
@@ -53,14 +57,34 @@ static void sound_times(struct plan *plan, struct state *state, u32 d, u32 time,
     }
 }
 
-/* What sound states have of Time-Codes and of events. */
-enum having { ANYTHING, A_COUNTER, ONE_WAITS, LAST_AND_STILL, AN_EVENT, OF_EVENT, HAVINGS };
+/* Any counts that there can be at the ports of a router, mostly near their ends, whatever the port bars and wherever it leads. */
+static void sound_drops(struct plan *plan, struct state *state, u32 d) {
+    for (u32 i = 0; i < 2u * device_block(plan, d)[3]; i++) {
+        u32 any = pick(MOST_DROPPED + 1);
+        const u32 counts[] = {0, 0, 1, MOST_DROPPED - 1, MOST_DROPPED, any};
+        *drop_word(state, d, i / 2, i % 2 ? ACKNOWLEDGE : INTERRUPT) = counts[pick(sizeof counts / sizeof *counts)];
+    }
+}
+
+/* What sound states have of Time-Codes, of events and of drops. */
+enum having { ANYTHING, A_COUNTER, ONE_WAITS, LAST_AND_STILL, AN_EVENT, OF_EVENT, DROPS, FULL, NOT_BARRED, AT_OPEN, HAVINGS };
 static const char *const having_names[HAVINGS] = {
     "sound states", "with a counter that is not 0", "with a Time-Code that waits", "with the 128 at a port that stands still",
-    "with an event that is held", "with an acknowledge of one that waits"};
+    "with an event that is held", "with an acknowledge of one that waits", "with drops that are counted",
+    "with a count of 65,535", "with a count where nothing is barred", "with a count where nothing is joined"};
 static size having[HAVINGS];
 
-static void count_havings(const struct plan *plan, struct state *state) {
+static void count_drops(struct plan *plan, struct state *state, u32 d, u32 p, flag has[HAVINGS]) {
+    for (enum kind kind = INTERRUPT; kind <= ACKNOWLEDGE; kind++) {
+        u32 count = *drop_word(state, d, p, kind), mask = number_at(port_bars(plan, d, p) + (kind == ACKNOWLEDGE ? 4 : 0), 4);
+        has[DROPS] |= count > 0;
+        has[FULL] |= count == MOST_DROPPED;
+        has[NOT_BARRED] |= count && !mask;
+        has[AT_OPEN] |= count && port_entry(plan, d, p)[0] == 255;
+    }
+}
+
+static void count_havings(struct plan *plan, struct state *state) {
     flag has[HAVINGS] = {[ANYTHING] = 1};
     u32 events = events_of(plan);
     for (u32 i = 0; i < DEVICES * PORTS; i++) {
@@ -70,15 +94,17 @@ static void count_havings(const struct plan *plan, struct state *state) {
         has[LAST_AND_STILL] |= time == AFTER_TIME && !port_words(state, d, p)[AT_RUNNING];
         has[AN_EVENT] |= (*device_words(state, d) & events) != 0;
         has[OF_EVENT] |= (port_words(state, d, p)[AT_ACKNOWLEDGES] & events) != 0;
+        if (d < plan->bytes[1])
+            count_drops(plan, state, d, p, has);
     }
     for (u32 h = 0; h < HAVINGS; h++)
         having[h] += has[h];
 }
 
-/* In half of the states there is nothing of Time-Codes. */
+/* In half of the states there is nothing of Time-Codes, and in half of them nothing was dropped. */
 void sound_state(struct plan *plan, struct state *state) {
     u32 set = pick(4), waiting = pick(4), brief = pick(3), stopped = once_in(3) ? 3 : 30;
-    u32 timed = once_in(2), time = pick(TIMES), times = pick(4);
+    u32 timed = once_in(2), time = pick(TIMES), times = pick(4), guarded = once_in(2);
     state->length = STATE_WORDS;
     memset(state->words, 0, sizeof state->words);
     for (u32 d = 0; d < plan->bytes[1]; d++) {
@@ -91,6 +117,8 @@ void sound_state(struct plan *plan, struct state *state) {
             sound_port(plan, state, d, p, waiting, stopped);
         if (timed)
             sound_times(plan, state, d, time, times);
+        if (guarded && device_block(plan, d)[2] == 1)
+            sound_drops(plan, state, d);
     }
     count_havings(plan, state);
 }
@@ -114,7 +142,8 @@ static const char *const clauses[CLAUSES] = {
     "an acknowledge that may not", "a register or timer of no device", "a word of no port", "a counter above 63",
     "a Time-Code word of 65 to 127", "a Time-Code word above 192", "a Time-Code at a port that stands still",
     "a Time-Code at a port joined to nothing", "a counter of no device", "a Time-Code word of no port of a device",
-    "a Time-Code word of no device"};
+    "a Time-Code word of no device", "a count of drops above 65,535", "a count at a port of a node",
+    "a count at a port that a node lacks", "a count at a port that a router lacks", "a count of no device"};
 static size broken_so[CLAUSES];
 
 static u32 out_of(u32 limit) {
@@ -170,9 +199,26 @@ static flag break_time(struct plan *plan, struct state *state, u32 d, u32 p, u32
     }
 }
 
+/* Clauses about the drops of a port, where there are or are not such ones. */
+static flag break_drops(struct plan *plan, struct state *state, u32 d, u32 p, u32 clause) {
+    flag device = d < plan->bytes[1], router = device && device_block(plan, d)[2] == 1;
+    flag port = device && p < device_block(plan, d)[3];
+    u32 *count = drop_word(state, d, p, once_in(2) ? INTERRUPT : ACKNOWLEDGE);
+    *count = clause == 23 || once_in(4) ? out_of(MOST_DROPPED + 1) : once_in(2) ? 1 : 1 + pick(MOST_DROPPED);
+    switch (clause) {
+    case 23: return router && port;
+    case 24: return device && !router && port;
+    case 25: return device && !router && !port;
+    case 26: return router && !port;
+    default: return !device;
+    }
+}
+
 static flag break_at(struct plan *plan, struct state *state, u32 clause) {
     u32 d = pick(DEVICES), p = pick(PORTS), value = once_in(2) ? 1 : 1u << pick(32);
     flag device = d < plan->bytes[1], port = device && p < device_block(plan, d)[3];
+    if (clause > 22)
+        return break_drops(plan, state, d, p, clause);
     if (clause > 14)
         return break_time(plan, state, d, p, clause);
     if (clause == 13) {

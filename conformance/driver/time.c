@@ -88,7 +88,7 @@ static flag prepare(void) {
         for (u32 p = 0; p < device_block(&course.plan, d)[3]; p++)
             *time_word(&course.state, d, p) = AFTER_TIME;
     read_records(&course);
-    crossings(&course.records, master, TIME_CODE, 0, distance);
+    crossings(&course.records, master, (struct code){TIME_CODE, 0}, 0, distance);
     before = once_in(4) ? TIMES - 1 : pick(TIMES);
     for (u32 d = 0; d < DEVICES; d++)
         if (distance[d] != UNREACHED)

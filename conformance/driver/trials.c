@@ -145,13 +145,14 @@ void try_calls(struct plan *plan) {
     }
 }
 
-/* Any call, and what it does to events. */
+/* Any call, and what it does to events and to the counts of drops. */
 static void call_in_run(struct plan *plan, struct state *state) {
     static struct state before;
     struct change change = likely_change(plan);
     before = *state;
-    try_likely(change, plan, state);
+    u32 number = try_likely(change, plan, state);
     events_in_call(plan, &before, state, &change);
+    drops_in_call(plan, &before, state, &change, number);
 }
 
 /* Rounds with calls between them, the state handed on. */
@@ -167,6 +168,7 @@ void try_run(struct plan *plan, u32 rounds) {
             call_in_run(plan, &state);
         must_be("a round", 0, try_round(plan, &state, &played));
         events_in_round(plan, &state, &played);
+        drops_in_round(plan, &state, &played);
         state = played.next;
     }
 }

@@ -15,11 +15,16 @@ static const char *const way_names[WAYS] = {
     "chains by the source's second port", "devices not reached", "devices not reached, and no port leads out"};
 static size ways[WAYS];
 
+/* The causes in their order, which is not that of their numbers. */
+enum { IN_ORDER = CAUSES - STOPPED };
+static const enum cause in_order[IN_ORDER] = {STOPPED, MAY_NOT_SEND, MAY_NOT_RECEIVE, BARRED, DOES_NOT_FORWARD};
+
 /* Ports that lead out, by cause; and those at which a cause behind it would be true as well. */
-static const char *const cause_names[CAUSES] = {"", "stopped", "may-not-send", "may-not-receive", "does-not-forward"};
-static const char *const too_names[CAUSES - 2] = {
-    "stopped, and a cause behind it", "may-not-send, and a cause behind it", "may-not-receive, and the cause behind it"};
-static size causes[CAUSES], causes_too[CAUSES - 2];
+static const char *const cause_names[CAUSES] = {"", "stopped", "may-not-send", "may-not-receive", "does-not-forward", "barred"};
+static const char *const too_names[IN_ORDER - 1] = {
+    "stopped, and a cause behind it", "may-not-send, and a cause behind it", "may-not-receive, and a cause behind it",
+    "barred, and the cause behind it"};
+static size causes[CAUSES], causes_too[IN_ORDER - 1];
 
 /* What a text was asked with, and what it said. */
 enum said {
@@ -50,11 +55,17 @@ static flag is_router(u32 device) {
 
 /* ---- what is asked */
 
-/* A link that does not run, or a permission that is missing at either end; or several of these. */
-static void spoil(u32 d, u32 p) {
+/* A link that does not run, or a permission that is missing at either end, or a bar of k at the other one, where that is a router;
+ * or several of these. What bars the acknowledge, or another identifier, spoils nothing. */
+static void spoil(u32 d, u32 p, u32 k) {
     struct plan *plan = &course.plan;
     u8 *entry = port_entry(plan, d, p), *peer = port_entry(plan, entry[0], entry[1]);
-    u32 what = 1 + pick(7);
+    u32 what = once_in(4) ? 8 : 1 + pick(15);
+    if (is_router(entry[0])) {
+        set_bar(plan, entry[0], entry[1], INTERRUPT, k, what & 8);
+        set_bar(plan, entry[0], entry[1], INTERRUPT, (k + 1) % IDENTIFIERS, once_in(2));
+        set_bar(plan, entry[0], entry[1], ACKNOWLEDGE, k, once_in(2));
+    }
     flag running = port_words(&course.state, d, p)[AT_RUNNING] && !(what & 1);
     if (what & 2)
         entry[2] &= ~1;
@@ -64,15 +75,18 @@ static void spoil(u32 d, u32 p) {
     set_running(plan, &course.state, entry[0], entry[1], running);
 }
 
-/* In a quarter of the trials links are as in any state; in the others all run and grant everything, at first. */
-static void arrange(void) {
+/* In a quarter of the trials links are as in any state; in the others all run and grant everything, at first, and k is barred
+ * nowhere. */
+static void arrange(u32 k) {
     static const u32 seldom[] = {0, 0, 3, 12};
     u32 which = pick(4);
-    if (which > 0)
+    if (which > 0) {
         open_links(&course, 1);
+        unbar(&course.plan, k);
+    }
     for (u32 i = 0; seldom[which] && i < course.plan.bytes[1] * PORTS; i++)
         if (port_entry(&course.plan, i / PORTS, i % PORTS)[0] != NOWHERE && once_in(seldom[which]))
-            spoil(i / PORTS, i % PORTS);
+            spoil(i / PORTS, i % PORTS, k);
     seal_devices(&course.plan);
 }
 
@@ -96,42 +110,43 @@ static flag choose(struct question *asks) {
 /* ---- what is to come of it */
 
 /* What fails at a port that is joined, by its bytes. */
-static void fails_at(u32 d, u32 p, u32 source, flag fails[CAUSES]) {
+static void fails_at(u32 d, u32 p, const struct question *asks, flag fails[CAUSES]) {
     const u8 *entry = port_entry(&course.plan, d, p), *peer = port_entry(&course.plan, entry[0], entry[1]);
     fails[NOT_OUT] = 0;
     fails[STOPPED] = !port_words(&course.state, d, p)[AT_RUNNING];
     fails[MAY_NOT_SEND] = !(entry[2] & 1);
     fails[MAY_NOT_RECEIVE] = !(peer[2] & 2);
-    fails[DOES_NOT_FORWARD] = !is_router(d) && d != source;
+    fails[BARRED] = is_barred(&course.plan, entry[0], entry[1], INTERRUPT, asks->k);
+    fails[DOES_NOT_FORWARD] = !is_router(d) && d != asks->source;
 }
 
-/* The first that is so from a cause on, or CAUSES. */
+/* The first in order that is so, from a place on, or IN_ORDER. */
 static u32 first_of(const flag fails[CAUSES], u32 from) {
-    while (from < CAUSES && !fails[from])
+    while (from < IN_ORDER && !fails[in_order[from]])
         from++;
     return from;
 }
 
 /* Of the devices that are reached, those ports lead out whose peers are not among them. */
-static u32 cause_of(u32 d, u32 p, u32 source) {
+static u32 cause_of(u32 d, u32 p, const struct question *asks) {
     flag fails[CAUSES];
     const u8 *entry = port_entry(&course.plan, d, p);
     if (!(set >> d & 1) || entry[0] == NOWHERE || set >> entry[0] & 1)
         return NOT_OUT;
-    fails_at(d, p, source, fails);
-    u32 cause = first_of(fails, STOPPED);
-    if (cause == CAUSES)
+    fails_at(d, p, asks, fails);
+    u32 first = first_of(fails, 0);
+    if (first == IN_ORDER)
         fail("a port leads out for no cause (device, port)", d, p);
-    causes[cause]++;
-    if (cause < DOES_NOT_FORWARD)
-        causes_too[cause - STOPPED] += first_of(fails, cause + 1) < CAUSES;
-    return cause;
+    causes[in_order[first]]++;
+    if (first + 1 < IN_ORDER)
+        causes_too[first] += first_of(fails, first + 1) < IN_ORDER;
+    return in_order[first];
 }
 
-static void check_cut(u32 source) {
+static void check_cut(const struct question *asks) {
     u32 count = 0;
     for (u32 i = 0; i < CUT_WORDS; i++) {
-        u32 cause = cause_of(i / PORTS, i % PORTS, source);
+        u32 cause = cause_of(i / PORTS, i % PORTS, asks);
         if (cut.words[i] != cause)
             fail("another cause than by the bytes (port, cause)", i, cut.words[i]);
         count += cause != NOT_OUT;
@@ -140,23 +155,23 @@ static void check_cut(u32 source) {
 }
 
 /* How many ports are left to a device behind this port, which may lead nowhere: UNREACHED for no way. */
-static u32 left_behind(u32 d, u32 p, u32 source, u32 device) {
+static u32 left_behind(u32 d, u32 p, const struct question *asks) {
     flag fails[CAUSES];
     u32 to = port_entry(&course.plan, d, p)[0];
     if (to == NOWHERE)
         return UNREACHED;
-    fails_at(d, p, source, fails);
-    if (first_of(fails, STOPPED) < CAUSES)
+    fails_at(d, p, asks, fails);
+    if (first_of(fails, 0) < IN_ORDER)
         return UNREACHED;
-    return to == device ? 0 : is_router(to) ? away[to][device] : UNREACHED;
+    return to == asks->device ? 0 : is_router(to) ? away[to][asks->device] : UNREACHED;
 }
 
 /* Any other port by which the way is as short has a higher number; are there such ones? */
 static flag check_port(u32 d, u32 p, const struct question *asks, u32 left) {
     flag tied = 0;
-    must_be("the ports left behind one of the chain", left, left_behind(d, p, asks->source, asks->device));
+    must_be("the ports left behind one of the chain", left, left_behind(d, p, asks));
     for (u32 other = 0; other < PORTS; other++) {
-        if (other == p || left_behind(d, other, asks->source, asks->device) != left)
+        if (other == p || left_behind(d, other, asks) != left)
             continue;
         if (other < p)
             fail("a lower port leads there as soon (device, port)", d, other);
@@ -233,14 +248,14 @@ static u32 ask(enum call call, struct question asks, struct found *found) {
 static void ask_all(struct question asks) {
     read_records(&course);
     for (u32 d = 0; d < course.plan.bytes[1]; d++)
-        crossings(&course.records, d, INTERRUPT, 0, away[d]);
+        crossings(&course.records, d, (struct code){INTERRUPT, asks.k}, 0, away[d]);
     must_be("reach", 0, examine(&course.plan, &course.state, asks.source, asks.k));
     u32 count = value_given(0);
     set = value_given(1);
     must_be("crossings", 0, ask(CROSSINGS, asks, &crossed));
     check_crossings(asks.source, count);
     must_be("a cut", 0, ask(CUT, asks, &cut));
-    check_cut(asks.source);
+    check_cut(&asks);
 }
 
 static void ask_of(struct question asks) {
@@ -397,7 +412,7 @@ void try_whys(const struct plan *given) {
         begin_course(&course, given);
         if (!choose(&asks))
             break;
-        arrange();
+        arrange(asks.k);
         ask_all(asks);
         ask_some(asks);
         if (i == 0)
@@ -412,7 +427,7 @@ void whys_table(void) {
     counts_table(way_names, ways, WAYS);
     printf("ports that lead out, by cause                  times\n");
     counts_table(cause_names + STOPPED, causes + STOPPED, CAUSES - STOPPED);
-    counts_table(too_names, causes_too, CAUSES - 2);
+    counts_table(too_names, causes_too, IN_ORDER - 1);
     printf("texts of T-09                                  times\n");
     counts_table(said_names, said, SAID);
 }
@@ -420,7 +435,7 @@ void whys_table(void) {
 flag all_whys_tried(void) {
     flag all = all_counted("T-09 was never asked so", way_names, ways, WAYS);
     all &= all_counted("no port led out for this cause", cause_names + STOPPED, causes + STOPPED, CAUSES - STOPPED);
-    all &= all_counted("no port led out so", too_names, causes_too, CAUSES - 2);
+    all &= all_counted("no port led out so", too_names, causes_too, IN_ORDER - 1);
     all &= all_counted("no text of T-09 was so", said_names, said, SAID);
     return all;
 }

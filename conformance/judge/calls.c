@@ -60,7 +60,8 @@ u32 judge_acknowledge(const u8 *plan, size plan_length, u32 *state, size state_l
 }
 
 /* Running is the flag that is wanted: 0 stops the link, and any other number starts it. A stop clears what waits at both ends,
- * and whether a Time-Code was sent last there, and beside the flags nothing else: registers, timers and counters outlast it. */
+ * and whether a Time-Code was sent last there, and beside the flags nothing else: registers, timers, counters and what was
+ * counted of drops outlast it. */
 u32 judge_link(const u8 *plan, size plan_length, u32 *state, size state_length, size device, size port, u32 running) {
     struct network net;
     flag run = running != 0;
@@ -128,6 +129,7 @@ u32 judge_reset(const u8 *plan, size plan_length, u32 *state, size state_length,
     clear_device(reset);
     for (u32 p = 0; p < reset->ports; p++) {
         clear_waiting(&reset->port[p]);
+        clear_dropped(&reset->port[p]);
         reset->port[p].next = 0;
     }
     state_write(&net, state);

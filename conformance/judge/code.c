@@ -44,10 +44,11 @@ static enum action react_to_time(flag router, u32 *counter, u32 value) {
     return !above ? NAMED : router ? FORWARDED : TELLS_HOST;
 }
 
-/* The order is the paper's: a stopped port is a link error even where nothing may be received. An event is not acknowledged,
- * whatever its bit is: a timer clears that, or a reset. */
-enum action react(flag router, flag running, const flag may_receive[], const flag event[], flag set[], u32 *counter,
-                  struct code code) {
+/* The order is the paper's: a stopped port is a link error even where nothing may be received. A router drops what is barred
+ * before it looks at anything else; a node does not look at bars. An event is not acknowledged, whatever its bit is: a timer
+ * clears that, or a reset. */
+enum action react(flag router, flag running, const flag may_receive[], flag barred[][IDENTIFIERS], const flag event[],
+                  flag set[], u32 *counter, struct code code) {
     if (code.kind == TIME_CODE)
         return react_to_time(router, counter, code.value);
     if (code.kind == RESERVED)
@@ -56,6 +57,8 @@ enum action react(flag router, flag running, const flag may_receive[], const fla
         return LINK_ERROR;
     if (!may_receive[code.kind])
         return IGNORED;
+    if (router && barred[code.kind][code.value])
+        return DROPPED;
     if (code.kind == ACKNOWLEDGE && event[code.value])
         return IGNORED;
     flag wanted = code.kind == INTERRUPT;
@@ -83,14 +86,17 @@ u32 judge_code_write(u32 kind, u32 value, u32 *byte) {
 }
 
 /* The code is handed on as it was read, whatever is done with it. */
-u32 judge_react(u32 role, u32 running, u32 permissions, u32 events, u32 *device_register, u32 *counter, u8 byte, u32 *kind,
-                u32 *top, u32 *value) {
-    flag may_send[ACKNOWLEDGE + 1], may_receive[ACKNOWLEDGE + 1], event[IDENTIFIERS], set[IDENTIFIERS];
+u32 judge_react_guarded(u32 role, u32 running, u32 permissions, u32 events, u32 interrupts, u32 acknowledges,
+                        u32 *device_register, u32 *counter, u8 byte, u32 *kind, u32 *top, u32 *value) {
+    flag may_send[ACKNOWLEDGE + 1], may_receive[ACKNOWLEDGE + 1], barred[ACKNOWLEDGE + 1][IDENTIFIERS];
+    flag event[IDENTIFIERS], set[IDENTIFIERS];
     *kind = judge_code_read(byte, top, value);
     permit(permissions, may_send, may_receive);
+    mask_read(interrupts, barred[INTERRUPT]);
+    mask_read(acknowledges, barred[ACKNOWLEDGE]);
     mask_read(events, event);
     mask_read(*device_register, set);
-    enum action action = react(role != 0, running != 0, may_receive, event, set, counter, (struct code){*kind, *value});
+    enum action action = react(role != 0, running != 0, may_receive, barred, event, set, counter, (struct code){*kind, *value});
     *device_register = 0;
     for (u32 k = 0; k < IDENTIFIERS; k++)
         *device_register |= (u32)set[k] << k;

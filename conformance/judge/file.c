@@ -3,10 +3,16 @@
 
 /* An entry of a port in a device's block: peer device, peer port, permissions, zero. */
 enum { FIRST_ENTRY = 12, ENTRY = 4, PEER_DEVICE = 0, PEER_PORT = 1, PERMISSIONS = 2, SPARE = 3, NOWHERE = 255 };
-enum { EVENTS = 6, MASTER = 10, BEHIND_FIELDS = FIRST_ENTRY + ENTRY * PORTS, CHECK_AT = 510 };
+enum { EVENTS = 6, MASTER = 10, CHECK_AT = 510 };
+
+/* Behind the entries stand the bars of each port: a mask of interrupts and one of acknowledges. */
+enum { FIRST_BARS = FIRST_ENTRY + ENTRY * PORTS, MASK = 4, BARS = 2 * MASK, BEHIND_FIELDS = FIRST_BARS + BARS * PORTS };
 
 u32 number_at(const u8 *at, u32 bytes) {
-    return bytes ? at[0] + 256 * number_at(at + 1, bytes - 1) : 0;
+    u32 number = 0;
+    while (bytes--)
+        number = 256 * number + at[bytes];
+    return number;
 }
 
 u32 block_check(const u8 *block) {
@@ -53,6 +59,13 @@ static flag entry_good(const u8 *entry, flag exists, u32 devices) {
            entry[SPARE] == 0;
 }
 
+/* A port may bar any codes where it is one that a router has, and elsewhere none. Whether it leads anywhere is not asked. */
+static flag bars_read(struct port *port, const u8 *bars, flag may_bar) {
+    mask_read(number_at(bars, MASK), port->barred[INTERRUPT]);
+    mask_read(number_at(bars + MASK, MASK), port->barred[ACKNOWLEDGE]);
+    return may_bar || zero(bars, 0, BARS);
+}
+
 /* Role, ports, and the masks: both 0 for a router, with no common bit for a node. */
 static flag role_read(struct device *device, const u8 *block) {
     if (block[2] > 1)
@@ -81,6 +94,8 @@ static u32 device_block_read(struct device *device, const u8 *block, u32 devices
     for (u32 p = 0; p < PORTS; p++) {
         const u8 *entry = block + FIRST_ENTRY + ENTRY * p;
         if (!entry_good(entry, p < device->ports, devices))
+            return 23;
+        if (!bars_read(&device->port[p], block + FIRST_BARS + BARS * p, device->router && p < device->ports))
             return 23;
         permit(entry[PERMISSIONS], device->port[p].may_send, device->port[p].may_receive);
         device->port[p].device = device;

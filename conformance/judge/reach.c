@@ -2,12 +2,15 @@
  * is a shortest one. */
 #include "judge.h"
 
-flag passes(const struct port *port, enum kind kind) {
-    return port->peer && port->running && port->may_send[kind] && port->peer->may_receive[kind];
+/* What the other end bars it may not receive. No Time-Code is barred. */
+flag passes(const struct port *port, struct code code) {
+    if (!port->peer || !port->running || !port->may_send[code.kind] || !port->peer->may_receive[code.kind])
+        return 0;
+    return code.kind == TIME_CODE || !port->peer->barred[code.kind][code.value];
 }
 
 /* The search. T-10: each port is counted when it is looked at, before it is known whether it leads anywhere. */
-static u32 search(const struct network *net, u32 start, enum kind kind, const u32 *within, u32 distance[DEVICES],
+static u32 search(const struct network *net, u32 start, struct code code, const u32 *within, u32 distance[DEVICES],
                   u32 *examined) {
     u32 line[DEVICES], first = 0, last = 0;
     *examined = 0;
@@ -21,7 +24,7 @@ static u32 search(const struct network *net, u32 start, enum kind kind, const u3
             continue; /* a node passes nothing on */
         for (u32 p = 0; p < from->ports; p++) {
             ++*examined;
-            if (!passes(&from->port[p], kind))
+            if (!passes(&from->port[p], code))
                 continue;
             u32 to = from->port[p].peer->device->number;
             if (distance[to] != UNREACHED || (within && within[to] == UNREACHED))
@@ -33,9 +36,9 @@ static u32 search(const struct network *net, u32 start, enum kind kind, const u3
     return last;
 }
 
-u32 crossings(const struct network *net, u32 start, enum kind kind, const u32 *within, u32 distance[DEVICES]) {
+u32 crossings(const struct network *net, u32 start, struct code code, const u32 *within, u32 distance[DEVICES]) {
     u32 examined;
-    return search(net, start, kind, within, distance, &examined);
+    return search(net, start, code, within, distance, &examined);
 }
 
 u32 way_refused(const struct network *net, size source, u32 k, size device) {
@@ -59,7 +62,7 @@ u32 judge_reach_ports(const u8 *plan, size plan_length, const u32 *state, size s
     number = way_refused(&net, device, k, device);
     if (number)
         return number;
-    *devices = search(&net, device, INTERRUPT, 0, distance, examined);
+    *devices = search(&net, device, (struct code){INTERRUPT, k}, 0, distance, examined);
     for (u32 d = 0; d < DEVICES; d++)
         *set |= (u32)(distance[d] != UNREACHED) << d;
     return 0;

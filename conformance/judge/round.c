@@ -59,10 +59,19 @@ static void send(struct port *port) {
     port->after_time = 0;
 }
 
+/* What was dropped is counted, until the count is at its end. */
+static void count_drop(struct port *port, enum kind kind) {
+    if (port->dropped[kind] < MOST_DROPPED)
+        port->dropped[kind]++;
+}
+
 /* Step 3, for one code. Time-Codes have no timers. */
 static void arrive(struct network *net, struct port *port, struct code code, struct told *told) {
     struct device *device = port->device;
-    enum action action = react(device->router, port->running, port->may_receive, net->event, device->set, &device->counter, code);
+    enum action action = react(device->router, port->running, port->may_receive, port->barred, net->event, device->set,
+                               &device->counter, code);
+    if (action == DROPPED)
+        count_drop(port, code.kind);
     if (action != FORWARDED && action != TELLS_HOST)
         return;
     u32 load = device->router ? net->router_load : net->node_load;

@@ -17,6 +17,10 @@ static size time_at(u32 d, u32 p) {
     return FIRST_TIME + PORTS * d + p;
 }
 
+static size drops_at(u32 d, u32 p) {
+    return FIRST_DROP + DROP_WORDS * (PORTS * d + p);
+}
+
 void clear_device(struct device *device) {
     device->counter = 0;
     for (u32 k = 0; k < IDENTIFIERS; k++) {
@@ -32,12 +36,17 @@ void clear_waiting(struct port *port) {
     port->after_time = 0;
 }
 
+void clear_dropped(struct port *port) {
+    port->dropped[INTERRUPT] = port->dropped[ACKNOWLEDGE] = 0;
+}
+
 void start(struct network *net) {
     for (u32 d = 0; d < net->devices; d++) {
         struct device *device = &net->device[d];
         clear_device(device);
         for (u32 p = 0; p < device->ports; p++) {
             clear_waiting(&device->port[p]);
+            clear_dropped(&device->port[p]);
             device->port[p].next = 0;
             device->port[p].running = device->port[p].peer != 0;
         }
@@ -89,23 +98,33 @@ static flag time_read(struct port *port, u32 word) {
     return word < 2 * AFTER_TIME && waiting <= TIMES && (!waiting || port->running);
 }
 
+/* Only routers drop anything. Whether the port bars it is not asked: it may have been another plan's. */
+static flag dropped_read(struct port *port, const u32 *words) {
+    port->dropped[INTERRUPT] = words[AT_DROPPED_INTERRUPTS];
+    port->dropped[ACKNOWLEDGE] = words[AT_DROPPED_ACKNOWLEDGES];
+    u32 most = port->device->router ? MOST_DROPPED : 0;
+    return port->dropped[INTERRUPT] <= most && port->dropped[ACKNOWLEDGE] <= most;
+}
+
 static flag device_read(struct device *device, const u32 *words) {
     u32 d = device->number;
     device->counter = words[counter_at(d)];
     flag sound = registers_read(device, words + device_at(d)) && device->counter < TIMES;
     for (u32 p = 0; p < PORTS; p++) {
-        const u32 *of_port = words + port_at(d, p), time = words[time_at(d, p)];
+        struct port *port = &device->port[p];
+        const u32 *of_port = words + port_at(d, p), time = words[time_at(d, p)], *drops = words + drops_at(d, p);
         if (p < device->ports)
-            sound &= port_read(&device->port[p], of_port) && time_read(&device->port[p], time);
+            sound &= port_read(port, of_port) && time_read(port, time) && dropped_read(port, drops);
         else
-            sound &= all_zero(of_port, PORT_WORDS) && time == 0;
+            sound &= all_zero(of_port, PORT_WORDS) && time == 0 && all_zero(drops, DROP_WORDS);
     }
     return sound;
 }
 
 static flag absent_zero(u32 d, const u32 *words) {
     return all_zero(words + device_at(d), DEVICE_WORDS) && all_zero(words + port_at(d, 0), PORT_WORDS * PORTS) &&
-           words[counter_at(d)] == 0 && all_zero(words + time_at(d, 0), PORTS);
+           words[counter_at(d)] == 0 && all_zero(words + time_at(d, 0), PORTS) &&
+           all_zero(words + drops_at(d, 0), DROP_WORDS * PORTS);
 }
 
 static flag ends_agree(const struct device *device) {
@@ -135,13 +154,15 @@ u32 network_read(struct network *net, const u8 *plan, size plan_length, const u3
     return state_read(net, state, state_length) ? 0 : 2;
 }
 
-static void port_write(const struct port *port, u32 *of_port, u32 *time) {
+static void port_write(const struct port *port, u32 *of_port, u32 *time, u32 *drops) {
     for (u32 k = 0; k < IDENTIFIERS; k++)
         if (port->waiting[k] != NOTHING)
             of_port[port->waiting[k] == ACKNOWLEDGE ? AT_ACKNOWLEDGES : AT_INTERRUPTS] |= (u32)1 << k;
     of_port[AT_NEXT] = port->next;
     of_port[AT_RUNNING] = port->running;
     *time = (port->time == NO_TIME ? 0 : port->time + 1) + (port->after_time ? AFTER_TIME : 0);
+    drops[AT_DROPPED_INTERRUPTS] = port->dropped[INTERRUPT];
+    drops[AT_DROPPED_ACKNOWLEDGES] = port->dropped[ACKNOWLEDGE];
 }
 
 void state_write(const struct network *net, u32 *words) {
@@ -155,6 +176,6 @@ void state_write(const struct network *net, u32 *words) {
             words[device_at(d) + 1 + k] = device->timer[k];
         }
         for (u32 p = 0; p < device->ports; p++)
-            port_write(&device->port[p], words + port_at(d, p), words + time_at(d, p));
+            port_write(&device->port[p], words + port_at(d, p), words + time_at(d, p), words + drops_at(d, p));
     }
 }

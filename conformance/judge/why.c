@@ -4,7 +4,7 @@
 
 /* What is being tried. A chain enters no device twice: without its loop it would be shorter. */
 struct trial {
-    u32 source, device;
+    u32 source, device, k;
     u32 ports[DEVICES]; /* the chain so far */
     flag entered[DEVICES]; /* the devices that it comes from */
     flag in_vain[DEVICES][DEVICES]; /* by device, and how many ports were left: no chain from there got to the end */
@@ -26,7 +26,8 @@ static flag gets_there(struct trial *trial, const struct device *from, u32 done,
     flag found = 0;
     trial->entered[from->number] = 1;
     for (u32 p = 0; !found && p < from->ports; p++) {
-        if (!passes(&from->port[p], INTERRUPT) || trial->entered[from->port[p].peer->device->number])
+        if (!passes(&from->port[p], (struct code){INTERRUPT, trial->k}) ||
+            trial->entered[from->port[p].peer->device->number])
             continue;
         trial->ports[done] = PORTS * from->number + p;
         found = gets_there(trial, from->port[p].peer->device, done + 1, left - 1);
@@ -37,18 +38,19 @@ static flag gets_there(struct trial *trial, const struct device *from, u32 done,
 }
 
 /* Which devices are reached: of the search in breadth this is all that is taken, and no distance. */
-static void reached_from(const struct network *net, u32 source, flag reached[DEVICES]) {
+static void reached_from(const struct network *net, u32 source, u32 k, flag reached[DEVICES]) {
     u32 distance[DEVICES];
-    crossings(net, source, INTERRUPT, 0, distance);
+    crossings(net, source, (struct code){INTERRUPT, k}, 0, distance);
     for (u32 d = 0; d < DEVICES; d++)
         reached[d] = distance[d] != UNREACHED;
 }
 
 /* The ports of the first chain, and how many; UNREACHED for none. Chains of no port are tried first, then of one, and so on; for
  * a device that is not reached none is, as all lengths would be tried in vain. */
-static u32 chain_to(const struct network *net, const flag reached[DEVICES], u32 source, u32 device, u32 ports[DEVICES]) {
+static u32 chain_to(const struct network *net, const flag reached[DEVICES], u32 source, u32 k, u32 device,
+                    u32 ports[DEVICES]) {
     for (u32 length = 0; reached[device] && length < DEVICES; length++) {
-        struct trial trial = {.source = source, .device = device};
+        struct trial trial = {.source = source, .device = device, .k = k};
         if (!gets_there(&trial, &net->device[source], 0, length))
             continue;
         for (u32 i = 0; i < length; i++)
@@ -58,25 +60,27 @@ static u32 chain_to(const struct network *net, const flag reached[DEVICES], u32 
     return UNREACHED;
 }
 
-/* Why a port leads out, or NOT_OUT where it does not. A port that fails in none of the first three leads nowhere only where its
- * device does not forward. */
-static enum cause cause_at(const struct port *port, const flag reached[DEVICES]) {
+/* Why a port leads out for interrupts of k, or NOT_OUT where it does not. A port at which nothing else fails leads nowhere only
+ * where its device does not forward. */
+static enum cause cause_at(const struct port *port, const flag reached[DEVICES], u32 k) {
     if (!port->peer || !reached[port->device->number] || reached[port->peer->device->number])
         return NOT_OUT;
     if (!port->running)
         return STOPPED;
     if (!port->may_send[INTERRUPT])
         return MAY_NOT_SEND;
-    return port->peer->may_receive[INTERRUPT] ? DOES_NOT_FORWARD : MAY_NOT_RECEIVE;
+    if (!port->peer->may_receive[INTERRUPT])
+        return MAY_NOT_RECEIVE;
+    return port->peer->barred[INTERRUPT][k] ? BARRED : DOES_NOT_FORWARD;
 }
 
 /* A word for each port that there can be; how many lead out. */
-static u32 causes_from(const struct network *net, const flag reached[DEVICES], u32 causes[CUT_WORDS]) {
+static u32 causes_from(const struct network *net, const flag reached[DEVICES], u32 k, u32 causes[CUT_WORDS]) {
     u32 count = 0;
     for (u32 i = 0; i < CUT_WORDS; i++) {
         const struct device *device = &net->device[i / PORTS];
         flag exists = i / PORTS < net->devices && i % PORTS < device->ports;
-        causes[i] = exists ? cause_at(&device->port[i % PORTS], reached) : NOT_OUT;
+        causes[i] = exists ? cause_at(&device->port[i % PORTS], reached, k) : NOT_OUT;
         count += causes[i] != NOT_OUT;
     }
     return count;
@@ -100,9 +104,9 @@ u32 judge_crossings(const u8 *plan, size plan_length, const u32 *state, size sta
     u32 number = question_read(&net, plan, plan_length, state, state_length, crossings_length, CROSSINGS_WORDS, source, k, source);
     if (number)
         return number;
-    reached_from(&net, source, reached);
+    reached_from(&net, source, k, reached);
     for (u32 d = 0; d < DEVICES; d++) {
-        crossings[d] = chain_to(&net, reached, source, d, ports);
+        crossings[d] = chain_to(&net, reached, source, k, d, ports);
         if (crossings[d] != UNREACHED && crossings[d] > *most)
             *most = crossings[d];
     }
@@ -119,8 +123,8 @@ u32 judge_chain(const u8 *plan, size plan_length, const u32 *state, size state_l
         return number;
     for (u32 i = 0; i < CHAIN_WORDS; i++)
         ports[i] = CHAIN_NONE;
-    reached_from(&net, source, reached);
-    *crossings = chain_to(&net, reached, source, device, ports);
+    reached_from(&net, source, k, reached);
+    *crossings = chain_to(&net, reached, source, k, device, ports);
     return 0;
 }
 
@@ -132,8 +136,8 @@ u32 judge_cut(const u8 *plan, size plan_length, const u32 *state, size state_len
     u32 number = question_read(&net, plan, plan_length, state, state_length, causes_length, CUT_WORDS, source, k, source);
     if (number)
         return number;
-    reached_from(&net, source, reached);
-    *count = causes_from(&net, reached, causes);
+    reached_from(&net, source, k, reached);
+    *count = causes_from(&net, reached, k, causes);
     return 0;
 }
 
@@ -154,10 +158,11 @@ static void print_chain(struct text *text, const struct network *net, const u32 
     }
 }
 
-static void print_cut(struct text *text, const struct network *net, const flag reached[DEVICES]) {
-    static const char *const names[CAUSES] = {"", " stopped\n", " may-not-send\n", " may-not-receive\n", " does-not-forward\n"};
+static void print_cut(struct text *text, const struct network *net, const flag reached[DEVICES], u32 k) {
+    static const char *const names[CAUSES] = {
+        "", " stopped\n", " may-not-send\n", " may-not-receive\n", " does-not-forward\n", " barred\n"};
     u32 causes[CUT_WORDS];
-    print_head(text, "cut ", causes_from(net, reached, causes));
+    print_head(text, "cut ", causes_from(net, reached, k, causes));
     for (u32 i = 0; i < CUT_WORDS; i++) {
         if (causes[i] == NOT_OUT)
             continue;
@@ -177,15 +182,15 @@ static flag bytes_read(struct network *net, const u8 *bytes, size length) {
 }
 
 /* For a network with its state. */
-static void print_why(struct text *text, const struct network *net, u32 source, u32 device) {
+static void print_why(struct text *text, const struct network *net, u32 source, u32 k, u32 device) {
     flag reached[DEVICES];
     u32 ports[DEVICES];
-    reached_from(net, source, reached);
-    u32 count = chain_to(net, reached, source, device, ports);
+    reached_from(net, source, k, reached);
+    u32 count = chain_to(net, reached, source, k, device, ports);
     if (count != UNREACHED)
         print_chain(text, net, ports, count);
     else
-        print_cut(text, net, reached);
+        print_cut(text, net, reached, k);
 }
 
 /* Where no state is given it is the start state, and nothing is looked at. */
@@ -212,7 +217,7 @@ u32 judge_why(const u8 *plan, size plan_length, u32 given, const u8 *state, size
     else if (refused)
         print_head(&printed, "r", refused);
     else
-        print_why(&printed, &net, source, device);
+        print_why(&printed, &net, source, k, device);
     *used = printed.used;
     return 0;
 }
