@@ -82,6 +82,17 @@ static void find(void) {
     exit(1);
 }
 
+/* No port may bar the identifier, as an interrupt or as an acknowledge. From BARS on each port has a set of both. */
+static void must_let_in(void) {
+    static const char *const kinds[] = {"interrupts", "acknowledges"};
+    for (bench_u32 d = 0; d < file[DEVICES]; d++)
+        for (bench_u32 i = 0; i < 16; i++)
+            if (has(d, BARS + SET * i, identifier)) {
+                printf("port %u of device %u bars %s of %u\n", i / 2, d, kinds[i % 2], identifier);
+                exit(1);
+            }
+}
+
 /* Counts a word that a host is told. A Time-Code's is about no identifier: its low byte is a value. */
 static void count_told(bench_u32 word) {
     if (word >> 16 == TIME)
@@ -168,6 +179,7 @@ int main(void) {
     must("start", bench_start(file, length, AREA(states[now])));
     must_permit();
     find();
+    must_let_in();
     must_be_found();
 
     /* 64 x (D + 1) rounds are enough, D crossings to the farthest device, and D is below the number reached. */

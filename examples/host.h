@@ -10,7 +10,7 @@ _Noreturn void exit(int status);
 
 /* Where things stand in a plan file: in block 0, and in the block of a device. */
 enum { BLOCK = 512, DEVICES = 1, ROUTER_LOAD = 2, NODE_LOAD = 4, EVENTS = 6, MASTER = 10 };
-enum { ROLE = 2, SOURCES = 4, HANDLERS = 8, ROWS = 12, ROW = 4, PERMISSIONS = 2 };
+enum { ROLE = 2, SOURCES = 4, HANDLERS = 8, ROWS = 12, ROW = 4, PERMISSIONS = 2, BARS = 44, SET = 4 };
 
 /* What a told word is about. */
 enum { INTERRUPT = 1, ACKNOWLEDGE = 2, TIMEOUT = 3, TIME = 4 };
@@ -57,9 +57,9 @@ static inline const bench_u8 *block_of(bench_u32 device) {
     return file + BLOCK * (1 + device);
 }
 
-/* Is an identifier in one of the two sets of a device? */
-static inline int has(bench_u32 device, int sets, bench_u32 k) {
-    return block_of(device)[sets + k / 8] >> k % 8 & 1;
+/* Is an identifier in a set of a device's block, which stands at this place? */
+static inline int has(bench_u32 device, bench_u32 set, bench_u32 k) {
+    return block_of(device)[set + k / 8] >> k % 8 & 1;
 }
 
 /* Is an identifier an event, which is never acknowledged? */

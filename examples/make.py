@@ -7,6 +7,7 @@ import pathlib
 import sys
 
 NODE, ROUTER = 0, 1
+ALL = (1 << 32) - 1
 
 
 class Plan:
@@ -20,7 +21,7 @@ class Plan:
 
     def add(self, role, ports, source=(), handler=()):
         self.devices.append({"role": role, "ports": ports, "source": mask(source), "handler": mask(handler),
-                             "entries": [(255, 255, 0, 0)] * 8})
+                             "entries": [(255, 255, 0, 0)] * 8, "bars": [(0, 0)] * 8})
         return len(self.devices) - 1
 
     def node(self, source=(), handler=(), ports=1):
@@ -35,13 +36,20 @@ class Plan:
             assert self.devices[d]["entries"][p] == (255, 255, 0, 0) and p < self.devices[d]["ports"]
             self.devices[d]["entries"][p] = (e, q, permissions, 0)
 
+    def let_in(self, a, interrupts=(), acknowledges=()):
+        """Port a = (router, port) bars all but these."""
+        d, p = a
+        assert self.devices[d]["role"] == ROUTER and p < self.devices[d]["ports"]
+        self.devices[d]["bars"][p] = (ALL - mask(interrupts), ALL - mask(acknowledges))
+
     def file(self):
         router, node = self.loads
         master = 0 if self.master is None else 1 + self.master
         blocks = [sealed(bytes([1, len(self.devices)]) + two(router) + two(node) + four(mask(self.events)) + bytes([master]))]
         for d, device in enumerate(self.devices):
             fields = bytes([2, d, device["role"], device["ports"]]) + four(device["source"]) + four(device["handler"])
-            blocks.append(sealed(fields + b"".join(bytes(e) for e in device["entries"])))
+            rows = b"".join(bytes(e) for e in device["entries"])
+            blocks.append(sealed(fields + rows + b"".join(four(i) + four(a) for i, a in device["bars"])))
         return b"".join(blocks)
 
 
@@ -313,6 +321,34 @@ def causes():
     return plan
 
 
+def edge(guarded):
+    """A unit that reports by 5, a computer that handles it and says by event 9 that it is alive, a recorder of that, and a spare of the computer,
+    which can do the same and is not to; by 6 it says that something is wrong with it. Two routers at the edge may be guarded: each port to a
+    unit lets in what that has business with, and nothing else."""
+    plan = Plan(400, 500)
+    routers = [plan.router(3), plan.router(3)]
+    unit, computer = plan.node(source=[5]), plan.node(source=[9], handler=[5, 6])
+    recorder, spare = plan.node(handler=[9]), plan.node(source=[6, 9], handler=[5])
+    plan.join((routers[0], 0), (routers[1], 0))
+    for near, far, interrupts, acknowledges in ((unit, (routers[0], 1), [5], []), (spare, (routers[0], 2), [6], []),
+                                                (computer, (routers[1], 1), [9], [5, 6]), (recorder, (routers[1], 2), [], [])):
+        plan.join((near, 0), far)
+        if guarded:
+            plan.let_in(far, interrupts, acknowledges)
+    plan.events = [9]
+    return plan
+
+
+def babble():
+    """The edge with no guard: whatever the spare sends gets everywhere."""
+    return edge(guarded=False)
+
+
+def guarded():
+    """The same with the guard."""
+    return edge(guarded=True)
+
+
 def idle():
     """One node, joined to nothing, and no source: the smallest file there is."""
     plan = Plan(1, 1)
@@ -322,5 +358,5 @@ def idle():
 
 if __name__ == "__main__":
     folder = pathlib.Path(sys.argv[1] if len(sys.argv) > 1 else pathlib.Path(__file__).parent)
-    for make in (three, ring, tree, torus, full, loop, brief, mute, incident, mesh, chain, never, fading, twice, refused, strapped, cut, parted, timed, events, causes, idle):
+    for make in (three, ring, tree, torus, full, loop, brief, mute, incident, mesh, chain, never, fading, twice, refused, strapped, cut, parted, timed, events, causes, babble, guarded, idle):
         (folder / f"{make.__name__}.plan").write_bytes(make().file())

@@ -2,8 +2,8 @@
  * `rt staticlib door` makes; it needs memcpy, memmove and memset, and nothing else.
  *
  * Every call takes any input, ends, and touches nothing but what it is lent. It returns a number: 0 for done, or that of
- * the first refusal, in the order given at the call. (bench_code_read returns a kind, and bench_react what a device does: these
- * two refuse nothing.)
+ * the first refusal, in the order given at the call. (bench_code_read returns a kind, and bench_react and bench_react_guarded what
+ * a device does: these refuse nothing.)
  *
  *    2 a state that is not sound                8 none that runs may send the kind
  *    3 an area of the wrong length, or one      9 the bit is already so
@@ -22,6 +22,10 @@
  *
  * Bytes 6 to 9 of a plan's first block are the set of its events: identifiers that nobody acknowledges, and that may have several
  * sources. Only a timer or a reset clears the bit of an event.
+ *
+ * Bytes 44 to 107 of a device's block are what its ports bar: from 44 + 8 x p on port p has a set of interrupts and then one of
+ * acknowledges, four bytes each. A router drops such a code where it arrives, and counts it. At a node, and at a port that the
+ * router lacks, the sets are empty, or 23 is answered.
  *
  * A refused call changes no area and gives 0 for a value, but for 12 (bench_settle) and 20 to 27 (bench_plan_read, which gives
  * the block). bench_report and bench_why are refused by 3 alone: what else is wrong stands in their text. docs/RULES.md has the
@@ -51,7 +55,7 @@ typedef char bench_size_fits_an_address[sizeof(bench_size) == sizeof(void *) ? 1
 
 /* Lengths: of a state and of the areas for what is sent and told, in words; of the least area for a text and of the longest plan
  * file, in bytes. */
-enum { BENCH_STATE = 2368, BENCH_SENT = 256, BENCH_TOLD = 1088, BENCH_TEXT = 14347, BENCH_FILE = 16896 };
+enum { BENCH_STATE = 2880, BENCH_SENT = 256, BENCH_TOLD = 1088, BENCH_TEXT = 14347, BENCH_FILE = 16896 };
 
 /* Of the areas for crossings, for a chain and for a cut, in words; and of the least area for the text of why, in bytes. */
 enum { BENCH_CROSSINGS = 32, BENCH_CHAIN = 32, BENCH_CUT = 256, BENCH_WHY = 5640 };
@@ -62,44 +66,47 @@ enum { BENCH_ROUNDS = 4096, BENCH_NOTHING = 256 };
 /* The crossings of a device that is not reached, one more than any other is away; and the word of a chain behind its last port. */
 enum { BENCH_UNREACHED = 32, BENCH_NOBODY = 256 };
 
-/* Why interrupts do not go by a port to a device that is not reached, the first that is so: the port does not run; it may not send
- * interrupts; the port at its other end may not receive them; its device is a node, and not the source. */
-enum { BENCH_STOPPED = 1, BENCH_MAY_NOT_SEND, BENCH_MAY_NOT_RECEIVE, BENCH_DOES_NOT_FORWARD };
+/* Why interrupts of an identifier do not go by a port to a device that is not reached, the first that is so: the port does not
+ * run; it may not send interrupts; the port at its other end may not receive them, or bars those of this identifier; its device is
+ * a node, and not the source. So BENCH_BARRED is looked for before BENCH_DOES_NOT_FORWARD, whose number it leaves as it was. */
+enum { BENCH_STOPPED = 1, BENCH_MAY_NOT_SEND, BENCH_MAY_NOT_RECEIVE, BENCH_DOES_NOT_FORWARD, BENCH_BARRED };
 
 /* Where words stand in a state. Device d has its register at BENCH_DEVICE x d, and behind it its 32 timers. Port p of device d has
  * BENCH_PORT words from BENCH_PORTS + BENCH_PORT x (8 x d + p) on: two sets that wait, interrupts and acknowledges, then its next
  * and whether it runs. Device d has its counter, 0 to 63, at BENCH_COUNTERS + d. Port p of it has at BENCH_TIMES + 8 x d + p the
- * Time-Code that waits plus 1, or 0 where none does, and 128 more where the last code that it sent was a Time-Code. */
+ * Time-Code that waits plus 1, or 0 where none does, and 128 more where the last code that it sent was a Time-Code. At BENCH_DROPS
+ * + 2 x (8 x d + p) it has how many interrupts were dropped there, as barred, and behind that how many acknowledges: up to 65,535
+ * of each, where the count stays, and 0 at a node. */
 enum { BENCH_DEVICE = 33, BENCH_PORTS = 1056, BENCH_PORT = 4, BENCH_NEXT = 2, BENCH_RUNNING = 3 };
-enum { BENCH_COUNTERS = 2080, BENCH_TIMES = 2112 };
+enum { BENCH_COUNTERS = 2080, BENCH_TIMES = 2112, BENCH_DROPS = 2368 };
 
 /* Kinds of code. */
 enum { BENCH_TIME, BENCH_INTERRUPT, BENCH_ACKNOWLEDGE, BENCH_RESERVED };
 
-/* What a device does with a code: names it, reports a link error, ignores it, forwards it, tells its host. */
-enum { BENCH_NAMED, BENCH_LINK_ERROR, BENCH_IGNORED, BENCH_FORWARDED, BENCH_TOLD_HOST };
+/* What a device does with a code: names it, reports a link error, ignores it, forwards it, tells its host, drops it as barred. */
+enum { BENCH_NAMED, BENCH_LINK_ERROR, BENCH_IGNORED, BENCH_FORWARDED, BENCH_TOLD_HOST, BENCH_DROPPED };
 
 /* The stack that each call needs, in bytes, and each program, from its arguments down: measured by painting it and rounded up
  * (tests/stack.sh, which fails where one needs more). It covers the first call of a process, where memcpy, memmove and memset
- * may still have to be bound. That of reach is for both its calls. */
+ * may still have to be bound. Those of the reaction and of reach are for both their calls. */
 enum {
-    BENCH_STACK_CODE_READ = 256, BENCH_STACK_CODE_WRITE = 256, BENCH_STACK_REACT = 256, BENCH_STACK_PLAN_READ = 9216,
-    BENCH_STACK_START = 10240, BENCH_STACK_REQUEST = 11264, BENCH_STACK_ACKNOWLEDGE = 11264, BENCH_STACK_LINK = 10240,
-    BENCH_STACK_RESET = 10240, BENCH_STACK_TICK = 10240, BENCH_STACK_ROUND = 10240, BENCH_STACK_SETTLE = 19456,
-    BENCH_STACK_REACH = 10240, BENCH_STACK_REPORT = 44032, BENCH_STACK_CROSSINGS = 12288, BENCH_STACK_CHAIN = 16384,
-    BENCH_STACK_CUT = 14336, BENCH_STACK_WHY = 27648,
-    BENCH_STACK_PROGRAM_SETTLE = 73728, BENCH_STACK_PROGRAM_DECODE = 92160, BENCH_STACK_PROGRAM_WHY = 176128
+    BENCH_STACK_CODE_READ = 256, BENCH_STACK_CODE_WRITE = 256, BENCH_STACK_REACT = 256, BENCH_STACK_PLAN_READ = 13312,
+    BENCH_STACK_START = 13312, BENCH_STACK_REQUEST = 19456, BENCH_STACK_ACKNOWLEDGE = 19456, BENCH_STACK_LINK = 17408,
+    BENCH_STACK_RESET = 16384, BENCH_STACK_TICK = 19456, BENCH_STACK_ROUND = 19456, BENCH_STACK_SETTLE = 30720,
+    BENCH_STACK_REACH = 20480, BENCH_STACK_REPORT = 58368, BENCH_STACK_CROSSINGS = 21504, BENCH_STACK_CHAIN = 28672,
+    BENCH_STACK_CUT = 26624, BENCH_STACK_WHY = 40960,
+    BENCH_STACK_PROGRAM_SETTLE = 88064, BENCH_STACK_PROGRAM_DECODE = 92160, BENCH_STACK_PROGRAM_WHY = 192512
 };
 
 /* ---- the archive's own symbols: for the functions below, which test what is lent, and for no other caller in C. One that had
  * other parameters once has a number behind its name, or another name, so that an object compiled with an older header does not
- * link. */
+ * link. react_guarded is behind both functions of the reaction, in the place of react_4. */
 
 bench_u32 bench_for_header_code_read_2(bench_u8 byte, bench_u32 *top, bench_u32 *value);
 bench_u32 bench_for_header_code_write(bench_u32 kind, bench_u32 value, bench_u32 *byte);
-bench_u32 bench_for_header_react_4(bench_u32 role, bench_u32 running, bench_u32 permissions, bench_u32 events,
-                                   bench_u32 *bits, bench_u32 *counter, bench_u8 byte, bench_u32 *kind, bench_u32 *top,
-                                   bench_u32 *value);
+bench_u32 bench_for_header_react_guarded(bench_u32 role, bench_u32 running, bench_u32 permissions, bench_u32 events,
+                                         bench_u32 interrupts, bench_u32 acknowledges, bench_u32 *bits, bench_u32 *counter,
+                                         bench_u8 byte, bench_u32 *kind, bench_u32 *top, bench_u32 *value);
 bench_u32 bench_for_header_plan_read(const bench_u8 *file, bench_size file_length, bench_u32 *block);
 bench_u32 bench_for_header_start(const bench_u8 *plan, bench_size plan_length, bench_u32 *state, bench_size state_length);
 bench_u32 bench_for_header_request(const bench_u8 *plan, bench_size plan_length, bench_u32 *state, bench_size state_length,
@@ -223,24 +230,34 @@ static inline bench_u32 bench_code_write(bench_u32 kind, bench_u32 value, bench_
     return number;
 }
 
-/* One device gets a byte at a port: role 0 for a node, else a router; running 0 for no. Of an identifier in the set events an
- * acknowledge is ignored, where the port runs. The device's register is updated where it stands, at bits, and so is its counter,
- * of which a number above 63 counts as its remainder by 64; null for either is a 0 that nobody wants back. A Time-Code becomes the
- * counter; where it is one above what that was, modulo 64, it is forwarded or told, and else named. Returns what the device does;
- * kind, top and value are those of the byte, as bench_code_read gives them, whatever is done with it. */
-static inline bench_u32 bench_react(bench_u32 role, bench_u32 running, bench_u32 permissions, bench_u32 events,
-                                    bench_u32 *bits, bench_u32 *counter, bench_u8 byte, bench_u32 *kind, bench_u32 *top,
-                                    bench_u32 *value) {
+/* One device gets a byte at a port: role 0 for a node, else a router; running 0 for no. The port of a router bars a set of
+ * interrupts and one of acknowledges, which a node does not look at: where the port runs and may receive such a code, it is
+ * dropped, whatever the bit is. Of an identifier in the set events an acknowledge is ignored, where the port runs and does not bar
+ * it. The device's register is updated where it stands, at bits, and so is its counter, of which a number above 63 counts as its
+ * remainder by 64; null for either is a 0 that nobody wants back. A Time-Code becomes the counter; where it is one above what that
+ * was, modulo 64, it is forwarded or told, and else named. Returns what the device does; kind, top and value are those of the
+ * byte, as bench_code_read gives them, whatever is done with it. */
+static inline bench_u32 bench_react_guarded(bench_u32 role, bench_u32 running, bench_u32 permissions, bench_u32 events,
+                                            bench_u32 interrupts, bench_u32 acknowledges, bench_u32 *bits, bench_u32 *counter,
+                                            bench_u8 byte, bench_u32 *kind, bench_u32 *top, bench_u32 *value) {
     bench_u32 held = 0, count = 0, of, high, given, action;
     bench_move(&held, bits);
     bench_move(&count, counter);
-    action = bench_for_header_react_4(role, running, permissions, events, &held, &count, byte, &of, &high, &given);
+    action = bench_for_header_react_guarded(role, running, permissions, events, interrupts, acknowledges, &held, &count, byte,
+                                            &of, &high, &given);
     bench_put(bits, held);
     bench_put(counter, count);
     bench_put(kind, of);
     bench_put(top, high);
     bench_put(value, given);
     return action;
+}
+
+/* The same at a port that bars nothing. */
+static inline bench_u32 bench_react(bench_u32 role, bench_u32 running, bench_u32 permissions, bench_u32 events,
+                                    bench_u32 *bits, bench_u32 *counter, bench_u8 byte, bench_u32 *kind, bench_u32 *top,
+                                    bench_u32 *value) {
+    return bench_react_guarded(role, running, permissions, events, 0, 0, bits, counter, byte, kind, top, value);
 }
 
 /* ---- plans, and the calls between rounds */
@@ -288,8 +305,8 @@ static inline bench_u32 bench_acknowledge(const bench_u8 *plan, bench_size plan_
 }
 
 /* The link at a port: running is what it is to be, 0 stops it and any other number starts it. 20 to 27; 2; 4; 7; 10 where it is
- * so already. A stop loses what waits at both ends, and makes their two Time-Code words 0; registers, timers, counters and
- * where searches begin stay. */
+ * so already. A stop loses what waits at both ends, and makes their two Time-Code words 0; registers, timers, counters, where
+ * searches begin and what was dropped stay. */
 static inline bench_u32 bench_link(const bench_u8 *plan, bench_size plan_length, bench_u32 *state, bench_size state_length,
                                    bench_size device, bench_size port, bench_u32 running) {
     if (!bench_two_apart(plan, plan_length, state, state_length))
@@ -306,7 +323,8 @@ static inline bench_u32 bench_tick(const bench_u8 *plan, bench_size plan_length,
     return bench_for_header_tick(plan, plan_length, state, state_length, device);
 }
 
-/* A device is reset. 20 to 27; 2; 4. */
+/* A device is reset: its register, timers and counter become 0, and so do the words of its ports, those of what was dropped there
+ * too, but for whether they run. 20 to 27; 2; 4. */
 static inline bench_u32 bench_reset(const bench_u8 *plan, bench_size plan_length, bench_u32 *state, bench_size state_length,
                                     bench_size device) {
     if (!bench_two_apart(plan, plan_length, state, state_length))
@@ -316,10 +334,10 @@ static inline bench_u32 bench_reset(const bench_u8 *plan, bench_size plan_length
 
 /* ---- rounds, settling, reach, and the text */
 
-/* One round from an old state. The word of the bytes sent at 8 x device + port is the byte that the port sent, or
- * BENCH_NOTHING; a word told has the identifier in its low byte, the device in the next, and above them 1 for an interrupt, 2 for
- * an acknowledge or 3 for a timeout; or 4 for a Time-Code, with its value in the low byte. How many words were told goes to
- * *count, and behind them are zeros. 20 to 27; 2; 3. */
+/* One round from an old state. The word of the bytes sent at 8 x device + port is the byte that the port sent, or BENCH_NOTHING; a
+ * word told has the identifier in its low byte, the device in the next, and above them 1 for an interrupt, 2 for an acknowledge or
+ * 3 for a timeout; or 4 for a Time-Code, with its value in the low byte. How many words were told goes to *count, and behind them
+ * are zeros. Of a code that a router drops, as barred, only its count in the next state tells. 20 to 27; 2; 3. */
 static inline bench_u32 bench_round(const bench_u8 *plan, bench_size plan_length, const bench_u32 *old, bench_size old_length,
                                     bench_u32 *next, bench_size next_length, bench_u32 *sent, bench_size sent_length,
                                     bench_u32 *told, bench_size told_length, bench_u32 *count) {
@@ -396,8 +414,9 @@ static inline bench_u32 bench_report(const bench_u8 *file, bench_size file_lengt
     return number;
 }
 
-/* ---- why it got there, or not. A port leads to a device where it runs and may send interrupts, and the port at its other end,
- * one of that device, may receive them. Interrupts go by such ports, from the source and then from routers alone. */
+/* ---- why it got there, or not. A port leads to a device, for interrupts of k, where it runs and may send interrupts, and the
+ * port at its other end, one of that device, may receive them and does not bar those of k. They go by such ports, from the source
+ * and then from routers alone. */
 
 /* What these calls are lent: a plan, a state, an area of words and the place of a value. Where that is refused, the value is put
  * here. */
@@ -444,9 +463,8 @@ static inline bench_u32 bench_chain(const bench_u8 *plan, bench_size plan_length
 }
 
 /* Every port that leads out of what interrupts of k reach from a source: it is connected, its device is reached, and the one at
- * its other end is not. The word 8 x device + port of causes is why they do not go that way, BENCH_STOPPED to
- * BENCH_DOES_NOT_FORWARD, or 0 where the port does not lead out. How many do goes to *count. The area has BENCH_CUT words. 20 to
- * 27; 2; 3; 4; 5; 6. */
+ * its other end is not. The word 8 x device + port of causes is why they do not go that way, one of the causes above, or 0 where
+ * the port does not lead out. How many do goes to *count. The area has BENCH_CUT words. 20 to 27; 2; 3; 4; 5; 6. */
 static inline bench_u32 bench_cut(const bench_u8 *plan, bench_size plan_length, const bench_u32 *state,
                                   bench_size state_length, bench_size source, bench_u32 k, bench_u32 *causes,
                                   bench_size causes_length, bench_u32 *count) {

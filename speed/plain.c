@@ -12,8 +12,11 @@ enum { NONE = BENCH_NOTHING, NEXT = BENCH_NEXT, RUNNING = BENCH_RUNNING };
 enum { UNREACHED = BENCH_UNREACHED };
 
 /* Of the word of a port's Time-Code: what waits, plus 1, and whether one was sent last. In block 0 the set of events, and the byte
-   of the master. */
-enum { WAITING = 127, LAST = 128, EVENTS = 6, MASTER = 10 };
+   of the master; in a device's block the sets that its ports bar, by port and then by kind, and what is behind them. */
+enum { WAITING = 127, LAST = 128, EVENTS = 6, MASTER = 10, BARS = 44, ZEROS = 108 };
+
+/* Where a count of drops stays. */
+enum { MOST_DROPS = 65535 };
 
 struct plan {
     u32 devices, loads[2], events, master; /* or NONE */
@@ -21,6 +24,7 @@ struct plan {
     u32 source[32], handler[32];
     u8 permissions[BENCH_SENT];
     u16 peers[BENCH_SENT];
+    u32 bars[BENCH_SENT][2];
 };
 
 static u32 two(const u8 *b) {
@@ -64,6 +68,14 @@ static int fits(const u8 *b, u32 n) {
     return 1;
 }
 
+/* Only the ports that a router has bar anything. */
+static int bars_fit(const u8 *b) {
+    u8 any = 0;
+    for (int i = BARS + (b[2] ? 8 * b[3] : 0); i < ZEROS; i++)
+        any |= b[i];
+    return !any;
+}
+
 static void load_device(const u8 *b, u32 d, struct plan *plan) {
     plan->role[d] = b[2];
     plan->ports[d] = b[3];
@@ -73,6 +85,8 @@ static void load_device(const u8 *b, u32 d, struct plan *plan) {
         const u8 *e = b + 12 + 4 * p;
         plan->permissions[8 * d + p] = e[2];
         plan->peers[8 * d + p] = e[0] == 255 ? NONE : 8 * e[0] + e[1];
+        plan->bars[8 * d + p][INTERRUPT] = four(b + BARS + 8 * p);
+        plan->bars[8 * d + p][ACKNOWLEDGE] = four(b + BARS + 8 * p + 4);
     }
 }
 
@@ -101,7 +115,8 @@ static u32 read_plan(const u8 *file, usize length, struct plan *plan, u32 *block
     for (u32 d = 0; d < n; d++) {
         const u8 *b = file + 512 * (1 + d);
         *block = 1 + d;
-        if ((bad = any_block(b, 44, fits(b, n) && !(b[2] && d == master), b[0] == 2 && b[1] == d)))
+        good = fits(b, n) && bars_fit(b) && !(b[2] && d == master);
+        if ((bad = any_block(b, ZEROS, good, b[0] == 2 && b[1] == d)))
             return bad;
         load_device(b, d, plan);
     }
@@ -149,8 +164,24 @@ static int port_sound(const struct plan *plan, const u32 *s, u32 q) {
     return !((w[0] && !(w[RUNNING] && (may & 1))) || (w[1] && !(w[RUNNING] && (may & 4))));
 }
 
+/* Only the ports that a router has drop anything. */
+static int drops_sound(const struct plan *plan, const u32 *drops) {
+    u32 counts = 0, others = 0;
+    for (u32 d = 0; d < plan->devices; d++, drops += 16) {
+        u32 own = plan->role[d] ? 2 * plan->ports[d] : 0;
+        for (u32 i = 0; i < own; i++)
+            counts |= drops[i];
+        for (u32 i = own; i < 16; i++)
+            others |= drops[i];
+    }
+    for (u32 i = 0; i < 16 * (32 - plan->devices); i++)
+        others |= drops[i];
+    return counts <= MOST_DROPS && !others;
+}
+
 static int sound(const struct plan *plan, const u32 *s) {
-    if (!timers_sound(s, plan->devices) || !counters_sound(s + BENCH_COUNTERS, plan->devices))
+    if (!timers_sound(s, plan->devices) || !counters_sound(s + BENCH_COUNTERS, plan->devices) ||
+        !drops_sound(plan, s + BENCH_DROPS))
         return 0;
     for (u32 i = device_at(plan->devices); i < BENCH_PORTS; i++)
         if (s[i])
@@ -267,6 +298,25 @@ static int arrive_time(const struct plan *plan, u32 *next, u32 d, u32 q, u32 val
     return above;
 }
 
+/* An interrupt or an acknowledge of k comes to port q of device d; whether it is accepted. */
+static int arrive_code(const struct plan *plan, u32 *next, u32 d, u32 q, u32 kind, u32 k) {
+    u32 *w = next + device_at(d), *drops = next + BENCH_DROPS + 2 * q + kind;
+    if (!next[port_at(q) + RUNNING] || !(plan->permissions[q] >> (2 * kind + 1) & 1))
+        return 0;
+    if (plan->bars[q][kind] >> k & 1) {
+        *drops += *drops < MOST_DROPS;
+        return 0;
+    }
+    if ((w[0] >> k & 1) != kind || (kind & plan->events >> k)) /* nobody takes an acknowledge of an event */
+        return 0;
+    w[0] ^= 1u << k;
+    w[1 + k] = kind == ACKNOWLEDGE ? 0 : plan->loads[plan->role[d]];
+    for (u32 other = 8 * d; plan->role[d] && other < 8 * d + plan->ports[d]; other++)
+        if (other != q)
+            queue(plan, next, other, kind, k);
+    return 1;
+}
+
 static u32 arrive(const struct plan *plan, const u32 *sent, u32 *next, u32 *told, u32 count) {
     for (u32 d = 0; d < plan->devices; d++)
         for (u32 q = 8 * d; q < 8 * d + plan->ports[d]; q++) {
@@ -278,18 +328,8 @@ static u32 arrive(const struct plan *plan, const u32 *sent, u32 *next, u32 *told
                     told[count++] = 4 << 16 | d << 8 | sent[peer];
                 continue;
             }
-            u32 kind = sent[peer] >= 160, k = sent[peer] % 32, *w = next + device_at(d);
-            if (!next[port_at(q) + RUNNING] || !(plan->permissions[q] >> (2 * kind + 1) & 1) || (w[0] >> k & 1) != kind)
-                continue;
-            if (kind & plan->events >> k) /* nobody takes an acknowledge of an event */
-                continue;
-            w[0] ^= 1u << k;
-            w[1 + k] = kind == ACKNOWLEDGE ? 0 : plan->loads[plan->role[d]];
-            if (plan->role[d]) {
-                for (u32 other = 8 * d; other < 8 * d + plan->ports[d]; other++)
-                    if (other != q)
-                        queue(plan, next, other, kind, k);
-            } else if (told)
+            u32 kind = sent[peer] >= 160, k = sent[peer] % 32;
+            if (arrive_code(plan, next, d, q, kind, k) && told && !plan->role[d])
                 told[count++] = (1 + kind) << 16 | d << 8 | k;
         }
     return count;
@@ -325,27 +365,29 @@ static u32 settle(const struct plan *plan, u32 *areas[2], u32 allowance, u32 *ro
 
 /* ---- reach, and ways */
 
-/* What keeps an interrupt from going by a port, or 0. A port that runs has a peer. */
-static inline u32 cause(const struct plan *plan, const u32 *s, u32 q) {
+/* What keeps an interrupt of k from going by a port, or 0. A port that runs has a peer. */
+static inline u32 cause(const struct plan *plan, const u32 *s, u32 q, u32 k) {
     if (!s[port_at(q) + RUNNING])
         return BENCH_STOPPED;
     if (!(plan->permissions[q] & 1))
         return BENCH_MAY_NOT_SEND;
-    return plan->permissions[plan->peers[q]] & 2 ? 0 : BENCH_MAY_NOT_RECEIVE;
+    if (!(plan->permissions[plan->peers[q]] & 2))
+        return BENCH_MAY_NOT_RECEIVE;
+    return plan->bars[plan->peers[q]][INTERRUPT] >> k & 1 ? BENCH_BARRED : 0;
 }
 
 /* In depth. No device is visited twice, so that each port that is looked at counts once. */
-static u32 visit(const struct plan *plan, const u32 *s, u32 d, u32 set, u32 *examined) {
+static u32 visit(const struct plan *plan, const u32 *s, u32 d, u32 k, u32 set, u32 *examined) {
     *examined += plan->ports[d];
     for (u32 q = 8 * d; q < 8 * d + plan->ports[d]; q++) {
-        if (cause(plan, s, q))
+        if (cause(plan, s, q, k))
             continue;
         u32 ahead = plan->peers[q] / 8;
         if (set >> ahead & 1)
             continue;
         set |= 1u << ahead;
         if (plan->role[ahead])
-            set = visit(plan, s, ahead, set, examined);
+            set = visit(plan, s, ahead, k, set, examined);
     }
     return set;
 }
@@ -353,7 +395,7 @@ static u32 visit(const struct plan *plan, const u32 *s, u32 d, u32 set, u32 *exa
 /* In breadth: devices leave the row in the order of their crossings, and of those that are as far, in the order of their
    chains. So the port by which a device is found first is the last one of its chain; it is kept where that is wanted. The
    answer is the most crossings. */
-static u32 spread(const struct plan *plan, const u32 *s, u32 source, u32 *crossings, u8 *found) {
+static u32 spread(const struct plan *plan, const u32 *s, u32 source, u32 k, u32 *crossings, u8 *found) {
     u32 row[32], in = 0;
     for (u32 d = 0; d < 32; d++)
         crossings[d] = UNREACHED;
@@ -365,7 +407,7 @@ static u32 spread(const struct plan *plan, const u32 *s, u32 source, u32 *crossi
             continue;
         for (u32 q = 8 * d; q < 8 * d + plan->ports[d]; q++) {
             u32 ahead = plan->peers[q] / 8;
-            if (cause(plan, s, q) || crossings[ahead] != UNREACHED)
+            if (cause(plan, s, q, k) || crossings[ahead] != UNREACHED)
                 continue;
             crossings[ahead] = crossings[d] + 1;
             row[in++] = ahead;
@@ -485,7 +527,7 @@ u32 plain_reach_ports(const u8 *file, usize length, const u32 *state, usize stat
     *devices = *set = *examined = 0;
     if (number)
         return number;
-    *set = visit(&plan, state, device, 1u << device, examined);
+    *set = visit(&plan, state, device, k, 1u << device, examined);
     *devices = __builtin_popcount(*set);
     return 0;
 }
@@ -495,7 +537,7 @@ u32 plain_crossings(const u8 *file, usize length, const u32 *state, usize state_
     struct plan plan;
     u32 number = source_refusal(file, length, state, source, k, &plan);
     (void)state_length, (void)crossings_length;
-    *most = number ? 0 : spread(&plan, state, source, crossings, 0);
+    *most = number ? 0 : spread(&plan, state, source, k, crossings, 0);
     return number;
 }
 
@@ -508,7 +550,7 @@ u32 plain_chain(const u8 *file, usize length, const u32 *state, usize state_leng
     *crossings = 0;
     if (number)
         return number;
-    spread(&plan, state, source, away, found);
+    spread(&plan, state, source, k, away, found);
     *crossings = away[device];
     for (u32 i = 0; i < ports_length; i++)
         ports[i] = BENCH_NOBODY;
@@ -525,13 +567,13 @@ u32 plain_cut(const u8 *file, usize length, const u32 *state, usize state_length
     *count = 0;
     if (number)
         return number;
-    u32 examined = 0, set = visit(&plan, state, source, 1u << source, &examined);
+    u32 examined = 0, set = visit(&plan, state, source, k, 1u << source, &examined);
     memset(causes, 0, causes_length * sizeof *causes);
     for (u32 q = 0; q < 8 * plan.devices; q++) {
         u32 peer = plan.peers[q];
         if (peer == NONE || !(set >> q / 8 & 1) || (set >> peer / 8 & 1))
             continue;
-        u32 first = cause(&plan, state, q);
+        u32 first = cause(&plan, state, q, k);
         causes[q] = first ? first : BENCH_DOES_NOT_FORWARD;
         ++*count;
     }

@@ -171,8 +171,8 @@ static void race(const char *what, const char *waiting, call *work) {
 
 /* ---- networks of any size */
 
-/* Where block 0 has the set of events. */
-enum { EVENTS = 6 };
+/* Where block 0 has the set of events, and the block of a device what its ports bar. */
+enum { EVENTS = 6, BARS = 44 };
 
 static void seal(u8 *block) {
     u32 sum = 0;
@@ -257,6 +257,20 @@ static void with_events(void) {
     seal(file);
 }
 
+/* Every second port of a router bars half of the interrupts, 5 among them, and other acknowledges. Half of these ports have
+   dropped so many that their counts come to the end. */
+static void with_bars(void) {
+    for (u32 d = 1; d < file[1]; d++) {
+        for (u32 p = d % 2; p < 8; p += 2) {
+            memset(file + 512 * (1 + d) + BARS + 8 * p, 0x33, 4);
+            memset(file + 512 * (1 + d) + BARS + 8 * p + 4, 0x0f, 4);
+            for (u32 kind = 0; kind < 2; kind++)
+                before[BENCH_DROPS + 2 * (8 * d + p) + kind] = p / 2 % 2 ? 65533 + kind : 0;
+        }
+        seal(file + 512 * (1 + d));
+    }
+}
+
 /* How the cost grows with devices, and with the identifiers that every port has waiting. */
 static void growth(u32 n) {
     static const u32 sets[] = {0, 1, 0xff, 0xffffffff};
@@ -284,6 +298,13 @@ static void growth(u32 n) {
     with_events();
     compare("a round with events", round);
     compare("settle with events", settle);
+    with_bars();
+    compare("a round with bars", round);
+    compare("settle with bars", settle);
+    compare("reach with bars", reach);
+    compare("crossings with bars", crossings);
+    compare("a chain with bars", chain);
+    compare("a cut with bars", cut);
 }
 
 static void report_of(const char *name) {

@@ -32,6 +32,9 @@ example why
 example 'example incident'
 example 'example cycle'
 example 'example event'
+example 'example babble'
+example 'example babble .*guarded'
+example 'why .*guarded'
 example 'example sweep'
 
 # The state that the second example of why is about is made by the line before it.

@@ -13,12 +13,21 @@ example=cycle
 . tests/example
 
 plays ring incident strapped cut timed events
+head -n 9 tests/expected/cycle.txt >"$work/ring"
 refuses "timers are too short: a load is 100, and has to be above 512" <examples/three.plan
 refuses "port 0 of device 0 does not have all four permissions" <examples/mute.plan
 refuses "no acknowledge of device 4 gets to device 0, which interrupt 0 of device 2 reaches" <examples/parted.plan
 refuses "no source has a handler that its interrupt reaches" <examples/idle.plan
 head -c 1024 examples/ring.plan | refuses "the plan is refused by 25 in block 0"
 cat examples/full.plan examples/idle.plan | refuses "the plan is refused by 20 in block 0"
+
+# A port bars the identifier, as what it hears or as what it does not. One that bars what nobody requests changes nothing.
+refuses "port 1 of device 0 bars acknowledges of 5" <examples/guarded.plan
+cp examples/ring.plan "$work/file"
+put 4 60 1
+refuses "port 2 of device 3 bars interrupts of 0" <"$work/file"
+put 4 60 128
+bin/example cycle <"$work/file" | cmp - "$work/ring"
 
 # 5, the only identifier of this plan that is acknowledged, becomes an event too.
 cp examples/events.plan "$work/file"

@@ -96,8 +96,8 @@ static void try_block(u32 block) {
     } faults[] = {
         {"kind", 0, 7}, {"number", 1, 99}, {"role", 2, 7}, {"ports", 3, 9}, {"source", SOURCES, 255},
         {"handler", HANDLERS, 255}, {"peer device", PORT, 200}, {"peer port", PORT + 1, 8}, {"permissions", PORT + 2, 16},
-        {"fourth", PORT + 3, 1}, {"absent port", PORT + 31, 1}, {"first zero", PORT + 32, 1}, {"last zero", LAST_ZERO, 1},
-        {"other port", PORT + 1, 7}};
+        {"fourth", PORT + 3, 1}, {"absent port", PORT + 31, 1}, {"bar", BARS, 1}, {"last bar", BEHIND_BARS - 1, 1},
+        {"first zero", BEHIND_BARS, 1}, {"last zero", LAST_ZERO, 1}, {"other port", PORT + 1, 7}};
     copy = whole;
     spoil(block, LAST_ZERO, 1);
     say("spoiled", block, LONGEST_FILE);
@@ -268,6 +268,81 @@ static void double_together(void) {
     say("and spoiled in", DEVICES, LONGEST_FILE);
 }
 
+/* ---- what ports bar, which are bytes 44 to 107 of a device's block */
+
+/* A byte of a block, in the plan as it is. Its routers have six ports. */
+static void bar(u32 block, u32 at, u8 byte) {
+    copy = whole;
+    put(block, at, byte);
+    printf("barred in block %u by ", block);
+    say("byte", at, LONGEST_FILE);
+}
+
+/* Each byte in a router's block and in a node's, and the zero behind them. Those of a router's six ports may be anything. */
+static void name_bars(void) {
+    for (u32 at = BARS; at <= BEHIND_BARS; at++) {
+        bar(1, at, 1 << at % 8);
+        bar(9, at, 128 >> at % 8);
+    }
+    bar(8, BARS, 255);
+    bar(DEVICES, BEHIND_BARS - 1, 255);
+    copy = whole;
+    spoil(1, BARS, 1);
+    say("bar spoiled in", 1, LONGEST_FILE);
+}
+
+/* The row of the sixth port of a router's block is that of a port joined to nothing. */
+static void unjoin(u32 block) {
+    put(block, PORT + 20, 255);
+    put(block, PORT + 21, 255);
+    put(block, PORT + 22, 0);
+}
+
+/* A router bars all at its six ports, and has two more; its eighth port bars something, and it lacks that; its sixth port leads
+ * nowhere, and it lacks that. Then a node with two ports, of which the second bars something. */
+static void bar_by_ports(void) {
+    copy = whole;
+    for (u32 at = BARS; at < BARS + 48; at++)
+        put(1, at, 255);
+    put(1, 3, 8);
+    say("all of six barred, ports", 8, LONGEST_FILE);
+    put(1, BEHIND_BARS - 1, 128);
+    say("and the eighth, ports", 8, LONGEST_FILE);
+    put(1, 3, 7);
+    say("and the eighth, ports", 7, LONGEST_FILE);
+    copy = whole;
+    unjoin(1);
+    unjoin(5);
+    put(1, BARS + 44, 1);
+    say("barred where it leads nowhere, ports", 6, LONGEST_FILE);
+    put(1, 3, 5);
+    say("barred where it leads nowhere, ports", 5, LONGEST_FILE);
+    copy = whole;
+    put(DEVICES, 3, 2);
+    put(DEVICES, BARS + 8, 1);
+    say("node's second port barred in", DEVICES, LONGEST_FILE);
+}
+
+/* A node with a bar, and a fault more: before it, in its block, and behind it. */
+static void bar_together(void) {
+    static const struct {
+        const char *done;
+        u32 block, at;
+        u8 byte;
+    } faults[] = {{"load", 0, 3, 255}, {"zero", 0, LAST_ZERO, 1}, {"zero", 9, LAST_ZERO, 1}, {"kind", 10, 0, 7},
+                  {"number", 10, 1, 99}, {"role", 10, 2, 7}, {"zero", 10, BEHIND_BARS, 1}, {"other port", 1, PORT + 1, 7},
+                  {"kind", 11, 0, 7}, {"source", 11, SOURCES, 255}};
+    for (u32 i = 0; i < sizeof faults / sizeof *faults; i++) {
+        copy = whole;
+        put(10, BARS + 5, 16);
+        put(faults[i].block, faults[i].at, faults[i].byte);
+        printf("bar in block 10, and ");
+        say(faults[i].done, faults[i].block, LONGEST_FILE);
+    }
+    spoil(10, LAST_ZERO, 1);
+    say("and spoiled in", 10, LONGEST_FILE);
+}
+
 int main(int count, char **words) {
     random_begin(0, 0);
     whole.length = read_all(0, whole.bytes, sizeof whole.bytes);
@@ -295,5 +370,8 @@ int main(int count, char **words) {
     crowd_sources();
     double_two();
     double_together();
+    name_bars();
+    bar_by_ports();
+    bar_together();
     return 0;
 }

@@ -28,10 +28,14 @@ line crates/door/src/lib.rt | grep -o 'pub extern "C" fn [a-z_0-9]*([^)]*) -> [a
 line include/bench.h >"$work/header"
 grep -o 'bench_u32 bench_for_header_[a-z_0-9]*([^)]*);' "$work/header" | tr -d ';' | diff "$work/exported" -
 # A number behind a name of the archive: the function had other parameters once, and what was compiled for those must not link. The
-# name that people call has no number. bench_reach alone has no function of the archive: it is bench_reach_ports for those who do
-# not ask for the last value, so that what they wrote before there was one still compiles. It has to stand behind that one, and to
-# take the same but for the last parameter.
+# name that people call has no number. Two have no function of the archive, so that what was written before there was one still
+# compiles: bench_reach is bench_reach_ports for those who do not ask for the last value, and bench_react is bench_react_guarded
+# where nothing is barred. Each has to stand behind that one, and to take the same but for the last parameter, or for the two sets.
 sed 's/_[0-9](/(/
+    /_react_guarded(/ {
+        p
+        s/_guarded(\(.*\), bench_u32 interrupts, bench_u32 acknowledges, /(\1, /
+    }
     /_reach_ports(/ {
         p
         s/_ports(\(.*\), [^,]*)$/(\1)/
@@ -45,7 +49,7 @@ same() {
     theirs=$(grep -o "BENCH_$3 = [0-9]*" "$work/header")
     [ "BENCH_$3 = $ours" = "$theirs" ] || { echo "$1 has $ours for $2, and the header $theirs"; exit 1; }
 }
-for name in DEVICE PORTS PORT NEXT RUNNING COUNTERS TIMES; do same state $name $name; done
+for name in DEVICE PORTS PORT NEXT RUNNING COUNTERS TIMES DROPS; do same state $name $name; done
 for name in SENT TOLD NOTHING ROUNDS; do same bench $name $name; done
 same state WORDS STATE
 same report LONGEST TEXT

@@ -1,8 +1,8 @@
 /* What C can lend and a language with lending would not: areas that share bytes, words that are not aligned, null.
  *
  *     lending pairs < PLAN     every pair of what a call is lent, sharing all, a word or a byte; no alignment; null; lengths
- *                              that no memory has; for codes and one device, all places of their values together. PLAN is
- *                              examples/timed.plan.
+ *                              that no memory has; for codes and one device, at a guarded port and at one that is not, all
+ *                              places of their values together. PLAN is examples/timed.plan.
  *     lending text < PLAN      what the program settle prints, by the calls of the header
  *
  * What has to happen is worked out here by another method than the header's: each byte lent is counted. */
@@ -376,20 +376,24 @@ static bench_u32 standing(unsigned i) {
     return value;
 }
 
-/* The only event of the router that bytes come to. */
-enum { EVENT = 11 };
+/* The only event of the router that bytes come to, and what its guarded port bars: an interrupt, and acknowledges of the event. */
+enum { EVENT = 11, BARRED = 21 };
 
 /* A byte comes to a router, whose register stands at the first place and its counter at the second; both are put there again. An
- * interrupt is taken where its bit is clear and an acknowledge where it is set, but no acknowledge of the event. */
-static void try_reaction(bench_u8 byte, bench_u32 kind, bench_u32 top, bench_u32 value, unsigned way) {
+ * interrupt is taken where its bit is clear and an acknowledge where it is set, but no acknowledge of the event; and nothing that
+ * its port bars. */
+static void try_reaction(int guarded, bench_u8 byte, bench_u32 kind, bench_u32 top, bench_u32 value, unsigned way) {
     choose(way);
     int time = kind == BENCH_TIME, back = kind == BENCH_ACKNOWLEDGE, coded = back || kind == BENCH_INTERRUPT;
+    int barred = guarded && coded && value == (back ? EVENT : BARRED);
     bench_u32 held = standing(0), counter = standing(1), bit = coded ? 1u << value : 0;
-    int ready = coded && (back ? value != EVENT && held & bit : !(held & bit));
+    int ready = coded && !barred && (back ? value != EVENT && held & bit : !(held & bit));
     int taken = time ? (counter + 1) % 64 == value : ready;
-    must_stand((bench_u32[]){ready ? held ^ bit : held, time ? value : counter, kind, top, value}, 5,
-               bench_react(1, 1, 15, 1u << EVENT, place[0], place[1], byte, place[2], place[3], place[4]),
-               taken ? BENCH_FORWARDED : coded ? BENCH_IGNORED : BENCH_NAMED);
+    bench_u32 given = guarded ? bench_react_guarded(1, 1, 15, 1u << EVENT, 1u << BARRED, 1u << EVENT, place[0], place[1], byte,
+                                                    place[2], place[3], place[4])
+                              : bench_react(1, 1, 15, 1u << EVENT, place[0], place[1], byte, place[2], place[3], place[4]);
+    must_stand((bench_u32[]){ready ? held ^ bit : held, time ? value : counter, kind, top, value}, 5, given,
+               taken ? BENCH_FORWARDED : barred ? BENCH_DROPPED : coded ? BENCH_IGNORED : BENCH_NAMED);
 }
 
 /* A byte is read; a code is written; and the byte comes to a router. */
@@ -399,7 +403,8 @@ static void try_code(bench_u8 byte, bench_u32 kind, bench_u32 top, bench_u32 val
     choose(way);
     must_stand((bench_u32[]){kind == BENCH_RESERVED ? 0 : byte}, 1, bench_code_write(kind, value, place[0]),
                kind == BENCH_RESERVED ? 5 : 0);
-    try_reaction(byte, kind, top, value, way);
+    for (int guarded = 0; guarded < 2; guarded++)
+        try_reaction(guarded, byte, kind, top, value, way);
 }
 
 /* Of Time-Codes also the one that is next where the counter stands. */
@@ -414,6 +419,8 @@ static void try_codes(void) {
         try_code(160 + 9, BENCH_ACKNOWLEDGE, 2, 9, way);
         try_code(128 + EVENT, BENCH_INTERRUPT, 2, EVENT, way);
         try_code(160 + EVENT, BENCH_ACKNOWLEDGE, 2, EVENT, way);
+        try_code(128 + BARRED, BENCH_INTERRUPT, 2, BARRED, way);
+        try_code(160 + BARRED, BENCH_ACKNOWLEDGE, 2, BARRED, way);
         try_code(64 + 5, BENCH_RESERVED, 1, 5, way);
         try_code(192 + 63, BENCH_RESERVED, 3, 63, way);
     }

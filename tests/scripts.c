@@ -91,6 +91,23 @@ static void change_events(void) {
     seal(&plan, 0);
 }
 
+/* A device and a port of the line, whether the plan has them or not, as 8 x device + port. */
+static u32 any_port(void) {
+    u32 device = number(), port = number();
+    if (device >= DEVICES || port >= PORTS)
+        wrong("there is no such port");
+    return PORTS * device + port;
+}
+
+/* Other bars than a port has in the plan: a set of interrupts, and one of acknowledges. */
+static void change_bars(void) {
+    u32 q = any_port();
+    u8 *bars = port_bars(&plan, q / PORTS, q % PORTS);
+    put_number(bars, 4, number());
+    put_number(bars + 4, 4, number());
+    seal(&plan, 1 + q / PORTS);
+}
+
 /* Where the state has anything of Time-Codes: the counters of all devices, and device, port and word of each port whose Time-Code
  * word is not 0. */
 static void print_times(void) {
@@ -110,6 +127,24 @@ static void print_times(void) {
     printf("\n");
 }
 
+/* Where anything was dropped: device and port of each port that did so, and how many interrupts and acknowledges. */
+static void print_drops(void) {
+    const u32 *drops = state.words + FIRST_DROP;
+    u32 any = 0;
+    for (u32 q = 0; q < DEVICES * PORTS; q++) {
+        const u32 *of = drops + DROP_WORDS * q;
+        if (of[0] || of[1])
+            printf("%s %u/%u:%u,%u", any++ ? "" : "drops", q / PORTS, q % PORTS, of[0], of[1]);
+    }
+    if (any)
+        printf("\n");
+}
+
+static void print_state(void) {
+    print_times();
+    print_drops();
+}
+
 /* A call takes its numbers from the line; only a link has a flag, and a tick has its device alone. What is refused changes nothing
  * that could be printed. */
 static void change(enum call call) {
@@ -122,7 +157,7 @@ static void change(enum call call) {
     u32 answer = try_change(change, &plan, &state);
     printf("%s: %u\n", line, answer);
     if (!answer)
-        print_times();
+        print_state();
 }
 
 /* Over an area that held something else. */
@@ -151,17 +186,24 @@ static void tick(void) {
     change(TICK);
 }
 
-/* The last word of a state is that of a port which no plan of the scripts has: the state is not sound where it is not 0. */
+/* The last word of a state counts drops at a port which no plan of the scripts has: the state is not sound where it is not 0. */
 static void put_last(void) {
     state.words[STATE_WORDS - 1] = number();
 }
 
 /* Makes an acknowledge wait at a port, whether a call could do so or not: device, port, identifier. */
 static void put_waiting(void) {
-    u32 device = number(), port = number(), k = number();
-    if (device >= DEVICES || port >= PORTS || k >= IDENTIFIERS)
-        wrong("there is no such port or identifier");
-    state.words[FIRST_PORT + PORT_WORDS * (PORTS * device + port) + AT_ACKNOWLEDGES] |= (u32)1 << k;
+    u32 q = any_port(), k = number();
+    if (k >= IDENTIFIERS)
+        wrong("there is no such identifier");
+    state.words[FIRST_PORT + PORT_WORDS * q + AT_ACKNOWLEDGES] |= (u32)1 << k;
+}
+
+/* Makes a port have dropped so many interrupts and acknowledges, whether it could do so or not. */
+static void put_drops(void) {
+    u32 *of = state.words + FIRST_DROP + DROP_WORDS * any_port();
+    of[AT_DROPPED_INTERRUPTS] = number();
+    of[AT_DROPPED_ACKNOWLEDGES] = number();
 }
 
 static void print_round(void) {
@@ -189,7 +231,7 @@ static void play_rounds(void) {
             continue;
         print_round();
         state = played.next;
-        print_times();
+        print_state();
     }
 }
 
@@ -197,7 +239,7 @@ static void settle_all(void) {
     u32 allowance = number(), answer = try_settle(&plan, &state, allowance);
     printf("settle %u %u: %u\n", answer, allowance, value_given(0));
     if (!answer || answer == 12)
-        print_times();
+        print_state();
 }
 
 /* Whom interrupts of an identifier reach from a device: unless that is refused, how many devices they are, the set of them, and
@@ -211,7 +253,7 @@ static void find_reach(void) {
 }
 
 static const char *const kinds[] = {"time", "interrupt", "acknowledge", "reserved"};
-static const char *const actions[] = {"named", "link-error", "ignored", "forwarded", "told"};
+static const char *const actions[] = {"named", "link-error", "ignored", "forwarded", "told", "dropped"};
 
 static u8 byte(void) {
     u32 value = number();
@@ -226,17 +268,21 @@ static void read_byte(void) {
     printf("%s: %s %u %u\n", line, kinds[kind], value_given(0), value_given(1));
 }
 
-/* A byte arrives at a port of a device with this role and register, in a network with these events, and, where it is timed, with this
- * counter, which is 0 else: what is done, the register afterwards, the counter where it is timed, and the code that is handed on,
- * as above. */
-static void arrive(flag timed) {
-    u32 role = number(), running = number(), permissions = number(), events = number(), bits = number();
-    u32 counter = timed ? number() : 0;
-    u32 action = try_react(role, running, permissions, events, &bits, &counter, byte());
+/* What is done with a byte, the register afterwards, the counter where it is timed, and the code that is handed on, as above. */
+static void print_reaction(u32 action, u32 bits, flag timed, u32 counter) {
     printf("%s: %s %u", line, actions[action], bits);
     if (timed)
         printf(" %u", counter);
     printf(" %s %u %u\n", kinds[value_given(0)], value_given(1), value_given(2));
+}
+
+/* A byte arrives at a port of a device with this role and register, in a network with these events, and, where it is timed, with this
+ * counter, which is 0 else. */
+static void arrive(flag timed) {
+    u32 role = number(), running = number(), permissions = number(), events = number(), bits = number();
+    u32 counter = timed ? number() : 0;
+    u32 action = try_react(role, running, permissions, events, &bits, &counter, byte());
+    print_reaction(action, bits, timed, counter);
 }
 
 static void arrive_anyhow(void) {
@@ -245,6 +291,15 @@ static void arrive_anyhow(void) {
 
 static void arrive_timed(void) {
     arrive(1);
+}
+
+/* The same, timed, where the port bars a set of interrupts and one of acknowledges. */
+static void arrive_guarded(void) {
+    u32 role = number(), running = number(), permissions = number(), events = number(), interrupts = number();
+    struct bars bars = {.interrupts = interrupts, .acknowledges = number()};
+    u32 bits = number(), counter = number();
+    u32 action = try_react_guarded(role, running, permissions, events, bars, &bits, &counter, byte());
+    print_reaction(action, bits, 1, counter);
 }
 
 /* Areas of the wrong length, several at once, beside a state that is sound. */
@@ -272,10 +327,10 @@ static const struct word {
     void (*play)(void);
 } words[] = {
     {"--", print_title}, {"#", pass_over}, {"plan", take_plan}, {"loads", change_loads}, {"events", change_events},
-    {"start", start_afresh}, {"request", ask}, {"acknowledge", acknowledge}, {"link", link}, {"reset", reset}, {"tick", tick},
-    {"last", put_last}, {"waits", put_waiting}, {"rounds", play_rounds}, {"settle", settle_all}, {"reach", find_reach},
-    {"byte", read_byte}, {"arrives", arrive_anyhow}, {"comes", arrive_timed}, {"lengths", try_lengths},
-    {"report", print_report},
+    {"bars", change_bars}, {"start", start_afresh}, {"request", ask}, {"acknowledge", acknowledge}, {"link", link},
+    {"reset", reset}, {"tick", tick}, {"last", put_last}, {"waits", put_waiting}, {"drops", put_drops}, {"rounds", play_rounds},
+    {"settle", settle_all}, {"reach", find_reach}, {"byte", read_byte}, {"arrives", arrive_anyhow}, {"comes", arrive_timed},
+    {"meets", arrive_guarded}, {"lengths", try_lengths}, {"report", print_report},
 };
 
 static const struct word *word_of_line(void) {

@@ -68,6 +68,20 @@ prints "$work/wanted" <"$work/file"
 put 0 6 254
 refuses 27 0 <"$work/file"
 
+# A router that bars acknowledges, or what nobody requests there, changes nothing: device 8 requests 0 and 24. With 0 barred that
+# gets no further than its node, and with 24 barred neither does.
+cp $full "$work/file"
+put 1 44 254
+for at in 45 46 48 49 50 51; do put 1 $at 255; done
+put 1 47 254
+prints "$(stored $full)" <"$work/file"
+put 1 44 255
+sed 's/^8 0 .*/8 0 1 1/' "$(stored $full)" >"$work/wanted"
+prints "$work/wanted" <"$work/file"
+put 1 47 255
+sed 's/^8 0 .*/8 0 1 1/; s/^8 24 .*/8 24 1 1/' "$(stored $full)" >"$work/wanted"
+prints "$work/wanted" <"$work/file"
+
 for block in 0 1 17 32; do
     cp $full "$work/file"
     spoil $((512 * block + 509)) 1
@@ -93,7 +107,9 @@ done <<'END'
 1 0 1 22 1
 1 1 1 22 1
 1 2 0 23 1
-1 44 1 24 1
+1 92 1 23 1
+1 107 128 23 1
+1 108 1 24 1
 1 13 7 26 1
 17 0 1 22 17
 17 9 1 23 17
@@ -105,7 +121,9 @@ done <<'END'
 32 3 3 23 32
 32 14 16 23 32
 32 43 1 23 32
-32 44 1 24 32
+32 44 1 23 32
+32 107 1 23 32
+32 108 1 24 32
 32 13 7 26 8
 END
 echo "settle: ok"

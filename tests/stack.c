@@ -42,6 +42,10 @@ static void react(void) {
     bench_react(1, 1, 15, 0, &bits, &counter, 133, &kind, &top, &value);
 }
 
+static void react_guarded(void) {
+    bench_react_guarded(1, 1, 15, 0, ~0u, 0, &bits, &counter, 133, &kind, &top, &value);
+}
+
 static void plan_read(void) {
     answer = bench_plan_read(file, length, &value);
 }
@@ -125,6 +129,7 @@ static struct call {
     {"bench_code_read", code_read, BENCH_STACK_CODE_READ, 0, 0, 0, 0},
     {"bench_code_write", code_write, BENCH_STACK_CODE_WRITE, 0, 0, 0, 0},
     {"bench_react", react, BENCH_STACK_REACT, 0, 0, 0, 0},
+    {"bench_react_guarded", react_guarded, BENCH_STACK_REACT, 0, 0, 0, 0},
     {"bench_plan_read", plan_read, BENCH_STACK_PLAN_READ, 0, 0, 0, 0},
     {"bench_start", start, BENCH_STACK_START, 0, 0, 0, 0},
     {"bench_request", request, BENCH_STACK_REQUEST, 0, 0, 0, 0},

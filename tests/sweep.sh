@@ -16,15 +16,16 @@ example=sweep
 worked_out() {
     od -An -v -tu1 | awk '
         function at(d, place) { return byte[512 * (1 + d) + place] }
-        function has(d, k) { return int(at(d, 4 + int(k / 8)) / 2 ^ (k % 8)) % 2 }
         function passes_on(d) { return d == source || at(d, 2) }
-        function leads(d, row) {
-            return at(d, row) != 255 && at(d, row + 2) % 2 && int(at(at(d, row), 14 + 4 * at(d, row + 1)) / 2) % 2
+        function has(d, set, k) { return int(at(d, set + int(k / 8)) / 2 ^ (k % 8)) % 2 }
+        function lets_in(d, port, k) { return int(at(d, 14 + 4 * port) / 2) % 2 && !has(d, 44 + 8 * port, k) }
+        function leads(d, row, k) {
+            return at(d, row) != 255 && at(d, row + 2) % 2 && lets_in(at(d, row), at(d, row + 1), k)
         }
-        function added(    d, row, count) {
+        function added(k,    d, row, count) {
             for (d = 0; d < byte[1]; d++)
                 for (row = 12; row < 44; row += 4)
-                    if (reached[d] && passes_on(d) && leads(d, row) && !reached[at(d, row)]) {
+                    if (reached[d] && passes_on(d) && leads(d, row, k) && !reached[at(d, row)]) {
                         reached[at(d, row)] = 1
                         count++
                     }
@@ -33,7 +34,7 @@ worked_out() {
         function ask(k,    d, devices, ports, more) {
             for (d = 0; d < byte[1]; d++) reached[d] = (d == source)
             devices = 1
-            while ((more = added()) > 0) devices += more
+            while ((more = added(k)) > 0) devices += more
             for (d = 0; d < byte[1]; d++) ports += reached[d] && passes_on(d) ? at(d, 3) : 0
             printf "device %d, identifier %d: devices reached %d, ports examined %d\n", source, k, devices, ports
             asked++
@@ -43,7 +44,7 @@ worked_out() {
         { for (i = 1; i <= NF; i++) byte[bytes++] = $i }
         END {
             for (source = 0; source < byte[1]; source++)
-                for (k = 0; k < 32; k++) if (has(source, k)) ask(k)
+                for (k = 0; k < 32; k++) if (has(source, 4, k)) ask(k)
             printf "asked %d, ports in all %d, most for one %d\n", asked, all, most
         }'
 }
@@ -77,6 +78,19 @@ ends "asked 4, ports in all 43, most for one 13"
 put 1 18 12
 put 1 22 12
 ends "asked 4, ports in all 34, most for one 10"
+
+# Ports that bar. In the ring a router bars 1 at its port to the next one; then acknowledges of 1 at its port to the one before it.
+# Nothing changes: 1 comes by that. Then it bars interrupts of 1 there too, and 1 does not get to it; and then 2 and 3 at both.
+cp examples/ring.plan "$work/file"
+put 1 52 2
+ends "asked 4, ports in all 52, most for one 13"
+put 1 64 2
+ends "asked 4, ports in all 52, most for one 13"
+put 1 60 2
+ends "asked 4, ports in all 49, most for one 13"
+put 1 52 14
+put 1 60 14
+ends "asked 4, ports in all 43, most for one 13"
 
 # The most that there can be for one, 250: a row of 31 routers with eight ports each, behind a source with two.
 cp examples/chain.plan "$work/file"

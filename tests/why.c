@@ -67,6 +67,11 @@ static bench_u32 peer_of(bench_u32 q) {
     return 8 * row(q)[0] + row(q)[1];
 }
 
+/* Does port q drop interrupts of the identifier that is asked about? Of an absent one, which is refused, nothing is asked. */
+static int bars(bench_u32 q) {
+    return block_of(q / 8)[44 + 8 * (q % 8) + k / 8] >> k % 8 & 1;
+}
+
 /* The first that keeps an interrupt from going by a port that is joined, or 0. */
 static bench_u32 cause_at(bench_u32 q) {
     if (!state.words[BENCH_PORTS + BENCH_PORT * q + BENCH_RUNNING])
@@ -75,6 +80,8 @@ static bench_u32 cause_at(bench_u32 q) {
         return BENCH_MAY_NOT_SEND;
     if (!(row(peer_of(q))[2] & 2))
         return BENCH_MAY_NOT_RECEIVE;
+    if (bars(peer_of(q)))
+        return BENCH_BARRED;
     return block_of(q / 8)[2] || q / 8 == source ? 0 : BENCH_DOES_NOT_FORWARD;
 }
 
@@ -173,7 +180,7 @@ static void check_chain(void) {
 /* ---- the text */
 
 static unsigned put_text(char *wanted, bench_u32 number) {
-    static const char *const names[] = {"", "stopped", "may-not-send", "may-not-receive", "does-not-forward"};
+    static const char *const names[] = {"", "stopped", "may-not-send", "may-not-receive", "does-not-forward", "barred"};
     char *at = wanted;
     if (number)
         return sprintf(at, "r%u\n", number);

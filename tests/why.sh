@@ -23,7 +23,7 @@ for of in examples/*.plan; do
     case $of in */idle.plan) continue ;; esac
     bin/example snapshot <"$of" >"$state"
     run "$work/judged" <"$of" | cmp - "$state"
-    [ "$(wc -c <"$state")" -eq 9472 ]
+    [ "$(wc -c <"$state")" -eq 11520 ]
 done
 cmp "$work/tree.state" crates/why/data/state
 refuses "link is refused by 7" <examples/idle.plan
@@ -82,9 +82,11 @@ stored causes none 0 5 6 >"$work/chain"
 stored causes causes 0 5 6 >"$work/cut"
 state=$work/causes.state
 for cause in stopped may-not-send may-not-receive does-not-forward; do grep -q " $cause\$" "$work/cut"; done
+stored guarded none 5 9 3 | grep -q ' barred$'
 
-# Several causes at once: the first counts. A line is a port of the plan, given by block and place of its permissions, what these
-# are then, and what the text has for the port in question. Between two lines with a - the changes add up.
+# Several causes at once: the first counts. A line is a port of the plan, given by block and place of its permissions, or of what it
+# bars, what is there then, and what the text has for the port in question. Between two lines with a - the changes add up. A bar of
+# other identifiers, or of acknowledges, is no cause.
 while read -r block at byte line; do
     case $block in -)
         cp $plan "$work/file"
@@ -108,14 +110,28 @@ done <<'LINES'
 -
 4 18 3 3 1 does-not-forward
 8 22 3 3 1 does-not-forward
+-
+6 44 32 0 1 may-not-send
+-
+6 52 32 1 2 may-not-receive
+6 18 15 1 2 barred
+-
+8 44 32 2 1 stopped
+-
+8 60 223 3 1 does-not-forward
+8 64 32 3 1 does-not-forward
+8 60 32 3 1 barred
+8 22 12 3 1 may-not-receive
+4 18 12 3 1 may-not-send
 LINES
 
-# A state of the wrong length, or that is not sound; and the order of the bytes in a word: a counter may be 63 and not more.
-for n in 0 1 4 9468 9471; do
+# A state of the wrong length, that of states without drops among them, or that is not sound; and the order of the bytes in a word: a
+# counter may be 63 and not more, and what port 0 of device 1, a router, has dropped 65,535. A node drops nothing.
+for n in 0 1 4 9472 11516 11519; do
     head -c $n "$state" >"$work/short"
     says r2 0 5 6 "$work/short" <$plan
 done
-for n in 9473 9476 18944 100000; do
+for n in 11521 11524 23040 100000; do
     cat "$state" /dev/zero | head -c $n >"$work/long"
     says r2 0 5 6 "$work/long" <$plan
 done
@@ -123,8 +139,9 @@ says r2 0 5 6 /dev/zero <$plan
 says r2 0 5 6 "$work/full.state" <$plan
 cp "$state" "$work/file"
 spoil 8320 63
+for at in 9536 9537 9540 9541; do spoil $at 255; done
 prints "$work/cut" 0 5 6 "$work/file" <$plan
-for at in 8321 8322 8323 9471; do
+for at in 8321 8322 8323 9471 9472 9476 9538 9539 9542 9543 9560 11519; do
     cp "$state" "$work/file"
     spoil $at 1
     says r2 0 5 6 "$work/file" <$plan
