@@ -1,10 +1,10 @@
-// Areas that a caller lends: a word put into one whole, or not at all, and whole areas copied or
-// filled; and numbers of lent areas, widened.
+// Areas that a caller lends: a word put into one whole, or not at all, and whole areas copied, filled
+// or merged; and numbers of lent areas, widened.
 ghost use mathlib.Core.Path.{_≡_};
 ghost use Prim.Native.Nat.{_+_, _<_};
 ghost use lib.Dec.{leb};
 ghost use lib.ListN.{length};
-ghost use Rattle.areas.specs.Put.{Puts, copied, allZero};
+ghost use Rattle.areas.specs.Put.{Puts, copied, mergedOf, allZero};
 ghost use Rattle.lists.specs.Table.{table};
 
 // Puts the word at a place of the area, and answers the place after it. A word with no room for all
@@ -59,10 +59,10 @@ pub fn fill(area: &mut [u32], value: u32)
     }
 }
 
-// Is every word of the area 0? All are joined into one, several at a time, where a search for one that is
-// not would look at each.
-pub fn zeros(area: &[u32]) -> bool
-    ensures { λ r. ⌜ r ≡ allZero (now (area .entry)) ⌝ }
+// All words of the area, as sets, merged into one. That is done with several at a time, where a search
+// for a word that stands out would look at each.
+pub fn merged(area: &[u32]) -> u32
+    ensures { λ r. ⌜ r ≡ mergedOf (now (area .entry)) ⌝ }
 {
     let mut all: u32 = 0;
     let mut i = 0;
@@ -70,7 +70,14 @@ pub fn zeros(area: &[u32]) -> bool
         all = all | area[i];
         i += 1;
     }
-    all == 0
+    all
+}
+
+// Is every word of the area 0?
+pub fn zeros(area: &[u32]) -> bool
+    ensures { λ r. ⌜ r ≡ allZero (now (area .entry)) ⌝ }
+{
+    merged(area) == 0
 }
 
 // ---- a number of a lent area as a wider one

@@ -231,14 +231,14 @@ fn forward(code: Code, permissions: &[u8; 256], q: usize, state: &mut [u32])
     }
 }
 
-// One more than a count, which does not go above the most that there can be.
-fn one_more(count: u32) -> u32
-    ensures { λ r. ⌜ r ≡ oneMore count ⌝ }
+// One more than a count of drops, which does not go above the most that there can be.
+fn one_more(drops: u32) -> u32
+    ensures { λ r. ⌜ r ≡ oneMore drops ⌝ }
 {
-    if count < MOST_DROPS {
-        return count + 1;
+    if MOST_DROPS <= drops {
+        return drops;
     }
-    count
+    drops + 1
 }
 
 // A code that port q drops is counted there, and goes no further.
@@ -427,8 +427,11 @@ pub(crate) fn play(
     ensures { λ r. ⌜ Played (record { core = core; peers = now (peers .entry); barred = now (barred .entry) }) (now (old .entry)) (now (told .entry)) (now (next .exit)) (now (sent .exit)) (now (told .exit)) r ⌝ }
 {
     bring(core.devices, old, next);
-    let count = fall_all(core.devices, &core.role, next, told);
-    post_all(core.devices, &core.ports, old, next, sent);
+    // Taken out first: were parts of the core itself lent, each round would copy all of it once more.
+    let role = core.role;
+    let ports = core.ports;
+    let count = fall_all(core.devices, &role, next, told);
+    post_all(core.devices, &ports, old, next, sent);
     arrive_all(core, peers, barred, sent, next, told, count)
 }
 

@@ -1,12 +1,11 @@
 -- Tests joined by "and" and "or", and the test of every place.
 use mathlib.Core.Path.{_≡_, refl, sym, ap, ap₂, _∙_}
-use mathlib.Core.Bool.{Bool, true, false, _&&_, _||_, false≢true}
+use mathlib.Core.Bool.{Bool, true, false, _&&_, _||_, false≢true, and-true, and-assoc}
 use mathlib.Core.Logic.{_⊎_, inl, inr, dite}
-use Prim.Native.Nat.{ℕ, zero, suc, _+_, _-_, _≤_, _<_}
+use Prim.Native.Nat.{ℕ, zero, suc, _+_, _-_, _*_, _≤_, _<_}
 use native.Mathlib.Decide.{decLt, ℕ-discrete}
+use native.Mathlib.Nat.{add-zero, add-suc, mul-zero, mul-suc}
 use native.Mathlib.Omega.{arith}
-use lib.Dec.{eqb}
-use borrow.Author.Tests.{eq-eqb, ne-eqb}
 use Rattle.lists.specs.Table.{every}
 
 pub and-left : (a b : Bool) → (a && b) ≡ true → a ≡ true
@@ -70,10 +69,14 @@ every-behind n k f h front =
     (λ g. let e : k + (i - k) ≡ i = omega arith in rw e at (every-at (n - k) (λ i. f (k + i)) z (i - k) (omega arith)))))
     (λ z. every-all (n - k) _ (λ i l. every-at n f z (k + i) (omega arith)))
 
--- a sum is zero where both parts are
-pub sum-zero : (a b : ℕ) → eqb (a + b) 0 ≡ (eqb a 0 && eqb b 0)
-sum-zero a b =
-    elim (ℕ-discrete a 0) [
-      | yes z ↦ let e : a + b ≡ b = omega arith in rw (e, eq-eqb a 0 z)
-      | no n ↦ rw (ne-eqb a 0 n) (ne-eqb (a + b) 0 (λ e. n (omega arith)))
-    ]
+-- those in front, and those behind them
+pub every-add : (k n : ℕ) (f : ℕ → Bool) → every (k + n) f ≡ (every k f && every n (λ i. f (k + i)))
+unfolding every
+every-add k zero f = rw add-zero (sym (and-true (every k f)))
+every-add k (suc n) f = rw (add-suc, every-add k n f) (and-assoc (every k f) (every n (λ i. f (k + i))) (f (k + n)))
+
+-- row after row, m of them with n places each
+pub every-rows : (n m : ℕ) (f : ℕ → Bool) → every m (λ a. every n (λ b. f (n * a + b))) ≡ every (n * m) f
+unfolding every
+every-rows n zero f = rw mul-zero
+every-rows n (suc m) f = rw (mul-suc, every-add (n * m) n f, every-rows n m f)

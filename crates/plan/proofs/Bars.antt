@@ -1,18 +1,14 @@
 -- What a device may bar: the masks in front may be any, and those behind them are 0.
 use mathlib.Core.Path.{_≡_, refl, sym, _∙_}
 use mathlib.Core.Bool.{Bool, true, false, cond, _&&_, _||_}
-use mathlib.Core.List.{List}
 use mathlib.Core.Logic.{dite}
 use Prim.Native.Nat.{ℕ, _+_, _-_, _*_, _/_, _≤_, _<_, min}
 use native.Mathlib.Decide.{decLt, ℕ-discrete}
 use native.Mathlib.Omega.{arith}
 use lib.Dec.{eqb, ltb}
-use lib.ListN.{length, take, drop, getD, length-take, length-drop}
-use lib.Seq.{getD-take, getD-drop}
 use borrow.Author.Tests.{lt-ltb, le-ltb, eq-eqb, ne-eqb}
 use Rattle.lists.specs.Table.{every}
 use Rattle.lists.proofs.Tests.{every-same, every-behind, or-left}
-use Rattle.areas.specs.Put.{allZero}
 use Rattle.plan.specs.Fields.{barFits}
 use Rattle.plan.specs.inner.Memory.{freeMasks}
 
@@ -41,10 +37,3 @@ bars-behind role ports f =
     let n = freeMasks role ports in
     every-same (16 - n) _ _ (λ i l. sym (bar-free role ports (n + i) (f (n + i)) (omega arith) ∙ rw (le-ltb (n + i) n (omega arith))))
     ∙ every-behind 16 n (λ j. barFits role ports j (f j)) (free-most role ports) (λ i l. bar-free role ports i (f i) (omega (arith, free-most role ports)) ∙ or-left _ _ (lt-ltb i n l))
-
--- in a part of an area
-pub part-zero : (l : List ℕ) (from n : ℕ) → from + n ≤ length l → allZero (take n (drop from l)) ≡ every n (λ i. eqb (getD l (from + i) 0) 0)
-unfolding allZero
-part-zero l from n h =
-    let e : length (take n (drop from l)) ≡ n = simp (length-take, length-drop) (omega arith) in
-    rw e (every-same n _ _ (λ i k. rw (getD-take, getD-drop)))

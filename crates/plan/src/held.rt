@@ -27,7 +27,7 @@ pub fn is_held(plan: Plan) -> bool
         return false;
     }
     let ports = core.ports;
-    if joins::bad_block(core.devices, ports, peers) != 0 {
+    if joins::bad_block(core.devices, ports, &peers) != 0 {
         return false;
     }
     let source = core.source;

@@ -32,9 +32,9 @@ fn joins(ports: &[u8; 32], peers: &[[u16; 8]; 32], d: usize, p: usize) -> bool
 }
 
 // The block of the first device that has a bad connection, of n devices but no more than 32; 0
-// where there is none.
-pub fn bad_block(n: usize, ports: [u8; 32], peers: [[u16; 8]; 32]) -> u32
-    ensures { λ r. ⌜ r ≡ first (joined (min n 32) (joinTests (λ e. getD ports e 0) (λ e q. getD (getD peers e []) q 0))) .at ⌝ }
+// where there is none. The ports come by value, as the length of a lent array is not known.
+pub fn bad_block(n: usize, ports: [u8; 32], peers: &[[u16; 8]; 32]) -> u32
+    ensures { λ r. ⌜ r ≡ first (joined (min n 32) (joinTests (λ e. getD ports e 0) (λ e q. getD (getD (now (peers .entry)) e []) q 0))) .at ⌝ }
 {
     'search: loop {
         for d in 0..32 {
@@ -42,7 +42,7 @@ pub fn bad_block(n: usize, ports: [u8; 32], peers: [[u16; 8]; 32]) -> u32
                 break 'search 0;
             }
             for p in 0..8 {
-                if !joins(&ports, &peers, d, p) {
+                if !joins(&ports, peers, d, p) {
                     break 'search (d + 1) as u32;
                 }
             }

@@ -95,18 +95,18 @@ pub(crate) fn seal(block: &mut [u8])
 
 // ---- zeros
 
-// Are the bytes from one on up to another, which is not looked at, zero? Their sum is, and several at a
-// time are added, where a search for one that is not would look at each.
+// Are the bytes from one on up to another, which is not looked at, zero? All are merged into one, several
+// at a time, where a search for one that is not would look at each.
 pub(crate) fn zeros(from: usize, to: usize, block: &[u8]) -> bool
     requires { ⌜ (from ≤ to) × (to ≤ 510) ⌝ }
     requires { ⌜ length (now block) ≡ 512 ⌝ }
     ensures { λ r. ⌜ r ≡ zerosIn from to (now (block .entry)) ⌝ }
 {
-    let mut sum: u32 = 0;
+    let mut all: u8 = 0;
     for i in from..to {
-        sum += areas::word(block[i]);
+        all = all | block[i];
     }
-    sum == 0
+    all == 0
 }
 
 pub(crate) fn clear(block: &mut [u8])

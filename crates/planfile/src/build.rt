@@ -104,18 +104,19 @@ pub(crate) fn peers_of(file: &[u8]) -> [[u16; 8]; 32]
     out
 }
 
-// What every port bars, by 16 x device + 2 x port + kind.
+// What every port bars, by 16 x device + 2 x port + kind. By device and then by mask: the 64 bytes of a
+// device stand together, here as in its block, so that they are copied as one.
 pub(crate) fn barred_of(file: &[u8]) -> [u32; 512]
     requires { ⌜ (countIn (now file) ≤ 32) × (length (now file) ≡ 512 * (1 + countIn (now file))) ⌝ }
     ensures { λ r. ⌜ r ≡ planOf (now (file .entry)) .barred ⌝ }
 {
     let n = areas::wide(file[header::DEVICES]);
     let mut out = [0u32; 512];
-    for i in 0..16 * n {
-        out[i] = block::four(
-            file,
-            block::BLOCK * (1 + i / 16) + device::BARS + 4 * (i % 16),
-        );
+    for d in 0..n {
+        let at = block::BLOCK * (1 + d) + device::BARS;
+        for j in 0..16 {
+            out[16 * d + j] = block::four(file, at + 4 * j);
+        }
     }
     out
 }

@@ -132,7 +132,7 @@ pub fn read(file: &[u8]) -> Read
     let core = build::core_of(file);
     let peers = build::peers_of(file);
     let ports = core.ports;
-    let bad = plan::bad_block(core.devices, ports, peers);
+    let bad = plan::bad_block(core.devices, ports, &peers);
     let source = core.source;
     let fits = plan::sources_fit(core.events, source, core.devices);
     if bad != 0 {

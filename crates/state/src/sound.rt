@@ -6,7 +6,7 @@ ghost use Rattle.answers.specs.Decides.{Decides};
 ghost use Rattle.answers.specs.Ordered.{Ordered};
 ghost use Rattle.state.specs.Sound.{Sound, stateAsks};
 ghost use Rattle.state.specs.State.{words, word as State·word};
-ghost use Rattle.state.specs.inner.Tests.{timerSound, deviceTimed, allTimed, restZero, flagSound, mayWait, waitingSound, portKept, portZero, portSound, portsSound, counterSound, countersSound, timeKept, timeSound, timesSound, countsSound, dropsSound};
+ghost use Rattle.state.specs.inner.Tests.{timerSound, deviceTimed, allTimed, restZero, flagSound, mayWait, waitingSound, portKept, portZero, portSound, devicePorts, portsSound, counterSound, countersSound, timeKept, timeSound, timesSound, countsSound, allWithin, dropsSound};
 use crate::ACKNOWLEDGES;
 use crate::COUNTERS;
 use crate::DEVICE;
@@ -98,12 +98,17 @@ fn all_timed(n: usize, state: &[u32]) -> bool
     true
 }
 
-// Are the timers of device d sound?
+// Are the timers of device d sound? Where it holds nothing all are 0, which is asked of them at once.
 fn device_timed(state: &[u32], d: usize) -> bool
     requires { ⌜ (length (now state) ≡ words) × (d < 32) ⌝ }
     ensures { λ r. ⌜ r ≡ deviceTimed (now (state .entry)) d ⌝ }
 {
     let register = inside(state, DEVICE * d);
+    if register == 0 {
+        let from = DEVICE * d + 1;
+        let to = DEVICE * (d + 1);
+        return areas::zeros(&state[from..to]);
+    }
     for k in 0..32 {
         if !timer_sound(
             bits::get(register, k as u32),
@@ -150,8 +155,34 @@ fn ports_sound(
     requires { ⌜ length (now state) ≡ words ⌝ }
     ensures { λ r. ⌜ r ≡ portsSound (now (ports .entry)) (now (permissions .entry)) (now (peers .entry)) (now (state .entry)) ⌝ }
 {
-    for q in 0..256 {
-        if !port_sound(state, q, ports[q / 8], peers[q / 8][q % 8], permissions[q]) {
+    for d in 0..32 {
+        if !device_ports(state, d, ports[d], permissions, peers) {
+            return false;
+        }
+    }
+    true
+}
+
+// Are the ports of device d sound, of which it has so many? Where it has none all their words are 0, which
+// is asked of them at once.
+fn device_ports(
+    state: &[u32],
+    d: usize,
+    ports: u8,
+    permissions: &[u8; 256],
+    peers: &[[u16; 8]; 32],
+) -> bool
+    requires { ⌜ (length (now state) ≡ words) × (d < 32) ⌝ }
+    ensures { λ r. ⌜ r ≡ devicePorts (now (state .entry)) d ports (now (permissions .entry)) (now (peers .entry)) ⌝ }
+{
+    if ports == 0 {
+        let from = PORTS + 8 * PORT * d;
+        let to = from + 8 * PORT;
+        return areas::zeros(&state[from..to]);
+    }
+    for p in 0..8 {
+        let q = 8 * d + p;
+        if !port_sound(state, q, ports, peers[d][p], permissions[q]) {
             return false;
         }
     }
@@ -334,12 +365,18 @@ fn counts_sound(state: &[u32], d: usize, own: usize) -> bool
     ensures { λ r. ⌜ r ≡ countsSound (now (state .entry)) d own ⌝ }
 {
     let at = DROPS + 16 * d;
-    for j in 0..own {
-        if MOST_DROPS < inside(state, at + j) {
-            return false;
-        }
-    }
     let from = at + own;
+    if !within(&state[at..from]) {
+        return false;
+    }
     let to = at + 16;
     areas::zeros(&state[from..to])
+}
+
+// Is every count within its bound? That is one less than a power of two, so they are where what they are
+// merged into is.
+fn within(counts: &[u32]) -> bool
+    ensures { λ r. ⌜ r ≡ allWithin (now (counts .entry)) ⌝ }
+{
+    areas::merged(counts) <= MOST_DROPS
 }

@@ -1,6 +1,6 @@
 -- No rules: whether a state is sound, as one computed test. Nothing here has to be believed; `Tested` proves what it comes to.
 use mathlib.Core.Bool.{Bool, cond, not, _&&_, _||_}
-use mathlib.Core.List.{List}
+use mathlib.Core.List.{List, []}
 use Prim.Native.Nat.{ℕ, _+_, _-_, _*_, _/_, _%_, min}
 use lib.Bits.{bitAnd}
 use lib.Dec.{eqb, ltb, leb}
@@ -54,6 +54,10 @@ portZero s q = every portWords (λ i. eqb (word s (portAt q i)) 0)
 unfoldable pub portSound : State → ℕ → ℕ → ℕ → ℕ → Bool
 portSound s q ports peer permissions = cond (ltb (q % 8) ports) (portKept s q peer permissions) (portZero s q)
 
+-- the ports of device d, which has so many
+unfoldable pub devicePorts : State → ℕ → ℕ → List ℕ → List (List ℕ) → Bool
+devicePorts s d ports permissions peers = every 8 (λ p. portSound s (8 * d + p) ports (getD (getD peers d []) p 0) (getD permissions (8 * d + p) 0))
+
 module _ (ports permissions : List ℕ) (peers : List (List ℕ)) (s : State) where
   -- port q, by what stands in the arrays of a plan
   abbrev pub placeSound : ℕ → Bool
@@ -85,6 +89,10 @@ countSound own j count = cond (ltb j own) (leb count mostDrops) (eqb count 0)
 
 unfoldable pub countsSound : State → ℕ → ℕ → Bool
 countsSound s d own = every 16 (λ j. countSound own j (word s (dropsStart + 16 * d + j)))
+
+-- every count of some is within its bound
+unfoldable pub allWithin : List ℕ → Bool
+allWithin counts = every (length counts) (λ i. leb (getD counts i 0) mostDrops)
 
 -- two for each port of a router; of n devices
 unfoldable pub ownCounts : ℕ → List ℕ → List ℕ → ℕ → ℕ

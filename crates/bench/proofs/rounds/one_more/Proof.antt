@@ -7,11 +7,11 @@ use Rattle.bench.proofs.rounds.one_more.Tie as tie
 
 returns : tie.Need-returns
 unfolding oneMore
-returns c = simp (lt-ltb _ _ (c .if1 .taken))
+returns c = simp (le-ltb _ _ (c .if1 .taken))
 
 returns-2 : tie.Need-returns-2
 unfolding oneMore
-returns-2 c = simp (le-ltb _ _ (c .if1 .left))
+returns-2 c = simp (lt-ltb _ _ (c .if1 .left))
 
 pub one-more-spec : {M : Type 1} → statement M
-one-more-spec = tie.close (tie.spec (λ c. search needs) returns returns-2)
+one-more-spec = tie.close (tie.spec returns (λ c. search needs) returns-2)

@@ -10,7 +10,8 @@ use Rattle.lists.proofs.Tests.{every-same}
 use Rattle.areas.specs.Put.{allZero}
 use Rattle.plan.specs.Fields.{barFits}
 use Rattle.plan.specs.inner.Memory.{freeMasks}
-use Rattle.plan.proofs.Bars.{bars-behind, part-zero}
+use Rattle.areas.proofs.Parts.{part-zero}
+use Rattle.plan.proofs.Bars.{bars-behind}
 use borrow.Author.Needs.{needs}
 use Rattle.plan.proofs.held.bars_right.Statement.{statement}
 use Rattle.plan.proofs.held.bars_right.Tie as tie

@@ -86,19 +86,19 @@ returns-2 c =
 -- the first two tests were passed, and this is what the third one says
 module _ (c : tie.After-bad-block) where
   abbrev start : tie.After-header-fits
-  start = c .before .before .before .before .before .before .before .before .before
+  start = c .before .before .before .before .before .before .before .before .before .before
 
   abbrev whole : Plan
   whole = start .before .before .before .args .t1
 
   fits : headerFits (headerOf (whole .core)) ≡ true
-  fits = header start (not-false _ (c .before .before .before .before .before .before .before .before .if1 .left))
+  fits = header start (not-false _ (c .before .before .before .before .before .before .before .before .before .if1 .left))
 
   rows : rowsRight whole ≡ true
-  rows = ap (λ peers. every 32 (rowRight (whole .core) peers (whole .barred))) (sym (c .before .before .before .before .before .before .before .peers-of .ensures)) ∙ sym (c .before .before .before .rows-right .ensures) ∙ not-false _ (c .before .before .if2 .left)
+  rows = ap (λ peers. every 32 (rowRight (whole .core) peers (whole .barred))) (sym (c .before .before .before .before .before .before .before .before .peers-of .ensures)) ∙ sym (c .before .before .before .before .rows-right .ensures) ∙ not-false _ (c .before .before .before .if2 .left)
 
   joined : allJoin whole ≡ eqb (c .bad-block .result) 0
-  joined = all-join whole _ _ (c .before .before .before .before .before .before .before .peers-of .ensures) fits (c .bad-block .ensures)
+  joined = all-join whole _ _ (c .before .before .before .before .before .before .before .before .peers-of .ensures) fits (c .bad-block .ensures)
 
 returns-3 : tie.Need-returns-3
 returns-3 c =

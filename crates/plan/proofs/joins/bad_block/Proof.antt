@@ -15,22 +15,22 @@ use Rattle.plan.proofs.joins.bad_block.Statement.{statement}
 use Rattle.plan.proofs.joins.bad_block.Tie as tie
 
 abbrev Inv-loop2 : tie.InvT-loop2
-Inv-loop2 n ports peers d p₀ p = (p ≤ 8) × ((j : ℕ) → j < p → joins (λ e. getD ports e 0) (λ e q. getD (getD peers e []) q 0) d j ≡ true)
+Inv-loop2 n peers ports d p₀ p = (p ≤ 8) × ((j : ℕ) → j < p → joins (λ e. getD ports e 0) (λ e q. getD (getD peers e []) q 0) d j ≡ true)
 
 abbrev μ-loop2 : tie.MeasureT-loop2
-μ-loop2 n ports peers d p₀ p = 8 - p
+μ-loop2 n peers ports d p₀ p = 8 - p
 
 abbrev Inv-loop : tie.InvT-loop
-Inv-loop n ports peers d₀ d = (d ≤ 32) × Passed (λ e. getD ports e 0) (λ e q. getD (getD peers e []) q 0) d
+Inv-loop n peers ports d₀ d = (d ≤ 32) × Passed (λ e. getD ports e 0) (λ e q. getD (getD peers e []) q 0) d
 
 abbrev μ-loop : tie.MeasureT-loop
-μ-loop n ports peers d₀ d = 32 - d
+μ-loop n peers ports d₀ d = 32 - d
 
 abbrev Inv-search : tie.InvT-search
-Inv-search n ports peers = Unit {0}
+Inv-search n peers ports = Unit {0}
 
 abbrev μ-search : tie.MeasureT-search
-μ-search n ports peers = 0
+μ-search n peers ports = 0
 
 search-holds : tie.Need-search-holds Inv-loop2 μ-loop2 Inv-loop μ-loop Inv-search μ-search
 search-holds c = tt
@@ -45,7 +45,7 @@ loop2-less : tie.Need-loop2-less Inv-loop2 μ-loop2 Inv-loop μ-loop Inv-search 
 loop2-less c = omega arith
 
 loop2-again : tie.Need-loop2-again Inv-loop2 μ-loop2 Inv-loop μ-loop Inv-search μ-search
-loop2-again c = (omega arith, below-more _ _ (c .before .before .before .before .before .loop2 .inv .1) (sym (c .before .joins .ensures) ∙ not-false _ (c .if2 .left)))
+loop2-again c = (omega arith, below-more _ _ (c .before .before .before .before .loop2 .inv .1) (sym (c .before .joins .ensures) ∙ not-false _ (c .if2 .left)))
 
 loop-less : tie.Need-loop-less Inv-loop2 μ-loop2 Inv-loop μ-loop Inv-search μ-search
 loop-less c = omega arith
@@ -58,8 +58,8 @@ returns c = block-none _ _ _ _ (c .before .before .loop .inv .1) (omega arith)
 
 returns-2 : tie.Need-returns-2 Inv-loop2 μ-loop2 Inv-loop μ-loop Inv-search μ-search
 returns-2 c =
-    let passed = c .before .before .before .before .before .before .before .before .loop .inv .1 in
-    let before = c .before .before .before .before .before .loop2 .inv .1 in
+    let passed = c .before .before .before .before .before .before .before .loop .inv .1 in
+    let before = c .before .before .before .before .loop2 .inv .1 in
     block-bad _ _ _ _ _ passed (omega arith) before (omega arith) (sym (c .before .joins .ensures) ∙ not-true _ (c .if2 .taken))
 
 returns-3 : tie.Need-returns-3 Inv-loop2 μ-loop2 Inv-loop μ-loop Inv-search μ-search

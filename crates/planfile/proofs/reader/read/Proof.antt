@@ -18,13 +18,13 @@ passes : (c : tie.Else1) → AllPass (scanTests (c .before .before .before .befo
 passes c = scan-passes _ (c .before .before .scan .ensures) (c .if1 .left)
 
 -- the search was of the plan's parts
-searched : (c : tie.After-bad-block) → c .bad-block .result ≡ badIn (planOf (c .before .before .before .before .before .before .before .before .args .file .now) .core) (planOf (c .before .before .before .before .before .before .before .before .args .file .now) .peers) .at
-searched c = c .bad-block .ensures ∙ ap₂ (λ core peers. badIn core peers .at) (c .before .before .before .core-of .ensures) (c .before .before .peers-of .ensures)
+searched : (c : tie.After-bad-block) → c .bad-block .result ≡ badIn (planOf (c .before .before .before .before .before .before .before .before .before .args .file .now) .core) (planOf (c .before .before .before .before .before .before .before .before .before .args .file .now) .peers) .at
+searched c = c .bad-block .ensures ∙ ap₂ (λ core peers. badIn core peers .at) (c .before .before .before .before .core-of .ensures) (c .before .before .before .peers-of .ensures)
 
 -- the sources were tested in the plan
-tested : (c : tie.After-sources-fit) → let p = planOf (c .before .before .before .before .before .before .before .before .before .before .args .file .now) in
+tested : (c : tie.After-sources-fit) → let p = planOf (c .before .before .before .before .before .before .before .before .before .before .before .args .file .now) in
     c .sources-fit .result ≡ sourcesFit (p .core .events) (λ d. getD (p .core .source) d 0) (min (p .core .devices) 32)
-tested c = c .sources-fit .ensures ∙ ap (λ (core : Core). sourcesFit (core .events) (λ d. getD (core .source) d 0) (min (core .devices) 32)) (c .before .before .before .before .before .core-of .ensures)
+tested c = c .sources-fit .ensures ∙ ap (λ (core : Core). sourcesFit (core .events) (λ d. getD (core .source) d 0) (min (core .devices) 32)) (c .before .before .before .before .before .before .core-of .ensures)
 
 returns : tie.Need-returns
 returns c = c .refused .ensures ∙ scan-refuses _ (c .before .before .before .scan .ensures) (c .before .if1 .taken)
@@ -36,20 +36,20 @@ peers-of-requires : tie.Need-peers-of-requires
 peers-of-requires c κs = let p = passes (c .before) in (count-few _ p, counts _ p)
 
 barred-of-requires : tie.Need-barred-of-requires
-barred-of-requires c κs = let p = passes (c .before .before .before .before .before .before .before .before) in (count-few _ p, counts _ p)
+barred-of-requires c κs = let p = passes (c .before .before .before .before .before .before .before .before .before) in (count-few _ p, counts _ p)
 
 returns-2 : tie.Need-returns-2
-returns-2 c = c .refused2 .ensures ∙ search-refuses _ (passes (c .before .before .before .before .before .before .before .before)) (searched (c .before .before .before .before)) (c .before .if2 .taken)
+returns-2 c = c .refused2 .ensures ∙ search-refuses _ (passes (c .before .before .before .before .before .before .before .before .before)) (searched (c .before .before .before .before)) (c .before .if2 .taken)
 
 returns-3 : tie.Need-returns-3
-returns-3 c = c .refused3 .ensures ∙ sources-refuse _ (passes (c .before .before .before .before .before .before .before .before .before)) (searched (c .before .before .before .before .before)) (c .before .before .if2 .left) (tested (c .before .before .before)) (not-true _ (c .before .if3 .taken))
+returns-3 c = c .refused3 .ensures ∙ sources-refuse _ (passes (c .before .before .before .before .before .before .before .before .before .before)) (searched (c .before .before .before .before .before)) (c .before .before .if2 .left) (tested (c .before .before .before)) (not-true _ (c .before .if3 .taken))
 
 returns-4 : tie.Need-returns-4
 returns-4 c =
     let b = c .before in
-    let core = c .whole .ensures .0 ∙ b .before .before .before .before .before .before .before .before .core-of .ensures in
-    let peers = c .whole .ensures .1 ∙ b .before .before .before .before .before .before .before .peers-of .ensures in
-    sources-accept _ (passes (b .before .before .before .before .before .before .before .before .before)) (searched (b .before .before .before .before .before)) (b .before .before .if2 .left) (tested (b .before .before .before)) (not-false _ (b .before .if3 .left))
+    let core = c .whole .ensures .0 ∙ b .before .before .before .before .before .before .before .before .before .core-of .ensures in
+    let peers = c .whole .ensures .1 ∙ b .before .before .before .before .before .before .before .before .peers-of .ensures in
+    sources-accept _ (passes (b .before .before .before .before .before .before .before .before .before .before)) (searched (b .before .before .before .before .before)) (b .before .before .if2 .left) (tested (b .before .before .before)) (not-false _ (b .before .if3 .left))
     (same-plan core peers (c .whole .ensures .2 ∙ b .barred-of .ensures))
 
 scan-requires : tie.Need-scan-requires

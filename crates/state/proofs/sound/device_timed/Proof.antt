@@ -1,13 +1,18 @@
 -- `state::device_timed` meets its contract. The invariant: the timers before timer k are sound. Assumes nothing.
 use mathlib.Core.Path.{_≡_, sym, _∙_}
 use mathlib.Core.Bool.{Bool, true}
-use Prim.Native.Nat.{ℕ, _-_, _<_, _≤_}
+use Prim.Native.Nat.{ℕ, _+_, _-_, _*_, _<_, _≤_}
 use native.Mathlib.Omega.{arith}
 use borrow.Author.Count.{below-none, below-more}
 use borrow.Author.Tests.{not-true, not-false}
-use Rattle.lists.proofs.Tests.{every-all, every-not}
+use lib.Dec.{eqb}
+use lib.ListN.{length, take, drop}
+use Rattle.lists.proofs.Tests.{every-all, every-not, every-same}
+use Rattle.areas.specs.Put.{allZero}
+use Rattle.areas.proofs.Parts.{part-zero}
 use Rattle.bits.specs.Set.{bit}
-use Rattle.state.specs.State.{State, register as State·register, timer}
+use Rattle.bits.proofs.Sets.{bit-zero}
+use Rattle.state.specs.State.{State, words, word, deviceWords, register as State·register, timer}
 use Rattle.state.specs.inner.Tests.{timerSound, deviceTimed}
 use borrow.Author.Needs.{needs}
 use Rattle.state.proofs.sound.device_timed.Statement.{statement}
@@ -18,6 +23,16 @@ tested : (s : State) (d k : ℕ) {r b t : ℕ} {v : Bool} → r ≡ State·regis
     → timerSound (bit (State·register s d) k) (timer s d k) ≡ v
 tested s d k p q w e = rw (← p, ← q, ← w) (sym e)
 
+-- where nothing is held, every timer is 0
+none-held : (s : State) (d : ℕ) → length s ≡ words → d < 32 → State·register s d ≡ 0
+    → allZero (take (deviceWords * (d + 1) - (deviceWords * d + 1)) (drop (deviceWords * d + 1) s)) ≡ deviceTimed s d
+unfolding deviceTimed timerSound word
+none-held s d long h e =
+    let n : deviceWords * (d + 1) - (deviceWords * d + 1) ≡ 32 = omega arith in
+    rw n
+    (part-zero s (deviceWords * d + 1) 32 (omega arith)
+    ∙ every-same 32 (λ k. eqb (timer s d k) 0) (λ k. timerSound (bit (State·register s d) k) (timer s d k)) (λ k l. rw (e, bit-zero k)))
+
 abbrev Inv-loop : tie.InvT-loop
 Inv-loop state d register k₀ k = (k ≤ 32) × ((i : ℕ) → i < k → timerSound (bit (State·register state d) i) (timer state d i) ≡ true)
 
@@ -27,12 +42,20 @@ abbrev μ-loop : tie.MeasureT-loop
 loop-holds : tie.Need-loop-holds Inv-loop μ-loop
 loop-holds c = (omega arith, below-none _)
 
+zeros-requires : tie.Need-zeros-requires Inv-loop μ-loop
+zeros-requires c κs = search needs
+
 returns : tie.Need-returns Inv-loop μ-loop
-unfolding deviceTimed
 returns c =
+    let a = c .before .before .before .before .before .args in
+    c .zeros .ensures ∙ none-held (a .state .now) (a .d) (omega arith) (omega arith) (sym (c .before .before .before .inside .ensures) ∙ c .before .before .if1 .taken)
+
+returns-2 : tie.Need-returns-2 Inv-loop μ-loop
+unfolding deviceTimed
+returns-2 c =
     let w = c .before .before in
-    let e = tested _ _ _ (w .before .before .before .before .inside .ensures) (w .before .get .ensures) (w .inside2 .ensures) (c .before .timer-sound .ensures) in
-    sym (every-not 32 _ _ (omega arith) (e ∙ not-true _ (c .if1 .taken)))
+    let e = tested _ _ _ (w .before .before .before .before .before .inside .ensures) (w .before .get .ensures) (w .inside2 .ensures) (c .before .timer-sound .ensures) in
+    sym (every-not 32 _ _ (omega arith) (e ∙ not-true _ (c .if2 .taken)))
 
 loop-less : tie.Need-loop-less Inv-loop μ-loop
 loop-less c = omega arith
@@ -40,12 +63,12 @@ loop-less c = omega arith
 loop-again : tie.Need-loop-again Inv-loop μ-loop
 loop-again c =
     let w = c .before .before in
-    let e = tested _ _ _ (w .before .before .before .before .inside .ensures) (w .before .get .ensures) (w .inside2 .ensures) (c .before .timer-sound .ensures) in
-    (omega arith, below-more _ _ (w .before .before .before .loop .inv .1) (e ∙ not-false _ (c .if1 .left)))
+    let e = tested _ _ _ (w .before .before .before .before .before .inside .ensures) (w .before .get .ensures) (w .inside2 .ensures) (c .before .timer-sound .ensures) in
+    (omega arith, below-more _ _ (w .before .before .before .loop .inv .1) (e ∙ not-false _ (c .if2 .left)))
 
-returns-2 : tie.Need-returns-2 Inv-loop μ-loop
+returns-3 : tie.Need-returns-3 Inv-loop μ-loop
 unfolding deviceTimed
-returns-2 c = sym (every-all 32 _ (λ i l. c .before .loop .inv .1 i (omega arith)))
+returns-3 c = sym (every-all 32 _ (λ i l. c .before .loop .inv .1 i (omega arith)))
 
 inside-requires : tie.Need-inside-requires Inv-loop μ-loop
 inside-requires c κs = search needs
@@ -67,6 +90,16 @@ device-timed-spec =
     μ-loop
     (λ c. search needs)
     inside-requires
+    (λ c. search needs)
+    (λ c. search needs)
+    (λ c. search needs)
+    (λ c. search needs)
+    (λ c. search needs)
+    (λ c. search needs)
+    (λ c. search needs)
+    (λ c. search needs)
+    zeros-requires
+    returns
     loop-holds
     (λ c. search needs)
     get-requires
@@ -75,8 +108,8 @@ device-timed-spec =
     (λ c. search needs)
     inside-requires-2
     timer-sound-requires
-    returns
+    returns-2
     (λ c. search needs)
     loop-less
     loop-again
-    returns-2)
+    returns-3)

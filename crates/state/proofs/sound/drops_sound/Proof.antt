@@ -2,18 +2,18 @@
 use mathlib.Core.Path.{_≡_, sym, ap, _∙_}
 use mathlib.Core.Bool.{Bool, true, false}
 use mathlib.Core.List.{List}
-use Prim.Native.Nat.{ℕ, _+_, _-_, _*_, _/_, _%_, _≤_, _<_}
+use Prim.Native.Nat.{ℕ, _+_, _-_, _*_, _≤_, _<_}
 use native.Mathlib.Omega.{arith}
 use lib.Dec.{eqb}
 use lib.ListN.{length, take, drop, getD}
 use borrow.Author.Count.{below-none, below-more}
 use borrow.Author.Needs.{needs}
-use borrow.Author.Tests.{lt-ltb, le-ltb, eqb-true, eq-eqb, not-true, not-false}
+use borrow.Author.Tests.{lt-ltb, le-ltb, not-true, not-false}
 use Rattle.lists.specs.Table.{every}
-use Rattle.lists.proofs.Tests.{same-truth, every-at, every-all, every-not, every-same, every-behind}
+use Rattle.lists.proofs.Tests.{every-all, every-not, every-same, every-behind, every-rows}
 use Rattle.areas.specs.Put.{allZero}
 use Rattle.plan.specs.inner.Memory.{freeMasks}
-use Rattle.plan.proofs.Bars.{part-zero}
+use Rattle.areas.proofs.Parts.{part-zero}
 use Rattle.state.specs.State.{State, words, word, dropsStart}
 use Rattle.state.specs.inner.Tests.{countSound, countsSound, ownCounts, dropsSound}
 use Rattle.state.proofs.sound.drops_sound.Statement.{statement}
@@ -37,13 +37,12 @@ module _ (n : ℕ) (role ports : List ℕ) (s : State) where
   words-zero : (d : ℕ) → d ≤ 32 → n ≤ d → every (512 - 16 * d) (λ i. eqb (word s (dropsStart + 16 * d + i)) 0) ≡ every (32 - d) (λ e. countsSound s (d + e) (ownCounts n role ports (d + e)))
   unfolding countsSound
   words-zero d l h =
-      same-truth (every (512 - 16 * d) flat) (every (32 - d) nested)
-      (λ z. every-all (32 - d) nested (λ e k. every-all 16 _ (λ j m.
+      let m : 512 - 16 * d ≡ 16 * (32 - d) = omega arith in
+      ap (λ k. every k flat) m
+      ∙ sym (every-rows 16 (32 - d) flat)
+      ∙ every-same (32 - d) _ nested (λ e k. every-same 16 _ _ (λ j n.
       let at : dropsStart + 16 * d + (16 * e + j) ≡ dropsStart + 16 * (d + e) + j = omega arith in
-      none (d + e) j (omega arith) ∙ rw at at (every-at (512 - 16 * d) flat z (16 * e + j) (omega arith)))))
-      (λ z. every-all (512 - 16 * d) flat (λ i k.
-      let at : dropsStart + 16 * (d + i / 16) + i % 16 ≡ dropsStart + 16 * d + i = omega arith in
-      rw at at (sym (none (d + i / 16) (i % 16) (omega arith)) ∙ every-at 16 _ (every-at (32 - d) nested z (i / 16) (omega arith)) (i % 16) (omega arith))))
+      ap (λ i. eqb (word s i) 0) at ∙ sym (none (d + e) j (omega arith))))
     where
       flat : ℕ → Bool
       flat i = eqb (word s (dropsStart + 16 * d + i)) 0

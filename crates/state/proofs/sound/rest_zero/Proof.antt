@@ -3,7 +3,7 @@ use Prim.Native.Nat.{_-_, _*_}
 use native.Mathlib.Omega.{arith}
 use borrow.Author.Needs.{needs}
 use Rattle.lists.proofs.Tests.{every-all}
-use Rattle.plan.proofs.Bars.{part-zero}
+use Rattle.areas.proofs.Parts.{part-zero}
 use Rattle.state.specs.State.{deviceWords, word, portsAt}
 use Rattle.state.specs.inner.Tests.{zerosIn}
 use Rattle.state.proofs.sound.rest_zero.Statement.{statement}
