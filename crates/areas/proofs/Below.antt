@@ -14,7 +14,7 @@ use borrow.Author.Tests.{lt-ltb, le-ltb, eq-eqb, ne-eqb}
 use Rattle.lists.specs.Loop.{upTo}
 use Rattle.lists.specs.Table.{every}
 use Rattle.lists.proofs.Tests.{every-same}
-use Rattle.areas.specs.Put.{mergedOf}
+use Rattle.areas.specs.inner.Merged.{mergedOf}
 
 pub or-below : (k a b : ℕ) → ltb (bitOr a b) (2 ^ k) ≡ (ltb a (2 ^ k) && ltb b (2 ^ k))
 or-below k a b =

@@ -5,7 +5,7 @@ use mathlib.Core.List.{List}
 use Prim.Native.Nat.{ℕ, _+_, _<_}
 use lib.Dec.{leb}
 use lib.ListN.{length}
-use Rattle.areas.specs.Put.{Puts, copied, mergedOf, allZero}
+use Rattle.areas.specs.Put.{Puts, copied, allZero, allShort}
 use Rattle.lists.specs.Table.{table}
 
 pub put-unique : {area : List ℕ} {at : ℕ} {word a b : List ℕ} {r s : ℕ} → Puts area at word a r → Puts area at word b s → (r ≡ s) × (a ≡ b)
@@ -20,11 +20,11 @@ copy-unique src dst a b p q = p ∙ sym q
 pub fill-unique : (area : List ℕ) (value : ℕ) (a b : List ℕ) → a ≡ table (length area) (λ _. value) → b ≡ table (length area) (λ _. value) → a ≡ b
 fill-unique area value a b p q = p ∙ sym q
 
-pub merged-unique : (area : List ℕ) (r s : ℕ) → r ≡ mergedOf area → s ≡ mergedOf area → r ≡ s
-merged-unique area r s p q = p ∙ sym q
-
 pub zeros-unique : (area : List ℕ) (r s : Bool) → r ≡ allZero area → s ≡ allZero area → r ≡ s
 zeros-unique area r s p q = p ∙ sym q
+
+pub short-unique : (area : List ℕ) (r s : Bool) → r ≡ allShort area → s ≡ allShort area → r ≡ s
+short-unique area r s p q = p ∙ sym q
 
 -- the three that widen a number promise this, each with its bound
 pub wide-unique : (bound x r s : ℕ) → (r ≡ x) × (r < bound) → (s ≡ x) × (s < bound) → r ≡ s

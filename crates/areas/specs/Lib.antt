@@ -1,1 +1,2 @@
 pub mod Put
+pub mod inner

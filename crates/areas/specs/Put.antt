@@ -1,12 +1,10 @@
--- RULES, "Areas": a word is put into an area whole, or not at all, and so an area is copied; its words merged; and whether all of them are 0.
+-- RULES, "Areas": a word is put into an area whole, or not at all, and so an area is copied; and whether all words of one are 0, or short.
 use mathlib.Core.Path.{_≡_}
 use mathlib.Core.Bool.{Bool, cond}
 use mathlib.Core.List.{List, _++_}
 use Prim.Native.Nat.{ℕ, _+_}
-use lib.Bits.{bitOr}
-use lib.Dec.{eqb, leb}
+use lib.Dec.{eqb, ltb, leb}
 use lib.ListN.{length, getD, take, drop}
-use Rattle.lists.specs.Loop.{upTo}
 use Rattle.lists.specs.Table.{every}
 
 -- the area with the word at a place, if the whole word has room there
@@ -30,10 +28,10 @@ over written before = written ++ drop (length written) before
 unfoldable pub copied : List ℕ → List ℕ → List ℕ
 copied from to = cond (eqb (length to) (length from)) from to
 
--- the words of the area, as sets, merged into one
-unfoldable pub mergedOf : List ℕ → ℕ
-mergedOf area = upTo (λ i all. bitOr all (getD area i 0)) (length area) 0
-
 -- every word of the area is 0
 unfoldable pub allZero : List ℕ → Bool
 allZero area = every (length area) (λ i. eqb (getD area i 0) 0)
+
+-- every word of the area has 16 bits
+unfoldable pub allShort : List ℕ → Bool
+allShort area = every (length area) (λ i. ltb (getD area i 0) 65536)

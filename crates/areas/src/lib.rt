@@ -1,10 +1,11 @@
 // Areas that a caller lends: a word put into one whole, or not at all, and whole areas copied, filled
-// or merged; and numbers of lent areas, widened.
+// or looked at; and numbers of lent areas, widened.
 ghost use mathlib.Core.Path.{_≡_};
 ghost use Prim.Native.Nat.{_+_, _<_};
 ghost use lib.Dec.{leb};
 ghost use lib.ListN.{length};
-ghost use Rattle.areas.specs.Put.{Puts, copied, mergedOf, allZero};
+ghost use Rattle.areas.specs.Put.{Puts, copied, allZero, allShort};
+ghost use Rattle.areas.specs.inner.Merged.{mergedOf};
 ghost use Rattle.lists.specs.Table.{table};
 
 // Puts the word at a place of the area, and answers the place after it. A word with no room for all
@@ -61,7 +62,7 @@ pub fn fill(area: &mut [u32], value: u32)
 
 // All words of the area, as sets, merged into one. That is done with several at a time, where a search
 // for a word that stands out would look at each.
-pub fn merged(area: &[u32]) -> u32
+fn merged(area: &[u32]) -> u32
     ensures { λ r. ⌜ r ≡ mergedOf (now (area .entry)) ⌝ }
 {
     let mut all: u32 = 0;
@@ -78,6 +79,13 @@ pub fn zeros(area: &[u32]) -> bool
     ensures { λ r. ⌜ r ≡ allZero (now (area .entry)) ⌝ }
 {
     merged(area) == 0
+}
+
+// Has every word of the area 16 bits? They have where what they are merged into has.
+pub fn short(area: &[u32]) -> bool
+    ensures { λ r. ⌜ r ≡ allShort (now (area .entry)) ⌝ }
+{
+    merged(area) < 65536
 }
 
 // ---- a number of a lent area as a wider one

@@ -1,9 +1,9 @@
 -- Time is distributed, proved: what follows a tick that is taken is a run of the flood, with two rounds a crossing.
 use mathlib.Core.Path.{_≡_, refl, sym, ap, subst, _∙_}
 use mathlib.Core.Bool.{Bool, true, false, false≢true}
-use mathlib.Core.Logic.{_⊎_, inl, inr, _≢_, dite}
+use mathlib.Core.Logic.{_⊎_, inl, inr, _≢_}
 use Prim.Native.Nat.{ℕ, zero, suc, _+_, _-_, _*_, _/_, _%_, _≤_, _<_}
-use native.Mathlib.Decide.{ℕ-discrete, decLt}
+use native.Mathlib.Decide.{ℕ-discrete}
 use native.Mathlib.Nat.{le-refl}
 use native.Mathlib.Omega.{arith}
 use borrow.Author.Tests.{eq-eqb, ne-eqb}
@@ -17,7 +17,6 @@ use Rattle.state.specs.State.{State, word, portsEnd, portAt, runningAt, running
 use Rattle.state.specs.Network.{devices, role, router, peer}
 use Rattle.state.specs.Sound.{Sound}
 use Rattle.state.specs.Start.{started}
-use Rattle.state.proofs.Words.{word-past}
 use Rattle.state.proofs.Plans.{few, far-end}
 use Rattle.state.proofs.Started.{start-behind, started-sound}
 use Rattle.calls.specs.Calls.{callAsks, tickAsks, advanced}

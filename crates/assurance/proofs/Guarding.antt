@@ -3,7 +3,7 @@ use mathlib.Core.Path.{_≡_, refl, sym, ap, _∙_}
 use mathlib.Core.Bool.{Bool, true, false, not, _&&_, false≢true}
 use mathlib.Core.List.{List}
 use mathlib.Core.Logic.{_⊎_, inl, inr, _≢_}
-use Prim.Native.Nat.{ℕ, zero, suc, _+_, _-_, _*_, _/_, _%_, _≤_, _<_}
+use Prim.Native.Nat.{ℕ, _+_, _-_, _*_, _/_, _%_, _≤_, _<_}
 use native.Mathlib.Decide.{ℕ-discrete, decLt}
 use native.Mathlib.Omega.{arith}
 use lib.Dec.{eqb, ltb}
@@ -42,7 +42,7 @@ use Rattle.laws.specs.Timing.{before, NoneAccepted}
 use Rattle.laws.proofs.Accepting.{arrives-opens}
 use Rattle.laws.proofs.Apart.{Both, about, alike-same, alike-front, arrives-aside, call-apart, tick-apart}
 use Rattle.laws.proofs.Telling.{untold}
-use Rattle.reach.specs.Walk.{Leads, Walk, stay, cross}
+use Rattle.reach.specs.Walk.{stay, cross}
 use Rattle.assurance.specs.Guarding.{Fenced, Outside, Babbles, Asks, Meanwhile, step, fault, Contained, ReachesItself, Restarts, Drops, Counts, Dropped, none, one, rest, upToMost, EachCounted, OnlyResets}
 use Rattle.assurance.proofs.Choices.{sends-small, sends-inside, sent-waits, waits-runs}
 use Rattle.assurance.proofs.Taking.{Took, took, called-took}
@@ -285,20 +285,13 @@ reaches-itself plan x kind k s fenced n e (cross {n = m} {d = d} w on p l leads 
 
 -- ---- how many codes of a kind a port has dropped
 
--- up to the most a count is what it is counted up to, and from there on the most
-up-below : (n : ℕ) → n ≤ mostDrops → upToMost n ≡ n
-up-below n h = elim (decLt n mostDrops) [ yes l ↦ rw (lt-ltb n mostDrops l) | no m ↦ rw (le-ltb n mostDrops (omega arith)) (omega arith) ]
-
-up-above : (n : ℕ) → mostDrops ≤ n → upToMost n ≡ mostDrops
-up-above n h = rw (le-ltb n mostDrops h)
-
 -- one more is counted
 up-more : (a n : ℕ) → oneMore (upToMost (a + n)) ≡ upToMost (a + (1 + n))
 unfolding oneMore
 up-more a n =
     elim (decLt (a + n) mostDrops) [
-      | yes l ↦ rw (up-below (a + n) (omega arith), lt-ltb (a + n) mostDrops l, up-below (a + (1 + n)) (omega arith)) (omega arith)
-      | no m ↦ rw (up-above (a + n) (omega arith), up-above (a + (1 + n)) (omega arith))
+      | yes l ↦ rw (lt-ltb (upToMost (a + n)) mostDrops (omega arith)) (omega arith)
+      | no m ↦ rw (le-ltb (upToMost (a + n)) mostDrops (omega arith)) (omega arith)
     ]
 
 -- a count does not fall by it
@@ -497,9 +490,7 @@ module _ (plan : Plan) (held : Held plan) (kind q : ℕ) (g : kind < 2) (h : q <
 
   -- each that is dropped is counted, in sound states all the way
   counted : {n : ℕ} {s t : State} → Sound plan s → Dropped plan kind q s n t → Sound plan t × (drops t kind q ≡ upToMost (drops s kind q + n))
-  counted {s = s} x none =
-      let nothing-more : drops s kind q ≡ drops s kind q + 0 = omega arith in
-      (x, nothing-more ∙ sym (up-below (drops s kind q + 0) (omega (arith, x .guard .counts q kind h g))))
+  counted {s = s} x none = (x, omega (arith, x .guard .counts q kind h g))
   counted {s = s} x (one {n = n} steps last y) =
       let before = counted x steps in (
         step-sound plan held (before .0) last,

@@ -17,7 +17,7 @@ use Rattle.state.specs.State.{State, words, word, put, portsEnd, portAt, runnin
 use Rattle.state.specs.Network.{devices, exists, router, peer}
 use Rattle.state.specs.Sound.{Sound}
 use Rattle.state.specs.Queue.{queueTimeAll}
-use Rattle.state.proofs.Words.{length-put, word-same, word-other, word-past, put-word}
+use Rattle.state.proofs.Words.{length-put, word-same, word-other, put-word}
 use Rattle.state.proofs.Plans.{FarEnd, few, owned, past-absent, joined-exists, far-end}
 use Rattle.state.proofs.Waits.{not-absent}
 use Rattle.state.proofs.Times.{queue-times-left, queue-times-cases, queue-times-waits}

@@ -1,9 +1,8 @@
 -- RULES, "Guarding the edge": what a device sends that is barred at every port it leads to gets nowhere, and how many codes a port has dropped.
 use mathlib.Core.Path.{_≡_}
-use mathlib.Core.Bool.{true, cond}
+use mathlib.Core.Bool.{true}
 use mathlib.Core.Logic.{_≢_}
-use Prim.Native.Nat.{ℕ, _+_, _*_, _/_, _<_}
-use lib.Dec.{ltb}
+use Prim.Native.Nat.{ℕ, _+_, _*_, _/_, _<_, min}
 use Rattle.bits.specs.Set.{bit}
 use Rattle.device.specs.Permissions.{mayReceive}
 use Rattle.plan.specs.Fields.{nobody}
@@ -97,7 +96,7 @@ module _ (plan : Plan) (kind q : ℕ) where
 
 -- the count goes up to the most and stays there
 abbrev pub upToMost : ℕ → ℕ
-upToMost n = cond (ltb n mostDrops) n mostDrops
+upToMost n = min n mostDrops
 
 -- each of them is counted, and nothing else
 unfoldable pub EachCounted : Type 0

@@ -19,7 +19,7 @@ use Rattle.codes.specs.declared.Code.the-variants.{Time, Interrupt, Acknowledge
 use Rattle.codes.proofs.BothWays.{Stands, stands, time, interrupt, acknowledge, reserved, reserved-apart}
 use Rattle.device.specs.Permissions.{mayReceive}
 use Rattle.device.specs.Reaction.{nextTime, isUsed, barsOf, marked, kept, ruled, counted as Reaction·counted, reactsTo, reacts}
-use Rattle.device.specs.declared.Action.the-variants.{Named, LinkError, Ignored, Forwarded, Told, Dropped}
+use Rattle.device.specs.declared.Action.the-variants.{Named, Forwarded, Told, Dropped}
 use Rattle.device.specs.declared.Reaction.{Reaction}
 use Rattle.device.specs.declared.Side.{Side}
 use Rattle.device.proofs.Rule.{Accepts, isDropped, ruled-cases, when-dropped}

@@ -13,7 +13,7 @@ use Rattle.state.proofs.Words.{word-past, length-put, word-same, word-other}
 use Rattle.state.proofs.Parts.{by-place, by-behind, length-state, register-of, timer-of, port-of, counter-of, time-of, drops-of, behind-kept, is-state}
 use Rattle.state.proofs.Keeping.{Fits}
 use Rattle.calls.specs.Calls.{reset}
-use Rattle.calls.specs.inner.Steps.{cleared, emptied, untimed, uncounted}
+use Rattle.calls.specs.inner.Steps.{Zeros, cleared, emptied, untimed, uncounted}
 
 -- what is so of 0 and of a word is so of the word where a test does not make it 0
 pub keep : (P : ℕ → Type 0) (t : Bool) (v : ℕ) → P 0 → P v → P (cond t 0 v)
@@ -21,11 +21,6 @@ keep P true v none p = none
 keep P false v none p = p
 
 -- ---- the words from one place to another
-
-pub record Zeros (from to : ℕ) (s t : State) : Type 0 where
-  pub size : length t ≡ length s
-  pub gone : (i : ℕ) → from ≤ i → i < to → word t i ≡ 0
-  pub left : (i : ℕ) → (from ≤ i → i < to → ⊥) → word t i ≡ word s i
 
 pub zeros-none : {from to : ℕ} {s : State} → to ≤ from → Zeros from to s s
 zeros-none h = record { size = refl; gone = λ i a b. absurd (omega arith); left = λ i o. refl }
@@ -193,9 +188,9 @@ module _ (d : ℕ) (s : State) (long : length s ≡ words) where
   untimed-size : length (untimed d s) ≡ words
   untimed-size = length-state _
 
-  pub is-untimed : {t : State} → d < 32 → Zeros (timeAt (8 * d)) (timeAt (8 * d + 8)) s t → put t (counterAt d) 0 ≡ untimed d s
+  pub is-untimed : {t : State} → d < 32 → Zeros (timeAt (8 * d)) (timeAt (8 * d) + 8) s t → put t (counterAt d) 0 ≡ untimed d s
   is-untimed {t} h z =
-      let left : (i : ℕ) → i ≢ counterAt d → (timeAt (8 * d) ≤ i → i < timeAt (8 * d + 8) → ⊥) → word (put t (counterAt d) 0) i ≡ word s i =
+      let left : (i : ℕ) → i ≢ counterAt d → (timeAt (8 * d) ≤ i → i < timeAt (8 * d) + 8 → ⊥) → word (put t (counterAt d) 0) i ≡ word s i =
       λ i ne o. word-other t (counterAt d) 0 i ne ∙ z .left i o in
       is-state _ _ (length-put t (counterAt d) 0 ∙ z .size ∙ long) (λ e l. left (registerAt e) (omega arith) (λ a b. absurd (omega arith)))
       (λ e k l m. left (timerAt e k) (omega arith) (λ a b. absurd (omega arith))) (λ q i l m. left (portAt q i) (omega arith) (λ a b. absurd (omega arith)))

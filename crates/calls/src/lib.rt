@@ -3,7 +3,7 @@
 ghost use mathlib.Core.Path.{_≡_};
 ghost use mathlib.Core.Bool.{true, cond};
 ghost use mathlib.Core.List.{List, _∷_};
-ghost use Prim.Native.Nat.{ℕ, _+_, _*_, _<_};
+ghost use Prim.Native.Nat.{ℕ, _+_, _*_, _≤_, _<_};
 ghost use lib.Dec.{eqb};
 ghost use lib.ListN.{length, getD};
 ghost use Rattle.answers.specs.Decides.{Decides};
@@ -14,7 +14,7 @@ ghost use Rattle.state.specs.Network.{peer};
 ghost use Rattle.state.specs.Queue.{sendsAt};
 ghost use Rattle.state.specs.Mark.{loaded, mark as Mark·mark};
 ghost use Rattle.calls.specs.Calls.{deviceAsks, ownAsks, sendAsks, callAsks, linkAsks, tickAsks, calledIn, Takes, drained, flagged, switched, Links, advanced, Ticks, SomeRuns, Resets};
-ghost use Rattle.calls.specs.inner.Steps.{cleared, emptied, untimed, uncounted};
+ghost use Rattle.calls.specs.inner.Steps.{Zeros, cleared, emptied, untimed, uncounted};
 use plan::Core;
 use plan::NOBODY;
 use plan::Plan;
@@ -367,9 +367,8 @@ fn clear(state: &mut [u32], d: usize)
     requires { ⌜ (length (now state) ≡ words) × (d < 32) ⌝ }
     ensures { λ _. ⌜ now (state .exit) ≡ cleared d (now (state .entry)) ⌝ }
 {
-    for i in 0..DEVICE {
-        state[DEVICE * d + i] = 0;
-    }
+    let from = DEVICE * d;
+    wipe(state, from, from + DEVICE);
 }
 
 // The sets that wait at the ports of device d, and where each search starts, become 0.
@@ -390,9 +389,8 @@ fn unclock(state: &mut [u32], d: usize)
     requires { ⌜ (length (now state) ≡ words) × (d < 32) ⌝ }
     ensures { λ _. ⌜ now (state .exit) ≡ untimed d (now (state .entry)) ⌝ }
 {
-    for p in 0..8 {
-        state[TIMES + (8 * d + p)] = 0;
-    }
+    let from = TIMES + 8 * d;
+    wipe(state, from, from + 8);
     state[COUNTERS + d] = 0;
 }
 
@@ -401,7 +399,16 @@ fn uncount(state: &mut [u32], d: usize)
     requires { ⌜ (length (now state) ≡ words) × (d < 32) ⌝ }
     ensures { λ _. ⌜ now (state .exit) ≡ uncounted d (now (state .entry)) ⌝ }
 {
-    for j in 0..16 {
-        state[DROPS + 16 * d + j] = 0;
+    let from = DROPS + 16 * d;
+    wipe(state, from, from + 16);
+}
+
+// The words from one place on up to another become 0.
+fn wipe(state: &mut [u32], from: usize, to: usize)
+    requires { ⌜ (from ≤ to) × (to ≤ length (now state)) ⌝ }
+    ensures { λ _. ⌜ Zeros from to (now (state .entry)) (now (state .exit)) ⌝ }
+{
+    for i in from..to {
+        state[i] = 0;
     }
 }

@@ -29,7 +29,7 @@ use Rattle.plan.specs.Fields.{nobody}
 use Rattle.plan.specs.Reading.{Held}
 use Rattle.plan.specs.declared.Plan.{Plan}
 use Rattle.state.specs.State.{State, words, word, put, registerAt, timerAt, portAt, register, timer, waiting, nextAt, next, runningAt, portsEnd, counterAt, counter, dropsAt}
-use Rattle.state.specs.Network.{devices, router, peer, permissions, events, loadOf}
+use Rattle.state.specs.Network.{devices, router, peer, permissions, loadOf}
 use Rattle.state.specs.Sound.{Sound}
 use Rattle.state.specs.Queue.{sendsAt, queueAt, queueBut, queueAllAt}
 use Rattle.state.specs.Mark.{loaded, mark}

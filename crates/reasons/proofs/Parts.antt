@@ -1,11 +1,9 @@
 -- The lines, in their parts: how long each is, and one line more behind others.
 use mathlib.Core.Path.{_≡_, refl, sym, ap, _∙_}
-use mathlib.Core.Bool.{Bool, true, false, cond}
 use mathlib.Core.List.{List, [], _∷_, _++_, append-assoc, append-nil}
 use Prim.Native.Nat.{ℕ, _+_, _*_, _/_, _%_, _≤_, _<_}
 use native.Mathlib.Numerals.{add-one}
 use native.Mathlib.Omega.{arith}
-use lib.Dec.{eqb}
 use lib.ListN.{length, getD, take, length-append}
 use lib.Seq.{take-suc}
 use borrow.Author.Tests.{eq-eqb, ne-eqb}
@@ -84,18 +82,6 @@ module _ {peers : List (List ℕ)} {ports : List ℕ} {n : ℕ} {t : List ℕ} {
   crossed-all h = let e : i ≡ n = omega (arith, v .some) in rw e at (v .lines)
 
 -- ---- causes
-
-either-short : {n : ℕ} (b : Bool) (v w : List ℕ) → length v ≤ n → length w ≤ n → length (cond b v w) ≤ n
-either-short true v w h l = h
-either-short false v w h l = l
-
-pub called-short : (c : ℕ) → length (called c) ≤ 16
-unfolding called ascii
-called-short c =
-    either-short (eqb c 1) (ascii "stopped") _ (omega arith)
-    (either-short (eqb c 2) (ascii "may-not-send") _ (omega arith)
-    (either-short (eqb c 3) (ascii "may-not-receive") _ (omega arith)
-    (either-short (eqb c 5) (ascii "barred") (ascii "does-not-forward") (omega arith) (omega arith))))
 
 module _ (c : ℕ) where
   pub called-1 : c ≡ 1 → ascii "stopped" ≡ called c

@@ -6,14 +6,13 @@ ghost use Rattle.answers.specs.Decides.{Decides};
 ghost use Rattle.answers.specs.Ordered.{Ordered};
 ghost use Rattle.state.specs.Sound.{Sound, stateAsks};
 ghost use Rattle.state.specs.State.{words, word as State·word};
-ghost use Rattle.state.specs.inner.Tests.{timerSound, deviceTimed, allTimed, restZero, flagSound, mayWait, waitingSound, portKept, portZero, portSound, devicePorts, portsSound, counterSound, countersSound, timeKept, timeSound, timesSound, countsSound, allWithin, dropsSound};
+ghost use Rattle.state.specs.inner.Tests.{timerSound, deviceTimed, allTimed, restZero, flagSound, mayWait, waitingSound, portKept, portZero, portSound, devicePorts, portsSound, counterSound, countersSound, timeKept, timeSound, timesSound, countsSound, dropsSound};
 use crate::ACKNOWLEDGES;
 use crate::COUNTERS;
 use crate::DEVICE;
 use crate::DROPS;
 use crate::INTERRUPTS;
 use crate::LATELY;
-use crate::MOST_DROPS;
 use crate::NEXT;
 use crate::PORT;
 use crate::PORTS;
@@ -366,17 +365,10 @@ fn counts_sound(state: &[u32], d: usize, own: usize) -> bool
 {
     let at = DROPS + 16 * d;
     let from = at + own;
-    if !within(&state[at..from]) {
+    // The bound is the most that 16 bits hold.
+    if !areas::short(&state[at..from]) {
         return false;
     }
     let to = at + 16;
     areas::zeros(&state[from..to])
-}
-
-// Is every count within its bound? That is one less than a power of two, so they are where what they are
-// merged into is.
-fn within(counts: &[u32]) -> bool
-    ensures { λ r. ⌜ r ≡ allWithin (now (counts .entry)) ⌝ }
-{
-    areas::merged(counts) <= MOST_DROPS
 }

@@ -1,13 +1,13 @@
 -- `areas::merged` meets its contract. The invariant: the words before word i are merged. Assumes nothing.
 use mathlib.Core.Path.{_≡_, refl, ap, _∙_}
-use Prim.Native.Nat.{ℕ, _+_, _-_, _≤_}
+use Prim.Native.Nat.{ℕ, _-_, _≤_}
 use native.Mathlib.Numerals.{add-one}
 use native.Mathlib.Omega.{arith}
 use lib.Bits.{bitOr}
 use lib.ListN.{length, getD}
 use borrow.Author.Needs.{needs}
 use Rattle.lists.specs.Loop.{upTo}
-use Rattle.areas.specs.Put.{mergedOf}
+use Rattle.areas.specs.inner.Merged.{mergedOf}
 use Rattle.areas.proofs.merged.Statement.{statement}
 use Rattle.areas.proofs.merged.Tie as tie
 

@@ -1,8 +1,16 @@
 -- What the four functions of a reset leave, one after the other: words that become 0.
+use mathlib.Core.Path.{_≡_}
 use mathlib.Core.Bool.{cond, not, _&&_}
-use Prim.Native.Nat.{ℕ, _/_}
+use Prim.Native.Nat.{ℕ, _/_, _≤_, _<_}
 use lib.Dec.{eqb}
+use lib.ListN.{length}
 use Rattle.state.specs.State.{State, word, portAt, register, timer, runningAt, counter, time, drops, stateOf}
+
+-- the words from one place up to another are 0, and all else is as it was
+pub record Zeros (from to : ℕ) (s t : State) : Type 0 where
+  pub size : length t ≡ length s
+  pub gone : (i : ℕ) → from ≤ i → i < to → word t i ≡ 0
+  pub left : (i : ℕ) → (from ≤ i → i < to → ⊥) → word t i ≡ word s i
 
 -- the register and the timers of device d
 abbrev pub cleared : ℕ → State → State

@@ -1,4 +1,3 @@
-use mathlib.Core.Path.{_∙_}
 use borrow.Author.Tests.{not-true, not-false}
 use Rattle.device.specs.Reaction.{barsOf}
 use borrow.Author.Needs.{needs}

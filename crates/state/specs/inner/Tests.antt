@@ -90,10 +90,6 @@ countSound own j count = cond (ltb j own) (leb count mostDrops) (eqb count 0)
 unfoldable pub countsSound : State → ℕ → ℕ → Bool
 countsSound s d own = every 16 (λ j. countSound own j (word s (dropsStart + 16 * d + j)))
 
--- every count of some is within its bound
-unfoldable pub allWithin : List ℕ → Bool
-allWithin counts = every (length counts) (λ i. leb (getD counts i 0) mostDrops)
-
 -- two for each port of a router; of n devices
 unfoldable pub ownCounts : ℕ → List ℕ → List ℕ → ℕ → ℕ
 ownCounts n role ports d = cond (ltb d n) (freeMasks (getD role d 0) (getD ports d 0)) 0

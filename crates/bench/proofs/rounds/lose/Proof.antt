@@ -1,11 +1,9 @@
 -- `bench::rounds::lose` meets its contract: one count for each kind. Assumes nothing.
-use mathlib.Core.Path.{_≡_, refl, sym, ap, _∙_}
-use mathlib.Core.List.{List}
+use mathlib.Core.Path.{_≡_}
 use Prim.Native.Nat.{ℕ, _+_, _*_}
-use native.Mathlib.Omega.{arith}
 use Rattle.codes.specs.declared.Code.{Code}
 use Rattle.codes.specs.declared.Code.the-variants.{Time, Interrupt, Acknowledge, Reserved}
-use Rattle.state.specs.State.{State, put, word, dropsStart, dropsAt, drops}
+use Rattle.state.specs.State.{State, put, word, dropsStart, drops}
 use Rattle.bench.specs.Round.{oneMore, lost}
 use borrow.Author.Needs.{needs}
 use Rattle.bench.proofs.rounds.lose.Statement.{statement}

@@ -1,5 +1,4 @@
 -- `plan::fields::free_masks` meets its contract: the role and the number of ports by their branches. Assumes nothing.
-use mathlib.Core.Path.{refl}
 use native.Mathlib.Omega.{arith}
 use borrow.Author.Tests.{eq-eqb, ne-eqb}
 use Rattle.plan.specs.inner.Memory.{freeMasks}

@@ -1,6 +1,6 @@
 -- `state::device_ports` meets its contract. The invariant: the ports before port p are sound. Assumes nothing.
 use mathlib.Core.Path.{_≡_, sym, ap, _∙_}
-use mathlib.Core.Bool.{Bool, true, false}
+use mathlib.Core.Bool.{Bool, true}
 use mathlib.Core.List.{List, []}
 use Prim.Native.Nat.{ℕ, _+_, _-_, _*_, _%_, _<_, _≤_}
 use native.Mathlib.Omega.{arith}
@@ -13,7 +13,7 @@ use Rattle.lists.specs.Table.{every}
 use Rattle.lists.proofs.Tests.{every-all, every-not, every-same, every-rows}
 use Rattle.areas.specs.Put.{allZero}
 use Rattle.areas.proofs.Parts.{part-zero}
-use Rattle.state.specs.State.{State, words, word, portsAt, portWords, portAt}
+use Rattle.state.specs.State.{State, words, word, portsAt, portAt}
 use Rattle.state.specs.inner.Tests.{portZero, portSound, devicePorts}
 use Rattle.state.proofs.sound.device_ports.Statement.{statement}
 use Rattle.state.proofs.sound.device_ports.Tie as tie
