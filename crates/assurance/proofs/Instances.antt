@@ -61,7 +61,7 @@ module _ {l : List ℕ} {size bound : ℕ} (pos : 0 < bound) where
 abbrev pub shaped : Plan → Bool
 shaped plan =
     ltb (plan .core .events) 4294967296
-    && fits 2 65536 (plan .core .loads)
+    && fits 66 65536 (plan .core .loads)
     && fits 32 256 (plan .core .role)
     && fits 32 256 (plan .core .ports)
     && fits 32 4294967296 (plan .core .source)

@@ -49,7 +49,7 @@ module _ (plan : Plan) (held : Held plan) {s : State} (x : Sound plan s) (d : �
   pub fall-step : (isRouter : Bool) (k : ℕ) (told : List ℕ) → k < 32 → Sound plan (fall isRouter d k (record { state = s; told = told }) .state)
   fall-step isRouter k told l =
       let r = register s d in
-      let old : Timed s d k = x .timers d k h (omega (arith, few plan held)) l in
+      let old : Timed plan s d k = x .timers d k h (omega (arith, few plan held)) l in
       let small = x .fits (registerAt d) in
       fall-cases isRouter d k (record { state = s; told = told }) (λ v. Sound plan (v .state)) (λ e. x)
       (λ e. let is = leave-same r k l in

@@ -24,6 +24,7 @@ use codes::Code;
 use device::Action;
 use device::Side;
 use plan::Core;
+use plan::Loads;
 use plan::Plan;
 use state::ACKNOWLEDGES;
 use state::COUNTERS;
@@ -204,9 +205,9 @@ fn post_all(n: usize, ports: &[u8; 32], old: &[u32], next: &mut [u32], sent: &mu
 // ---- 3. arrivals
 
 // An accepted code loads its timer or stops it.
-fn time(code: Code, loads: [u16; 2], role: u8, d: usize, state: &mut [u32])
+fn time(code: Code, loads: &Loads, role: u8, d: usize, state: &mut [u32])
     requires { ⌜ (length (now state) ≡ words) × (d < 32) ⌝ }
-    ensures { λ _. ⌜ now (state .exit) ≡ timed (loadFor loads role) d code (now (state .entry)) ⌝ }
+    ensures { λ _. ⌜ now (state .exit) ≡ timed (loadFor (now (loads .entry)) role) d code (now (state .entry)) ⌝ }
 {
     match code {
         Code::Interrupt(k) => {
@@ -271,7 +272,7 @@ fn inform(code: Code, d: usize, told: &mut [u32], count: usize) -> usize
 // What the reaction of a device asks for.
 fn act(
     action: Action,
-    loads: [u16; 2],
+    loads: &Loads,
     role: u8,
     permissions: &[u8; 256],
     q: usize,
@@ -280,7 +281,7 @@ fn act(
     count: usize,
 ) -> usize
     requires { ⌜ (length (now state) ≡ words) × (q < 256) × (count < 4096) ⌝ }
-    ensures { λ r. ⌜ Follows (acted (loadFor loads role) (now (permissions .entry)) q action) (seen (now (state .entry)) (now (told .entry)) count) (seen (now (state .exit)) (now (told .exit)) r) × (r ≤ count + 1) ⌝ }
+    ensures { λ r. ⌜ Follows (acted (loadFor (now (loads .entry)) role) (now (permissions .entry)) q action) (seen (now (state .entry)) (now (told .entry)) count) (seen (now (state .exit)) (now (told .exit)) r) × (r ≤ count + 1) ⌝ }
 {
     match action {
         Action::Forwarded(code) => {
@@ -302,12 +303,12 @@ fn act(
     }
 }
 
-// A byte arrives at port q, and its device reacts.
-fn arrive_one(
-    loads: [u16; 2],
+// A byte arrives at port q, and its device reacts. The plan's loads and permissions are lent as one.
+fn arrive_one<'a>(
+    loads: &'a Loads,
     role: u8,
     events: u32,
-    permissions: &[u8; 256],
+    permissions: &'a [u8; 256],
     barred: &[u32; 512],
     q: usize,
     byte: u8,
@@ -316,7 +317,7 @@ fn arrive_one(
     count: usize,
 ) -> usize
     requires { ⌜ (length (now state) ≡ words) × (q < 256) × (count < 4096) ⌝ }
-    ensures { λ r. ⌜ Follows (arrived (loadFor loads role) (now (permissions .entry)) q (now (barred .entry)) (eqb role 1) events byte) (seen (now (state .entry)) (now (told .entry)) count) (seen (now (state .exit)) (now (told .exit)) r) × (r ≤ count + 1) ⌝ }
+    ensures { λ r. ⌜ Follows (arrived (loadFor (now (loads .entry)) role) (now (permissions .entry)) q (now (barred .entry)) (eqb role 1) events byte) (seen (now (state .entry)) (now (told .entry)) count) (seen (now (state .exit)) (now (told .exit)) r) × (r ≤ count + 1) ⌝ }
 {
     let home = DEVICE * (q / 8);
     let running = state[PORTS + PORT * q + RUNNING] == 1;
@@ -368,7 +369,7 @@ fn arrive_all(
             let byte = heard(peers[d][q % 8], sent);
             if byte < NOTHING {
                 count = arrive_one(
-                    core.loads,
+                    &core.loads,
                     role,
                     core.events,
                     &core.permissions,

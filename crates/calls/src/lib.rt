@@ -144,11 +144,8 @@ fn mark(core: Core, kind: u8, state: &mut [u32], d: usize, k: u32)
 {
     let at = DEVICE * d;
     let timer = at + 1 + k as usize;
-    let load = timer_load(
-        kind,
-        state::load_for(core.loads, core.role[d], k),
-        state[timer],
-    );
+    let role = core.role[d];
+    let load = timer_load(kind, state::load_for(&core.loads, role, k), state[timer]);
     state[at] = device::marked(kind, state[at], k as u8);
     state[timer] = load;
 }

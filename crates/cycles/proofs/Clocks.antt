@@ -44,7 +44,7 @@ back-there =
     (away star-is 1 31 (omega arith) (started star) links 2 (omega arith) 0 (omega arith) (λ e. omega arith))
 
 request : Given star 31 1 2 (started star) at
-request = meets star-is 31 (omega arith) 0 (omega arith) (started star) links (start-rests star (star-is .held) 31) (roles .0) at (played other-call (window 2))
+request = meets star-is 31 (omega arith) 0 (omega arith) (started star) links refl (start-rests star (star-is .held) 31) (roles .0) at (played other-call (window 2))
 
 -- node 3 is told, in some round
 pub told : (turn : ℕ) × (2 ≤ turn) × (turn ≤ crossing * 2) × HearsIn star ofInterrupt 3 31 at turn
@@ -71,7 +71,7 @@ waits =
       between = λ t a b. on star 31 first t;
       farthest = far-back star-is 31 (started star) links 0 (omega arith) 2 (omega arith);
       course = played no-call (window 2);
-      loads = λ e b. omega (arith, star-is .long 31 e b);
+      loads = λ e b. omega (arith, star-is .long 31 e (omega arith) refl b);
     }
 
 found : FoundBack star 31 1 3 (started star)

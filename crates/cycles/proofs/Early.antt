@@ -76,7 +76,7 @@ rests = resting-says star 1 before (star-is .held) (usual-before .sound) (and-le
 
 request : Given star 1 1 2 before spreading
 unfolding star bit spreading
-request = meets star-is 1 (omega arith) 0 (omega arith) before (usual-before .links) rests refl spreading (played none (window 2))
+request = meets star-is 1 (omega arith) 0 (omega arith) before (usual-before .links) refl rests refl spreading (played none (window 2))
 
 -- ---- told in the second round, node 3 acknowledges: within two rounds it is told again
 
@@ -120,6 +120,6 @@ a-round-later =
       was-reached = gets star-is 1 before links 0 (omega arith) 3 (node-there star-is 2 (omega arith));
       farthest = far-back star-is 1 before links 0 (omega arith) 2 (omega arith);
       then = played none (window 2);
-      loads = λ e b. omega (arith, star-is .long 1 e b);
+      loads = λ e b. omega (arith, star-is .long 1 e (omega arith) refl b);
     })
     (found-back star-is 1 before links 0 (omega arith) 2 (omega arith))

@@ -48,10 +48,10 @@ cycles =
     cycle
     (rest
     (cycle none 1 3 2 2 0 (λ t. rounds star t first) (backFrom 3 0 first)
-    (λ r. a-cycle star-is 31 (omega arith) 0 (omega arith) (started star) (usual-start star-is .links) r refl refl first other-call 2 0 (omega arith) refl (omega arith)))
+    (λ r. a-cycle star-is 31 (omega arith) 0 (omega arith) (started star) (usual-start star-is .links) refl r refl refl first other-call 2 0 (omega arith) refl (omega arith)))
     5 (λ t. rounds star t (backFrom 3 0 first (window 2))) (played no-call 5))
     1 4 2 2 3 (λ t. rounds star t second) (backFrom 4 3 second)
-    (λ r. a-cycle star-is 31 (omega arith) 0 (omega arith) between (usual-between .links) r refl refl second no-call 3 3 (omega arith) refl (omega arith))
+    (λ r. a-cycle star-is 31 (omega arith) 0 (omega arith) between (usual-between .links) refl r refl refl second no-call 3 3 (omega arith) refl (omega arith))
 
 pub both-end : AllEnd star 31 (started star) _ cycles × AtRest star 31 (backFrom 4 3 second (window 2))
 unfolding AnyCycles

@@ -23,9 +23,9 @@ unfolding firstEvent secondEvent star bit
 both =
     event
     (event none 1 2 firstEvent
-    (λ r. an-event star-is 29 (omega arith) 0 (omega arith) (started star) (usual-start star-is .links) r refl refl (called star 0 1 29 (started star)) no-call))
+    (λ r. an-event star-is 29 (omega arith) 0 (omega arith) (started star) (usual-start star-is .links) refl r refl refl (called star 0 1 29 (started star)) no-call))
     2 2 secondEvent
-    (λ r. an-event star-is 29 (omega arith) 1 (omega arith) (firstEvent (lasting star 29 1 2)) (usual-first .links) r refl refl (called star 0 2 29 (firstEvent (lasting star 29 1 2))) no-call)
+    (λ r. an-event star-is 29 (omega arith) 1 (omega arith) (firstEvent (lasting star 29 1 2)) (usual-first .links) refl r refl refl (called star 0 2 29 (firstEvent (lasting star 29 1 2))) no-call)
 
 pub both-fade : AllFade star 29 (started star) _ both × AtRest star 29 (secondEvent (lasting star 29 2 2))
 unfolding AnyEvents

@@ -1,5 +1,5 @@
 -- No rules: two plans, states and courses for which the whole cycle is worked out.
-use mathlib.Core.List.{[], _∷_, _++_}
+use mathlib.Core.List.{List, [], _∷_, _++_}
 use Prim.Native.Nat.{ℕ, _+_, _-_, _^_}
 use lib.ListN.{replicate}
 use Rattle.lists.specs.Loop.{upTo}
@@ -13,6 +13,10 @@ use Rattle.assurance.specs.Demand3.{window}
 use Rattle.assurance.specs.Event.{lasting}
 use Rattle.assurance.specs.Ticking.{ticking}
 
+-- identifiers 0, 1, 29 and 31 have loads of their own, 800 in routers and 900 in nodes; the common ones are 1
+abbrev pub own : List ℕ
+own = (1 ∷ 1 ∷ 900 ∷ 800 ∷ 900 ∷ 800 ∷ replicate 54 0) ++ (900 ∷ 800 ∷ 0 ∷ 0 ∷ 900 ∷ 800 ∷ [])
+
 -- router 0, with four nodes at it and one link from itself to itself: node 2 is the source of 30, node 1 of every other identifier, and nodes 3 and 4
 -- are handlers of all. Identifier 29 is an event, of which node 2 is a source too
 unfoldable pub star : Plan
@@ -23,7 +27,7 @@ star =
             devices = 5;
             master = 0;
             events = 2 ^ 29;
-            loads = 900 ∷ 800 ∷ [];
+            loads = own;
             role = 1 ∷ replicate 31 0;
             ports = 6 ∷ 1 ∷ 1 ∷ 1 ∷ 1 ∷ replicate 27 0;
             source = 0 ∷ (2 ^ 32 - 1 - 2 ^ 30) ∷ (2 ^ 30 + 2 ^ 29) ∷ replicate 29 0;
@@ -50,7 +54,7 @@ small =
             devices = 3;
             master = 3;
             events = 0;
-            loads = 900 ∷ 800 ∷ [];
+            loads = own;
             role = 1 ∷ replicate 31 0;
             ports = 4 ∷ 1 ∷ 1 ∷ replicate 29 0;
             source = 0 ∷ (2 ^ 32 - 1) ∷ replicate 30 0;

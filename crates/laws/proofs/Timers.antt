@@ -75,7 +75,7 @@ module _ (isRouter : Bool) (d k : ℕ) (w : World) where
 -- ---- all timers
 
 -- a sound state's bit says whether the timer runs
-pub timed-bit : {s : State} {d k : ℕ} → Timed s d k → (timer s d k ≡ 0 → bit (register s d) k ≡ 0) × (1 ≤ timer s d k → bit (register s d) k ≡ 1)
+pub timed-bit : {plan : Plan} {s : State} {d k : ℕ} → Timed plan s d k → (timer s d k ≡ 0 → bit (register s d) k ≡ 0) × (1 ≤ timer s d k → bit (register s d) k ≡ 1)
 timed-bit {s} {d} {k} t =
     let two = bit-two (register s d) k in
     elim (ℕ-discrete (bit (register s d) k) 0) [

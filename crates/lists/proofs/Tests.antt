@@ -32,6 +32,11 @@ pub or-right : (a b : Bool) → b ≡ true → (a || b) ≡ true
 or-right true b e = refl
 or-right false b e = e
 
+-- what is not so adds nothing
+pub or-nothing : (a : Bool) → a ≡ (a || false)
+or-nothing true = refl
+or-nothing false = refl
+
 -- two tests of which each is passed where the other is
 pub same-truth : (a b : Bool) → (a ≡ true → b ≡ true) → (b ≡ true → a ≡ true) → a ≡ b
 same-truth true b p q = sym (p refl)

@@ -1,5 +1,5 @@
 -- From an accepted file to its plan: the plan has the shape of its types, is right in memory, and is written as that file.
-use mathlib.Core.Path.{_≡_, refl}
+use mathlib.Core.Path.{_≡_, refl, ap, _∙_}
 use mathlib.Core.Bool.{Bool, true, false, cond}
 use mathlib.Core.List.{List, [], _∷_}
 use mathlib.Core.Logic.{dite}
@@ -7,9 +7,9 @@ use Prim.Native.Nat.{ℕ, zero, suc, _+_, _*_, _/_, _%_, _<_}
 use native.Mathlib.Decide.{decLt}
 use native.Mathlib.Omega.{arith}
 use lib.Dec.{eqb, ltb}
-use lib.ListN.{List·getD-eq-default}
-use Rattle.lists.specs.Table.{table}
-use Rattle.lists.proofs.Tables.{length-table, getD-table}
+use lib.ListN.{length, List·getD-eq-default}
+use Rattle.lists.specs.Table.{table, joined}
+use Rattle.lists.proofs.Tables.{length-table, getD-table, length-joined, getD-joined}
 use Rattle.plan.specs.Block.{block}
 use Rattle.plan.specs.Fields.{entry, nobody, peerNumber}
 use Rattle.plan.specs.Refusals.{deviceBlock, countIn, peerOf, verdict, accepts}
@@ -37,13 +37,26 @@ numbers-table n f k h l =
           (λ g. rw (List·getD-eq-default (table n f) 0 {n = i} (omega (arith, length-table n f))) h);
     }
 
-numbers-two : (a b k : ℕ) → a < k → b < k → Numbers (a ∷ b ∷ []) 2 k
-numbers-two a b k h l = record { long = refl; small = small }
+numbers-two : (a b : ℕ) (l : List ℕ) (n k : ℕ) → a < k → b < k → Numbers l n k → Numbers (a ∷ b ∷ l) (2 + n) k
+numbers-two a b l n k h g rest = record { long = omega (arith, rest .long); small = small }
   where
-    small : (i : ℕ) → at (a ∷ b ∷ []) i < k
+    small : (i : ℕ) → at (a ∷ b ∷ l) i < k
     small zero = h
-    small (suc zero) = l
-    small (suc (suc i)) = omega arith
+    small (suc zero) = g
+    small (suc (suc i)) = rest .small i
+
+numbers-pairs : (n : ℕ) (f g : ℕ → ℕ) (k : ℕ) → ((i : ℕ) → f i < k) → ((i : ℕ) → g i < k) → Numbers (joined n (λ d. f d ∷ g d ∷ [])) (2 * n) k
+numbers-pairs n f g k h l =
+    let pair : ℕ → List ℕ = λ d. f d ∷ g d ∷ [] in
+    let two : (d : ℕ) → Numbers (pair d) 2 k = λ d. numbers-two (f d) (g d) [] 0 k (h d) (l d) (record { long = refl; small = λ i. omega (arith, h d) }) in
+    let long : length (joined n pair) ≡ 2 * n = length-joined 2 pair n (λ d j. refl) in
+    record {
+      long = long;
+      small = λ i. dite (decLt i (2 * n))
+          (λ m. let e : i ≡ 2 * (i / 2) + i % 2 = omega arith in
+          rw (ap (at (joined n pair)) e ∙ getD-joined 2 pair n (λ d j. refl) (i / 2) (i % 2) 0 (omega arith) (omega arith)) (two (i / 2) .small (i % 2)))
+          (λ m. rw (List·getD-eq-default (joined n pair) 0 {n = i} (omega (arith, long))) (omega (arith, h 0)));
+    }
 
 numbers-column : (n : ℕ) (f : ℕ → ℕ) (k : ℕ) → 0 < k → ((i : ℕ) → f i < k) → Numbers (column n f) 32 k
 unfolding column
@@ -64,7 +77,8 @@ module _ (file : List ℕ) (small : Bytes file) where
       let row : (d : ℕ) → Bytes (deviceBlock file d) = λ d. block-bytes file (1 + d) small in
       record {
         events = number-small (block file 0) 6 4 head;
-        loads = numbers-two _ _ 65536 (number-small (block file 0) 4 2 head) (number-small (block file 0) 2 2 head);
+        loads = numbers-two _ _ _ 64 65536 (number-small (block file 0) 4 2 head) (number-small (block file 0) 2 2 head)
+            (numbers-pairs 32 _ _ 65536 (λ k. number-small (block file 0) (18 + 4 * k) 2 head) (λ k. number-small (block file 0) (16 + 4 * k) 2 head));
         role = numbers-column _ _ 256 (omega arith) (λ d. row d 2);
         ports = numbers-column _ _ 256 (omega arith) (λ d. row d 3);
         source = numbers-column _ _ 4294967296 (omega arith) (λ d. number-small (deviceBlock file d) 4 4 (row d));

@@ -8,8 +8,8 @@ use native.Mathlib.Omega.{arith}
 use lib.ListN.{length, getD}
 use Rattle.lists.specs.Table.{joined}
 use Rattle.plan.specs.Block.{block, numberIn, restZero, checked, kindField}
-use Rattle.plan.specs.Fields.{devicesFit, loadsFit, masterFits, numberField, deviceFields, roleIn, portsIn, sourceIn, handlerIn, portsFit, masksFit, masterIsNode, entryFits, barIn, barFits, deviceFits, joins, sourcesFit}
-use Rattle.plan.specs.Header.{headerFields, headerIn, headerFits}
+use Rattle.plan.specs.Fields.{devicesFit, loadsFit, pairFits, masterFits, numberField, deviceFields, roleIn, portsIn, sourceIn, handlerIn, portsFit, masksFit, masterIsNode, entryFits, barIn, barFits, deviceFits, joins, sourcesFit}
+use Rattle.plan.specs.Header.{headerFields, headerIn, pairAt, headerFits}
 use Rattle.plan.specs.Refusals.{Test, test, accepts, lengthFits, headerTests, deviceTests, joinTests, deviceBlock, countIn, masterIn, eventsIn, sourceOf, portsOf, peerOf, tests, verdict}
 use Rattle.plan.specs.declared.Header.{Header}
 use Rattle.lists.proofs.Facts.{facts}
@@ -49,7 +49,8 @@ devices-fit n e = simp facts at e
 -- the rules of block 0
 pub header-says : (h : Header) → headerFits h ≡ true
     → (devicesFit (h .devices) ≡ true) × (loadsFit (getD (h .loads) 1 0) (getD (h .loads) 0 0) ≡ true) × (masterFits (h .devices) (h .master) ≡ true)
-header-says h e = let f = simp facts at e in (search, search, search)
+    × ((k : ℕ) → k < 32 → pairFits (getD (h .loads) (pairAt k 1) 0) (getD (h .loads) (pairAt k 0) 0) ≡ true)
+header-says h e = let f = simp facts at e in (search, search, search, f .1)
 
 -- the master is one of the devices, if there is one
 pub master-fits : (n master : ℕ) → masterFits n master ≡ true → master ≤ n

@@ -7,6 +7,7 @@ pub mod Entries
 pub mod Firsts
 pub mod Good
 pub mod Holdings
+pub mod Loads
 pub mod Match
 pub mod Owned
 pub mod Peers

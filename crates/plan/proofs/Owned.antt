@@ -46,7 +46,7 @@ owned plan vs is =
     let long : length (plan .peers) ≡ 32 = peers .1 .0 .1 in
     record {
       events = core .1 .1 .0 .1;
-      loads = field w16 2 (c .loads) _ (core .1 .1 .1 .0);
+      loads = field w16 66 (c .loads) _ (core .1 .1 .1 .0);
       role = field w8 32 (c .role) _ (core .1 .1 .1 .1 .0);
       ports = field w8 32 (c .ports) _ (core .1 .1 .1 .1 .1 .0);
       source = field w32 32 (c .source) _ (core .1 .1 .1 .1 .1 .1 .0);

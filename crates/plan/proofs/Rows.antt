@@ -7,18 +7,19 @@ use native.Mathlib.Omega.{arith}
 use lib.Dec.{eqb, ltb}
 use lib.ListN.{length}
 use borrow.Author.Tests.{lt-ltb, le-ltb, eqb-true}
-use Rattle.lists.specs.Table.{table, joined}
-use Rattle.lists.proofs.Tables.{is-table}
+use Rattle.lists.specs.Table.{joined}
+use Rattle.lists.proofs.Tables.{same-joined}
 use Rattle.plan.specs.Block.{byte}
 use Rattle.plan.specs.Fields.{devicesFit, masterFits, deviceFields, roleIn, portsIn, sourceIn, handlerIn, entryFields, entry, barIn, barFits, nobody, peerNumber}
-use Rattle.plan.specs.Header.{headerFields, headerIn, headerOf, headerFits}
+use Rattle.plan.specs.Header.{headerFields, headerIn, headerOf, pairIn, pairAt, headerFits}
 use Rattle.plan.specs.declared.Core.{Core}
 use Rattle.plan.specs.declared.Header.{Header}
 use Rattle.plan.specs.inner.Memory.{at, peerAt, deviceRight, rowRight}
-use Rattle.plan.specs.inner.File.{Holding, holdings, blockOf, headerHoldings, entryNumbers, ownHoldings, barHoldings, deviceHoldings}
+use Rattle.plan.specs.inner.File.{Holding, holdings, blockOf, commonHoldings, pairHoldings, headerHoldings, entryNumbers, ownHoldings, barHoldings, deviceHoldings}
 use Rattle.lists.proofs.Facts.{facts}
 use Rattle.lists.proofs.Tests.{or-right}
 use Rattle.plan.proofs.Shape.{Numbers}
+use Rattle.plan.proofs.Loads.{pair-at, as-pairs}
 use Rattle.plan.proofs.Good.{GoodHeader, GoodDevice}
 use Rattle.plan.proofs.Bytes.{Bytes}
 use Rattle.plan.proofs.Holdings.{fieldsOf, Ascends, ascending, Holds, Fit, all-append, all-parts, all-joined, all-at, made-checked, made-rest, made-holds, is-made}
@@ -26,41 +27,65 @@ use Rattle.plan.proofs.Entries.{Port, nowhere, entry-port, port-entry, 
 
 -- ---- block 0
 
-header-ascends : Ascends 0 headerFields
-header-ascends = ascending 0 headerFields refl
+header-fields : (h : Header) → fieldsOf (headerHoldings h) ≡ headerFields
+unfolding headerHoldings headerFields joined
+header-fields h = refl
 
-two-loads : (l : List ℕ) → length l ≡ 2 → l ≡ at l 0 ∷ at l 1 ∷ []
-unfolding table
-two-loads l e = is-table 2 (at l) l 0 e (λ i h. refl)
+header-ascends : (h : Header) → Ascends 0 (fieldsOf (headerHoldings h))
+unfolding headerFields joined
+header-ascends h = rw (header-fields h) (ascending 0 headerFields refl)
 
 module _ (core : Core) where
-  -- the block that is written of the plan
-  module _ (events : core .events < 4294967296) (loads : Numbers (core .loads) 2 65536) (fits : headerFits (headerOf core) ≡ true) (s : List ℕ) (e : s ≡ blockOf (headerHoldings (headerOf core))) where
-    header-fit : Fit (headerHoldings (headerOf core))
-    unfolding devicesFit masterFits
-    header-fit = let f = simp facts at fits in omega (arith, loads .small 0, loads .small 1)
+  abbrev pairs : ℕ → List Holding
+  pairs = pairHoldings (core .loads)
 
-    header-holds : Holds s (headerHoldings (headerOf core))
-    header-holds = subst (λ t. Holds t (headerHoldings (headerOf core))) (sym e) (made-holds (headerHoldings (headerOf core)) header-ascends header-fit)
+  -- the block that is written of the plan
+  module _ (events : core .events < 4294967296) (loads : Numbers (core .loads) 66 65536) (fits : headerFits (headerOf core) ≡ true) (s : List ℕ) (e : s ≡ blockOf (headerHoldings (headerOf core))) where
+    common-fit : Fit (commonHoldings (headerOf core))
+    unfolding devicesFit masterFits
+    common-fit = let f = simp facts at fits in omega (arith, loads .small 0, loads .small 1)
+
+    header-fit : Fit (headerHoldings (headerOf core))
+    unfolding headerHoldings
+    header-fit =
+        all-append _ (commonHoldings (headerOf core)) (joined 32 pairs) common-fit
+        (all-joined _ pairs 32 (λ k l. (loads .small (pairAt k 1), (loads .small (pairAt k 0), tt))))
+
+    header-holds : Holds s (commonHoldings (headerOf core)) × Holds s (joined 32 pairs)
+    unfolding headerHoldings
+    header-holds =
+        all-parts _ (commonHoldings (headerOf core)) (joined 32 pairs)
+        (subst (λ t. Holds t (headerHoldings (headerOf core))) (sym e) (made-holds (headerHoldings (headerOf core)) (header-ascends (headerOf core)) header-fit))
+
+    written-pairs : joined 32 (λ k. at (core .loads) (pairAt k 0) ∷ at (core .loads) (pairAt k 1) ∷ []) ≡ joined 32 (pairIn s)
+    written-pairs =
+        same-joined 32 _ _ (λ k l.
+        let h = all-at _ pairs 32 (header-holds .1) k l in
+        ap₂ (λ (a b : ℕ). a ∷ b ∷ []) (sym (h .1 .0)) (sym (h .0)))
 
     pub written-header : headerOf core ≡ headerIn s
-    written-header = let h = header-holds in cc (two-loads (core .loads) (loads .long))
+    written-header = let h = header-holds .0 in cc (as-pairs (core .loads) (loads .long), written-pairs)
 
     pub good-header : GoodHeader s
     good-header =
         record {
           check = rw e (made-checked (headerHoldings (headerOf core)));
-          mark = header-holds .0;
+          mark = header-holds .0 .0;
           fits = subst (λ (h : Header). headerFits h ≡ true) written-header fits;
-          zeros = rw e (made-rest (headerHoldings (headerOf core)));
+          zeros = rw (e, ← header-fields (headerOf core)) (made-rest (headerHoldings (headerOf core)));
         }
 
   -- a block that was read
   pub read-header : (s : List ℕ) → length s ≡ 512 → Bytes s → headerOf core ≡ headerIn s → GoodHeader s → blockOf (headerHoldings (headerOf core)) ≡ s
+  unfolding headerHoldings
   read-header s e small h g =
       let mark = g .mark in
-      is-made (headerHoldings (headerOf core)) header-ascends s e small
-      (subst (λ (k : Header). Holds s (headerHoldings k)) (sym h) (search)) (g .zeros) (g .check)
+      let pairsOf : ℕ → List Holding = pairHoldings (headerIn s .loads) in
+      is-made (headerHoldings (headerOf core)) (header-ascends (headerOf core)) s e small
+      (subst (λ (k : Header). Holds s (headerHoldings k)) (sym h)
+      (all-append _ (commonHoldings (headerIn s)) (joined 32 pairsOf) (search)
+      (all-joined _ pairsOf 32 (λ k l. (sym (pair-at s k 1 l (omega arith)), (sym (pair-at s k 0 l (omega arith)), tt))))))
+      (rw (header-fields (headerOf core)) (g .zeros)) (g .check)
 
 -- ---- the block of a device
 

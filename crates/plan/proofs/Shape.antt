@@ -13,7 +13,7 @@ pub record Numbers (l : List ℕ) (size bound : ℕ) : Type 0 where
 
 pub record Shaped (plan : Plan) : Type 0 where
   pub events : plan .core .events < 4294967296
-  pub loads : Numbers (plan .core .loads) 2 65536
+  pub loads : Numbers (plan .core .loads) 66 65536
   pub role : Numbers (plan .core .role) 32 256
   pub ports : Numbers (plan .core .ports) 32 256
   pub source : Numbers (plan .core .source) 32 4294967296

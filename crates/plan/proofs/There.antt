@@ -12,8 +12,8 @@ use Rattle.lists.specs.Table.{joined}
 use Rattle.lists.proofs.Tables.{length-joined}
 use Rattle.lists.proofs.Tests.{and-left}
 use Rattle.plan.specs.Block.{block}
-use Rattle.plan.specs.Fields.{loadsFit, joins, sourcesFit}
-use Rattle.plan.specs.Header.{headerIn, headerOf, headerFits}
+use Rattle.plan.specs.Fields.{loadsFit, pairFits, joins, sourcesFit}
+use Rattle.plan.specs.Header.{headerIn, headerOf, pairAt, headerFits}
 use Rattle.plan.specs.Refusals.{deviceBlock, countIn, masterIn}
 use Rattle.plan.specs.Reading.{Accepted}
 use Rattle.plan.specs.declared.Header.{Header}
@@ -33,6 +33,7 @@ use Rattle.plan.proofs.Match.{Match, is-plan, match-joins, match-source
 pub record Right (plan : Plan) : Type 0 where
   pub header : headerFits (headerOf (plan .core)) ≡ true
   pub loads : loadsFit (at (plan .core .loads) 1) (at (plan .core .loads) 0) ≡ true
+  pub pairs : (k : ℕ) → k < 32 → pairFits (at (plan .core .loads) (pairAt k 1)) (at (plan .core .loads) (pairAt k 0)) ≡ true
   pub rows : (d : ℕ) → d < 32 → rowRight (plan .core) (plan .peers) (plan .barred) d ≡ true
   pub joined : (d : ℕ) → d < plan .core .devices → (p : ℕ) → p < 8 → joins (at (plan .core .ports)) (peerAt (plan .peers)) d p ≡ true
   pub sources : sourcesFit (plan .core .events) (at (plan .core .source)) (plan .core .devices) ≡ true
@@ -42,7 +43,8 @@ unfolding right
 right-says plan e =
     let header : headerFits (headerOf (plan .core)) ≡ true = and-left _ _ (and-left _ _ (and-left _ _ e)) in
     let f = simp facts at e in
-    record { header = header; loads = header-says (headerOf (plan .core)) header .1; rows = f .0 .0 .1; joined = f .0 .1; sources = f .1 }
+    let h = header-says (headerOf (plan .core)) header in
+    record { header = header; loads = h .1; pairs = h .3; rows = f .0 .0 .1; joined = f .0 .1; sources = f .1 }
 
 -- ---- the blocks of the file
 

@@ -16,6 +16,10 @@ devicesFit n = leb 1 n && leb n 32
 unfoldable pub loadsFit : ℕ → ℕ → Bool
 loadsFit router node = leb 1 router && leb 1 node && leb router node
 
+-- the loads of an identifier: two zeros, where it takes the common ones, or loads as those have to be
+unfoldable pub pairFits : ℕ → ℕ → Bool
+pairFits router node = (eqb router 0 && eqb node 0) || loadsFit router node
+
 -- the master is one of n devices, as its number plus 1, or there is none, 0
 unfoldable pub masterFits : ℕ → ℕ → Bool
 masterFits n master = leb master n

@@ -1,8 +1,12 @@
 // What the numbers of a plan may be, whether they come from a file or stand in memory.
 ghost use mathlib.Core.Path.{_≡_};
-ghost use Rattle.plan.specs.Fields.{devicesFit, loadsFit, portsFit, masksFit, masterIsNode};
+ghost use Rattle.plan.specs.Fields.{devicesFit, loadsFit, pairFits, portsFit, masksFit, masterIsNode};
 ghost use Rattle.plan.specs.inner.Memory.{freeMasks};
 ghost use Prim.Native.Nat.{_≤_};
+ghost use lib.ListN.{getD};
+ghost use Rattle.lists.specs.Table.{every};
+ghost use Rattle.plan.specs.Header.{pairAt};
+use crate::Loads;
 
 pub fn devices_fit(n: usize) -> bool
     ensures { λ r. ⌜ r ≡ devicesFit n ⌝ }
@@ -23,6 +27,31 @@ pub fn loads_fit(router: usize, node: usize) -> bool
         return false;
     }
     router <= node
+}
+
+// May an identifier have these loads? Two zeros say that it has none of its own.
+fn pair_fits(router: usize, node: usize) -> bool
+    ensures { λ r. ⌜ r ≡ pairFits router node ⌝ }
+{
+    if router == 0 {
+        return node == 0;
+    }
+    loads_fit(router, node)
+}
+
+// May each identifier have its loads?
+pub(crate) fn pairs_fit(loads: &Loads) -> bool
+    ensures { λ r. ⌜ r ≡ every 32 (λ k. pairFits (getD (now (loads .entry)) (pairAt k 1) 0) (getD (now (loads .entry)) (pairAt k 0) 0)) ⌝ }
+{
+    for k in 0..32 {
+        let at = 2 + 2 * k;
+        let node = areas::wide16(loads[at]);
+        let router = areas::wide16(loads[at + 1]);
+        if !pair_fits(router, node) {
+            return false;
+        }
+    }
+    true
 }
 
 // Does the role allow this number of ports?

@@ -18,14 +18,18 @@ pub use held::is_held;
 pub use joins::bad_block;
 pub use sources::sources_fit;
 
+// The loads of timers, in pairs, the node's and then the router's: first the pair that is common to all
+// identifiers, then one for each identifier, of which 0 and 0 say that it takes the common one.
+pub type Loads = [u16; 66];
+
 // The numbers and flat arrays of a plan. The master is a node's number plus 1, or 0 for none. Events
-// are the identifiers that nobody acknowledges. Loads stand by role, the node's first. Permissions
-// stand by port, 8 x device + port. Absent devices and ports have 0 everywhere.
+// are the identifiers that nobody acknowledges. Permissions stand by port, 8 x device + port. Absent
+// devices and ports have 0 everywhere.
 pub struct Core {
     pub devices: usize,
     pub master: u8,
     pub events: u32,
-    pub loads: [u16; 2],
+    pub loads: Loads,
     pub role: [u8; 32],
     pub ports: [u8; 32],
     pub source: [u32; 32],
@@ -38,7 +42,7 @@ pub struct Header {
     pub devices: usize,
     pub master: u8,
     pub events: u32,
-    pub loads: [u16; 2],
+    pub loads: Loads,
 }
 
 // The number for no peer.
@@ -131,7 +135,7 @@ pub fn blank() -> Plan
         devices: 0,
         master: 0,
         events: 0,
-        loads: [0; 2],
+        loads: [0; 66],
     };
     let core = core_with(header, [0; 32], [0; 32], [0; 32], [0; 32], [0; 256]);
     whole(core, [[0; 8]; 32], [0; 512])
@@ -148,5 +152,8 @@ pub fn header_fits(header: Header) -> bool
     if !fields::loads_fit(loads[1] as usize, loads[0] as usize) {
         return false;
     }
-    header.master as usize <= header.devices
+    if header.devices < header.master as usize {
+        return false;
+    }
+    fields::pairs_fit(&loads)
 }

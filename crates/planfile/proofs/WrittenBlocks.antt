@@ -8,9 +8,10 @@ use lib.ListN.{length, take, length-append}
 use lib.Seq.{take-at, take-all, length-take-le}
 use Rattle.lists.specs.Table.{joined}
 use Rattle.plan.specs.Header.{headerOf}
-use Rattle.plan.specs.inner.File.{Holding, filled, cleared, sealed, blockOf, headerHoldings, ownHoldings, entryHoldings, barHoldings, deviceHoldings, fileOf}
+use Rattle.plan.specs.inner.File.{Holding, filled, cleared, sealed, blockOf, commonHoldings, pairHoldings, headerHoldings, ownHoldings, entryHoldings, barHoldings, deviceHoldings, fileOf}
 use Rattle.plan.specs.inner.Memory.{at, peerAt}
 use Rattle.plan.specs.declared.Core.{Core}
+use Rattle.plan.specs.declared.Header.{Header}
 use Rattle.plan.proofs.Holdings.{filled-append, length-made}
 
 abbrev headerBlock : Core → List ℕ
@@ -18,6 +19,14 @@ headerBlock core = blockOf (headerHoldings (headerOf core))
 
 abbrev deviceBlock : Core → List (List ℕ) → List ℕ → ℕ → List ℕ
 deviceBlock core peers barred d = blockOf (deviceHoldings core peers barred d)
+
+-- a block that is cleared, given the numbers of block 0, those of the pairs behind the others, and sealed
+pub header-made : (h : Header) {clean first second after : List ℕ} → clean ≡ cleared → first ≡ filled clean (commonHoldings h)
+    → second ≡ filled first (joined 32 (pairHoldings (h .loads))) → after ≡ sealed second → after ≡ blockOf (headerHoldings h)
+unfolding headerHoldings
+header-made h z p q s =
+    let pairs = joined 32 (pairHoldings (h .loads)) in
+    s ∙ ap sealed (q ∙ ap (λ t. filled t pairs) (p ∙ ap (λ t. filled t (commonHoldings h)) z) ∙ sym (filled-append cleared (commonHoldings h) pairs))
 
 -- a block that is cleared, given a device's own numbers, its entries and what they bar, and sealed
 module _ (core : Core) (peers : List (List ℕ)) (barred : List ℕ) (d : ℕ) where

@@ -44,7 +44,7 @@ sound-fits x = record { size = x .size; fits = x .fits }
 
 -- ---- words that are as they were
 
-timed-same : {s t : State} {d k : ℕ} → Timed s d k → register t d ≡ register s d → timer t d k ≡ timer s d k → Timed t d k
+timed-same : {plan : Plan} {s t : State} {d k : ℕ} → Timed plan s d k → register t d ≡ register s d → timer t d k ≡ timer s d k → Timed plan t d k
 timed-same x r e = record { on = rw (r, e) (x .on); off = rw (r, e) (x .off) }
 
 -- a port, and the flag at its far end
@@ -92,7 +92,7 @@ module _ (plan : Plan) (held : Held plan) {s : State} (x : Sound plan s) where
   -- ---- a step in the words of one device
 
   pub device-step : {t : State} → Fits t → (d : ℕ) → d < devices plan → ((i : ℕ) → (registerAt d ≤ i → i < registerAt d + deviceWords → ⊥) → word t i ≡ word s i)
-      → ((k : ℕ) → k < 32 → Timed t d k) → Sound plan t
+      → ((k : ℕ) → k < 32 → Timed plan t d k) → Sound plan t
   device-step f d h same timed =
       let n = few plan held in
       record {

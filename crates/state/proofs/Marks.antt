@@ -23,7 +23,7 @@ marked-lt kind register k h = marked-cases (λ r. r < 2 ^ 32) kind register k (j
 
 module _ (plan : Plan) (held : Held plan) {s : State} (x : Sound plan s) (d : ℕ) (h : d < devices plan) where
   -- bit k becomes what it is in r, and its timer v
-  pub timer-step : (k r v : ℕ) → k < 32 → r < 2 ^ 32 → ((j : ℕ) → j < 32 → j ≢ k → bit r j ≡ bit (register s d) j) → v ≤ 65535
+  pub timer-step : (k r v : ℕ) → k < 32 → r < 2 ^ 32 → ((j : ℕ) → j < 32 → j ≢ k → bit r j ≡ bit (register s d) j) → v ≤ loadOf plan d k
       → (bit r k ≡ 1 → 1 ≤ v) → (bit r k ≡ 0 → v ≡ 0) → Sound plan (put (put s (registerAt d) r) (timerAt d k) v)
   timer-step k r v l small others fits on off =
       let n = few plan held in
@@ -34,19 +34,19 @@ module _ (plan : Plan) (held : Held plan) {s : State} (x : Sound plan s) (d : �
       λ i a b. word-other t (timerAt d k) v i b ∙ word-other s (registerAt d) r i a in
       let bits : register u d ≡ r = word-other t (timerAt d k) v (registerAt d) (omega arith) ∙ word-same s (registerAt d) r (omega (arith, x .size)) in
       let now : timer u d k ≡ v = word-same t (timerAt d k) v (omega (arith, f .size)) in
-      device-step plan held x (put-fits f (timerAt d k) v (omega arith) (omega arith)) d h
+      device-step plan held x (put-fits f (timerAt d k) v (omega arith) (omega (arith, load-fits plan held d k h .1))) d h
       (λ i o. same i (λ e. o (omega arith) (omega arith)) (λ e. o (omega arith) (omega arith)))
       (λ j m. elim (ℕ-discrete j k) [
         | yes e ↦ rw e (record { on = rw (bits, now) (λ b. (on b, fits)); off = rw (bits, now) off })
         | no ne ↦
-            let old : Timed s d j = x .timers d j h (omega arith) m in
+            let old : Timed plan s d j = x .timers d j h (omega arith) m in
             let left : timer u d j ≡ timer s d j = same (timerAt d j) (omega arith) (omega arith) in
             record { on = rw (bits, left, others j m ne) (old .on); off = rw (bits, left, others j m ne) (old .off) }
       ])
 
   -- ---- a host's call, or a code that is accepted
 
-  marks : (kind k v : ℕ) → kind < 2 → k < 32 → v ≤ 65535 → (kind ≡ 0 → 1 ≤ v) → (kind ≡ 1 → v ≡ 0)
+  marks : (kind k v : ℕ) → kind < 2 → k < 32 → v ≤ loadOf plan d k → (kind ≡ 0 → 1 ≤ v) → (kind ≡ 1 → v ≡ 0)
       → Sound plan (put (put s (registerAt d) (marked kind (register s d) k)) (timerAt d k) v)
   marks kind k v g l fits on off =
       let r = register s d in
@@ -55,7 +55,7 @@ module _ (plan : Plan) (held : Held plan) {s : State} (x : Sound plan s) (d : �
 
   pub mark-step : (kind k : ℕ) → kind < 2 → k < 32 → Sound plan (mark plan kind d k s)
   unfolding mark
-  mark-step zero k g l = let load = load-fits plan held d k h in marks 0 k (loadOf plan d k) g l (load .1) (λ e. load .0) (λ e. absurd (omega arith))
+  mark-step zero k g l = marks 0 k (loadOf plan d k) g l (omega arith) (λ e. load-fits plan held d k h .0) (λ e. absurd (omega arith))
   mark-step (suc zero) k g l = marks 1 k 0 g l (omega arith) (λ e. absurd (omega arith)) (λ e. refl)
   mark-step (suc (suc n)) k g l = absurd (omega arith)
 

@@ -1,7 +1,7 @@
 -- What a held plan says, for the states of its network: how many devices, whose the ports and the masks are, where connections lead, and the loads.
 use mathlib.Core.Path.{_≡_, refl, sym, ap, _∙_}
 use mathlib.Core.Bool.{Bool, true, false, not, _&&_, not-eq-not, false≢true}
-use mathlib.Core.Logic.{_≢_, inl, inr, dite}
+use mathlib.Core.Logic.{_≢_, _⊎_, inl, inr, dite}
 use Prim.Native.Nat.{ℕ, _+_, _*_, _/_, _%_, _≤_, _<_}
 use native.Mathlib.Decide.{decLt, ℕ-discrete}
 use native.Mathlib.Omega.{arith}
@@ -14,7 +14,8 @@ use Rattle.lists.proofs.Tests.{both, and-left, and-right, or-cases}
 use Rattle.bits.specs.Set.{bit}
 use Rattle.bits.proofs.Sets.{bit-two, bit-and, bit-zero}
 use Rattle.plan.specs.Block.{byte}
-use Rattle.plan.specs.Fields.{nobody, loadsFit, portsFit, masksFit, barFits, joins}
+use Rattle.plan.specs.Fields.{nobody, loadsFit, pairFits, portsFit, masksFit, barFits, joins}
+use Rattle.plan.specs.Header.{pairAt}
 use Rattle.plan.specs.Reading.{Held}
 use Rattle.plan.specs.declared.Plan.{Plan}
 use Rattle.plan.specs.inner.Memory.{at, deviceRight, rowRight}
@@ -136,23 +137,65 @@ module _ (plan : Plan) (held : Held plan) where
         | inr z ↦ eqb-true (bars plan kind q) 0 z
       ]
 
+  -- ---- loads
+
+  -- the load that identifier k has of its own for a role
+  abbrev own : ℕ → ℕ → ℕ
+  own k role = at (plan .core .loads) (pairAt k role)
+
+  -- a pair has no load, or two, of which the router's is not the greater
+  pair-says : (k : ℕ) → ((own k 1 ≡ 0) × (own k 0 ≡ 0)) ⊎ ((1 ≤ own k 1) × (own k 1 ≤ own k 0))
+  unfolding pairFits loadsFit
+  pair-says k =
+      dite (decLt k 32)
+      (λ l. elim (or-cases (eqb (own k 1) 0 && eqb (own k 0) 0) _ (says .pairs k l)) [
+        | inl z ↦ inl (simp facts at z)
+        | inr f ↦ let fits = simp facts at f in inr (omega arith, omega arith)
+      ])
+      (λ l.
+      let past : (role : ℕ) → own k role ≡ 0 = λ role. List·getD-eq-default (plan .core .loads) 0 {n = pairAt k role} (omega (arith, held-shaped plan held .loads .long)) in
+      inl (past 1, past 0))
+
+  -- a load is that of the pair, or the common one
+  load-of : (P : ℕ → Type 0) (role k : ℕ) → (1 ≤ own k role → P (own k role)) → (own k role ≡ 0 → P (at (plan .core .loads) role)) → P (loadFor (plan .core .loads) role k)
+  unfolding loadFor
+  load-of P role k some none =
+      elim (ℕ-discrete (own k role) 0) [
+        | yes z ↦ rw (eq-eqb (own k role) 0 z) (none z)
+        | no n ↦ rw (ne-eqb (own k role) 0 n) (some (omega arith))
+      ]
+
   -- a timer is loaded with 1 to 65,535
   pub load-fits : (d k : ℕ) → d < devices plan → (1 ≤ loadOf plan d k) × (loadOf plan d k ≤ 65535)
-  unfolding loadFor loadsFit
+  unfolding loadsFit
   load-fits d k h =
       let loads = simp facts at (says .loads) in
       let small = held-shaped plan held .loads .small in
-      elim (ℕ-discrete (role plan d) 0) [
-        | yes e ↦ rw e (omega (arith, small 0))
-        | no ne ↦ let e : role plan d ≡ 1 = omega (arith, device-says d h .0) in rw e (omega (arith, small 1))
-      ]
+      let fits : (role : ℕ) → role < 2 → 1 ≤ at (plan .core .loads) role = λ role l. elim (ℕ-discrete role 0) [
+        | yes e ↦ rw e (omega arith)
+        | no ne ↦ let e : role ≡ 1 = omega arith in rw e (omega arith)
+      ] in
+      load-of (λ v. (1 ≤ v) × (v ≤ 65535)) (role plan d) k (λ some. (some, omega (arith, small (pairAt k (role plan d)))))
+      (λ none. (fits (role plan d) (device-says d h .0), omega (arith, small (role plan d))))
+
+  router-least : (k : ℕ) → loadFor (plan .core .loads) 1 k ≤ loadFor (plan .core .loads) 0 k
+  unfolding loadsFit
+  router-least k =
+      let loads = simp facts at (says .loads) in
+      load-of (λ v. v ≤ loadFor (plan .core .loads) 0 k) 1 k
+      (λ some. elim (pair-says k) [
+        | inl z ↦ absurd (omega (arith, z .0))
+        | inr two ↦ load-of (λ v. own k 1 ≤ v) 0 k (λ n. two .1) (λ z. absurd (omega (arith, two .0, two .1)))
+      ])
+      (λ none. elim (pair-says k) [
+        | inl z ↦ load-of (λ v. at (plan .core .loads) 1 ≤ v) 0 k (λ n. absurd (omega (arith, z .1))) (λ e. omega arith)
+        | inr two ↦ absurd (omega (arith, two .0))
+      ])
 
   -- no device loads it with more than a node does
   pub load-most : (d e k : ℕ) → d < devices plan → role plan e ≡ 0 → loadOf plan d k ≤ loadOf plan e k
-  unfolding loadFor loadsFit
   load-most d e k h node =
-      let loads = simp facts at (says .loads) in
       elim (ℕ-discrete (role plan d) 0) [
         | yes z ↦ rw (z, node) (omega arith)
-        | no ne ↦ let z : role plan d ≡ 1 = omega (arith, device-says d h .0) in rw (z, node) (omega arith)
+        | no ne ↦ let z : role plan d ≡ 1 = omega (arith, device-says d h .0) in rw (z, node) (router-least k)
       ]

@@ -16,7 +16,7 @@ use Rattle.plan.specs.inner.Memory.{freeMasks}
 use Rattle.plan.specs.declared.Plan.{Plan}
 use Rattle.lists.proofs.Facts.{facts}
 use Rattle.state.specs.State.{State, word, deviceWords, portsAt, portAt, register, timer, waiting, running, counter, time, timeWaits, dropsStart, dropsAt, drops, mostDrops}
-use Rattle.state.specs.Network.{devices, role, portsOf, exists, peer, permissions, guards}
+use Rattle.state.specs.Network.{devices, role, portsOf, exists, peer, permissions, guards, loadOf}
 use Rattle.state.specs.Sound.{Timed, Kept, Clocked, Guarded, Sound}
 use Rattle.state.proofs.Keeping.{both-kinds}
 use Rattle.state.specs.inner.Tests.{timerSound, deviceTimed, allTimed, zerosIn, restZero, flagSound, mayWait, waitingSound, portKept, portZero, portSound, portsSound, counterSound, countersSound, timeKept, timeSound, timesSound, countSound, countsSound, ownCounts, dropsSound, sounds}
@@ -27,12 +27,12 @@ is-true false h = absurd (h refl)
 
 -- ---- one timer
 
-module _ (on t : ℕ) where
-  timer-says : timerSound on t ≡ true → (on ≡ 1 → (1 ≤ t) × (t ≤ 65535)) × (on ≡ 0 → t ≡ 0)
+module _ (on t load : ℕ) where
+  timer-says : timerSound on t load ≡ true → (on ≡ 1 → (1 ≤ t) × (t ≤ load)) × (on ≡ 0 → t ≡ 0)
   unfolding timerSound
   timer-says e = (λ b. simp facts at (rw b at e), λ b. simp facts at (rw b at e))
 
-  timer-test : on < 2 → (on ≡ 1 → (1 ≤ t) × (t ≤ 65535)) → (on ≡ 0 → t ≡ 0) → timerSound on t ≡ true
+  timer-test : on < 2 → (on ≡ 1 → (1 ≤ t) × (t ≤ load)) → (on ≡ 0 → t ≡ 0) → timerSound on t load ≡ true
   unfolding timerSound
   timer-test two p q =
       elim (ℕ-discrete on 1) [
@@ -131,17 +131,16 @@ module _ (plan : Plan) (s : State) where
 
   -- ---- the state
 
-  timed : allTimed (devices plan) s ≡ true → (d k : ℕ) → d < devices plan → d < 32 → k < 32 → Timed s d k
+  timed : allTimed (devices plan) (plan .core .loads) (plan .core .role) s ≡ true → (d k : ℕ) → d < devices plan → d < 32 → k < 32 → Timed plan s d k
   unfolding allTimed deviceTimed
-  timed e d k h g l =
-      let f = timer-says _ _ (every-at 32 _ (every-at (min (devices plan) 32) (deviceTimed s) e d (omega arith)) k l) in record { on = f .0; off = f .1 }
+  timed e d k h g l = let f = timer-says _ _ _ (every-at 32 _ (every-at (min (devices plan) 32) _ e d (omega arith)) k l) in record { on = f .0; off = f .1 }
 
-  timed-test : ((d k : ℕ) → d < devices plan → d < 32 → k < 32 → Timed s d k) → allTimed (devices plan) s ≡ true
+  timed-test : ((d k : ℕ) → d < devices plan → d < 32 → k < 32 → Timed plan s d k) → allTimed (devices plan) (plan .core .loads) (plan .core .role) s ≡ true
   unfolding allTimed deviceTimed
   timed-test h =
-      every-all _ (deviceTimed s) (λ d l. every-all 32 _ (λ k g.
+      every-all _ _ (λ d l. every-all 32 _ (λ k g.
       let t = h d k (omega arith) (omega arith) g in
-      timer-test (bit (register s d) k) (timer s d k) (bit-two (register s d) k) (t .on) (t .off)))
+      timer-test (bit (register s d) k) (timer s d k) (loadOf plan d k) (bit-two (register s d) k) (t .on) (t .off)))
 
   zeros-say : (from to : ℕ) → zerosIn from to s ≡ true → (i : ℕ) → from ≤ i → i < to → word s i ≡ 0
   unfolding zerosIn

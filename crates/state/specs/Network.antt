@@ -1,18 +1,19 @@
 -- RULES, "Plan file": what a plan says of its devices and ports. Port p of device d is q = 8 x d + p.
-use mathlib.Core.Bool.{Bool, _&&_}
+use mathlib.Core.Bool.{Bool, cond, _&&_}
 use mathlib.Core.List.{List, []}
 use Prim.Native.Nat.{ℕ, _+_, _*_, _/_, _%_}
 use lib.Dec.{eqb, ltb}
 use lib.ListN.{getD}
+use Rattle.plan.specs.Header.{pairAt}
 use Rattle.plan.specs.declared.Plan.{Plan}
 
 -- the port at the other end of port q, or nobody
 abbrev pub peerIn : List (List ℕ) → ℕ → ℕ
 peerIn peers q = getD (getD peers (q / 8) []) (q % 8) 0
 
--- what the timer of identifier k is loaded with at a device of a role
+-- what the timer of identifier k is loaded with at a device of a role: the load that k has of its own, or, where that is 0, the common one
 unfoldable pub loadFor : List ℕ → ℕ → ℕ → ℕ
-loadFor loads role k = getD loads role 0
+loadFor loads role k = let own = getD loads (pairAt k role) 0 in cond (eqb own 0) (getD loads role 0) own
 
 module _ (plan : Plan) where
   abbrev pub devices : ℕ

@@ -12,11 +12,11 @@ use Rattle.plan.specs.Fields.{nobody}
 use Rattle.plan.specs.Reading.{Held}
 use Rattle.plan.specs.declared.Plan.{Plan}
 use Rattle.state.specs.State.{State, words, word, deviceWords, portWords, register, timer, waiting, next, running, portAt, counter, time, timeWaits, drops, mostDrops}
-use Rattle.state.specs.Network.{devices, exists, peer, permissions, guards}
+use Rattle.state.specs.Network.{devices, exists, peer, permissions, guards, loadOf}
 
--- a timer runs where its bit is 1, within 65,535, and is 0 where it is 0
-pub record Timed (s : State) (d k : ℕ) : Type 0 where
-  pub on : bit (register s d) k ≡ 1 → (1 ≤ timer s d k) × (timer s d k ≤ 65535)
+-- a timer runs where its bit is 1, and is no greater than its load; where the bit is 0 it is 0
+pub record Timed (plan : Plan) (s : State) (d k : ℕ) : Type 0 where
+  pub on : bit (register s d) k ≡ 1 → (1 ≤ timer s d k) × (timer s d k ≤ loadOf plan d k)
   pub off : bit (register s d) k ≡ 0 → timer s d k ≡ 0
 
 -- an existing port
@@ -47,7 +47,7 @@ pub record Guarded (plan : Plan) (s : State) : Type 0 where
 pub record Sound (plan : Plan) (s : State) : Type 0 where
   pub size : length s ≡ words
   pub fits : (i : ℕ) → word s i < 2 ^ 32
-  pub timers : (d k : ℕ) → d < devices plan → d < 32 → k < 32 → Timed s d k
+  pub timers : (d k : ℕ) → d < devices plan → d < 32 → k < 32 → Timed plan s d k
   pub ports : (q : ℕ) → q < 256 → exists plan q ≡ true → Kept plan s q
   -- what belongs to no device and no port of the plan is 0
   pub no-device : (d i : ℕ) → devices plan ≤ d → d < 32 → i < deviceWords → word s (deviceWords * d + i) ≡ 0

@@ -1,9 +1,11 @@
 // The state of a network: where its words stand, whether it is sound, the one that every run starts
 // from, and how a code is queued at a port.
 ghost use mathlib.Core.Path.{_≡_};
+ghost use lib.ListN.{getD};
 ghost use Rattle.answers.specs.Decides.{Decides};
 ghost use Rattle.state.specs.Network.{loadFor};
 ghost use Rattle.state.specs.State.{BothFit};
+use plan::Loads;
 
 mod first;
 mod port;
@@ -60,13 +62,24 @@ pub fn both_fit(state: usize, second: usize) -> bool
     second == WORDS
 }
 
-// What the timer of identifier k is loaded with at a device of the role; there is no other role than
-// these two, and for another it would be 0.
-pub fn load_for(loads: [u16; 2], role: u8, k: u32) -> u32
-    ensures { λ r. ⌜ r ≡ loadFor loads role k ⌝ }
+// What the timer of identifier k is loaded with at a device of the role, 0 or 1: the load of its own
+// pair, or the common one where that is 0.
+pub fn load_for(loads: &Loads, role: u8, k: u32) -> u32
+    ensures { λ r. ⌜ r ≡ loadFor (now (loads .entry)) role k ⌝ }
 {
-    if role < 2 {
-        return loads[role as usize] as u32;
+    let own = load_at(loads, 2 + (2 * k as usize + role as usize));
+    if own != 0 {
+        return own;
+    }
+    load_at(loads, role as usize)
+}
+
+// Load i of a plan; past the end it is 0.
+fn load_at(loads: &[u16], i: usize) -> u32
+    ensures { λ r. ⌜ r ≡ getD (now (loads .entry)) i 0 ⌝ }
+{
+    if i < loads.len() {
+        return areas::wide16(loads[i]) as u32;
     }
     0
 }

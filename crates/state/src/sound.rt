@@ -19,6 +19,7 @@ use crate::PORTS;
 use crate::RUNNING;
 use crate::TIMES;
 use crate::WORDS;
+use plan::Loads;
 use plan::Plan;
 
 // Is the state, of any length, sound for the plan?
@@ -29,7 +30,8 @@ pub fn is_sound(plan: Plan, state: &[u32]) -> bool
         return false;
     }
     let core = plan.core;
-    if !all_timed(core.devices, state) {
+    let loads = core.loads;
+    if !all_timed(core.devices, &loads, &core.role, state) {
         return false;
     }
     if !rest_zero(core.devices, state) {
@@ -81,16 +83,16 @@ fn inside(state: &[u32], i: usize) -> u32
     state[i]
 }
 
-// Are the timers of n devices sound? A state has room for 32.
-fn all_timed(n: usize, state: &[u32]) -> bool
+// Are the timers of n devices sound, whose roles these are? A state has room for 32.
+fn all_timed(n: usize, loads: &Loads, roles: &[u8; 32], state: &[u32]) -> bool
     requires { ⌜ length (now state) ≡ words ⌝ }
-    ensures { λ r. ⌜ r ≡ allTimed n (now (state .entry)) ⌝ }
+    ensures { λ r. ⌜ r ≡ allTimed n (now (loads .entry)) (now (roles .entry)) (now (state .entry)) ⌝ }
 {
     for d in 0..32 {
         if n <= d {
             return true;
         }
-        if !device_timed(state, d) {
+        if !device_timed(loads, roles[d], state, d) {
             return false;
         }
     }
@@ -98,9 +100,9 @@ fn all_timed(n: usize, state: &[u32]) -> bool
 }
 
 // Are the timers of device d sound? Where it holds nothing all are 0, which is asked of them at once.
-fn device_timed(state: &[u32], d: usize) -> bool
+fn device_timed(loads: &Loads, role: u8, state: &[u32], d: usize) -> bool
     requires { ⌜ (length (now state) ≡ words) × (d < 32) ⌝ }
-    ensures { λ r. ⌜ r ≡ deviceTimed (now (state .entry)) d ⌝ }
+    ensures { λ r. ⌜ r ≡ deviceTimed (now (loads .entry)) role (now (state .entry)) d ⌝ }
 {
     let register = inside(state, DEVICE * d);
     if register == 0 {
@@ -112,6 +114,7 @@ fn device_timed(state: &[u32], d: usize) -> bool
         if !timer_sound(
             bits::get(register, k as u32),
             inside(state, DEVICE * d + 1 + k),
+            crate::load_for(loads, role, k as u32),
         ) {
             return false;
         }
@@ -119,15 +122,15 @@ fn device_timed(state: &[u32], d: usize) -> bool
     true
 }
 
-// Does the timer run, within 65,535, where the bit is 1, and is it 0 where the bit is 0?
-fn timer_sound(on: u32, timer: u32) -> bool
-    ensures { λ r. ⌜ r ≡ timerSound on timer ⌝ }
+// Does the timer run, within its load, where the bit is 1, and is it 0 where the bit is 0?
+fn timer_sound(on: u32, timer: u32, load: u32) -> bool
+    ensures { λ r. ⌜ r ≡ timerSound on timer load ⌝ }
 {
     if on == 1 {
         if timer < 1 {
             return false;
         }
-        return timer <= 65535;
+        return timer <= load;
     }
     timer == 0
 }

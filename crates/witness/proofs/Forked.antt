@@ -18,7 +18,7 @@ use Rattle.bits.proofs.Sets.{bit-two}
 use Rattle.codes.specs.Codes.{reads}
 use Rattle.device.specs.Permissions.{maySend, mayReceive}
 use Rattle.device.specs.Reaction.{marked, isUsed, barsOf, ruled, counted, reactsTo, reacts}
-use Rattle.plan.specs.Fields.{nobody, devicesFit, loadsFit, masterFits, portsFit, masksFit, masterIsNode, barFits, joins, sourcesFit, shareEvents}
+use Rattle.plan.specs.Fields.{nobody, devicesFit, loadsFit, pairFits, masterFits, portsFit, masksFit, masterIsNode, barFits, joins, sourcesFit, shareEvents}
 use Rattle.plan.specs.Reading.{Held}
 use Rattle.plan.specs.inner.Memory.{portRight, deviceRight, rowRight, right}
 use Rattle.plan.specs.declared.Plan.{Plan}
@@ -46,7 +46,7 @@ use Rattle.assurance.proofs.Cycle.{sooner, lost-back, one-cycle}
 use Rattle.witness.specs.Fork.{fork, asking, answering, left, Unasked}
 
 fork-held : (joined : Bool) → Held (fork joined)
-unfolding fork right rowRight deviceRight portRight every devicesFit loadsFit masterFits portsFit masksFit masterIsNode barFits joins sourcesFit shareEvents
+unfolding fork right rowRight deviceRight portRight every devicesFit loadsFit pairFits masterFits portsFit masksFit masterIsNode barFits joins sourcesFit shareEvents
 fork-held true = tested-held (fork true) refl refl
 fork-held false = tested-held (fork false) refl refl
 

@@ -14,7 +14,7 @@ use Rattle.bits.specs.Set.{bit, join, leave}
 use Rattle.bits.specs.First.{searched, firstFrom, following}
 use Rattle.device.specs.Permissions.{maySend, mayReceive}
 use Rattle.device.specs.Reaction.{marked, isUsed}
-use Rattle.plan.specs.Fields.{nobody, devicesFit, loadsFit, masterFits, portsFit, masksFit, masterIsNode, barFits, joins, sourcesFit, shareEvents}
+use Rattle.plan.specs.Fields.{nobody, devicesFit, loadsFit, pairFits, masterFits, portsFit, masksFit, masterIsNode, barFits, joins, sourcesFit, shareEvents}
 use Rattle.plan.specs.Reading.{Held}
 use Rattle.plan.specs.inner.Memory.{portRight, deviceRight, rowRight, right}
 use Rattle.state.specs.State.{State, word, put, register, drops, stateOf}
@@ -38,7 +38,7 @@ abbrev first : State
 first = started guarded
 
 guarded-held : Held guarded
-unfolding guarded line right rowRight deviceRight portRight every devicesFit loadsFit masterFits portsFit masksFit masterIsNode barFits joins sourcesFit shareEvents
+unfolding guarded line right rowRight deviceRight portRight every devicesFit loadsFit pairFits masterFits portsFit masksFit masterIsNode barFits joins sourcesFit shareEvents
 guarded-held = tested-held guarded refl refl
 
 -- ---- node 0 is fenced in

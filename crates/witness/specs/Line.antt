@@ -1,5 +1,5 @@
 -- No rules: three plans, states and courses for which the demands are worked out.
-use mathlib.Core.List.{[], _∷_, _++_}
+use mathlib.Core.List.{List, [], _∷_, _++_}
 use Prim.Native.Nat.{ℕ, _-_, _^_}
 use lib.ListN.{replicate}
 use Rattle.lists.specs.Loop.{upTo}
@@ -11,6 +11,10 @@ use Rattle.calls.specs.Calls.{called, advanced}
 use Rattle.bench.specs.Settling.{rounds}
 use Rattle.assurance.specs.Ticking.{ticking}
 
+-- identifier 31 has loads of its own, 300 in routers and 400 in nodes; the common ones are 1
+abbrev pub own : List ℕ
+own = (1 ∷ 1 ∷ replicate 62 0) ++ (400 ∷ 300 ∷ [])
+
 -- node 0, source of every identifier and master, at router 1, and at that node 2, handler of every identifier
 unfoldable pub line : Plan
 line =
@@ -20,7 +24,7 @@ line =
             devices = 3;
             master = 1;
             events = 0;
-            loads = 400 ∷ 300 ∷ [];
+            loads = own;
             role = 0 ∷ 1 ∷ replicate 30 0;
             ports = 1 ∷ 2 ∷ 1 ∷ replicate 29 0;
             source = (2 ^ 32 - 1) ∷ replicate 31 0;
@@ -44,7 +48,7 @@ deaf =
             devices = 2;
             master = 1;
             events = 0;
-            loads = 400 ∷ 300 ∷ [];
+            loads = own;
             role = 0 ∷ 1 ∷ replicate 30 0;
             ports = 1 ∷ 1 ∷ replicate 30 0;
             source = (2 ^ 32 - 1) ∷ replicate 31 0;
@@ -64,7 +68,7 @@ pair =
             devices = 2;
             master = 1;
             events = 2 ^ 32 - 1;
-            loads = 400 ∷ 300 ∷ [];
+            loads = own;
             role = replicate 32 0;
             ports = 1 ∷ 1 ∷ replicate 30 0;
             source = (2 ^ 32 - 1) ∷ replicate 31 0;

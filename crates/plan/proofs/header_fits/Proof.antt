@@ -1,6 +1,7 @@
 -- `plan::header_fits` meets its contract: each rule by its test. Assumes nothing.
 use borrow.Author.Needs.{needs}
-use Rattle.lists.proofs.Turns.{failed, passed}
+use borrow.Author.Tests.{lt-leb, le-leb}
+use Rattle.lists.proofs.Turns.{failed, passed, fourth}
 use Rattle.plan.specs.Fields.{masterFits}
 use Rattle.plan.proofs.header_fits.Statement.{statement}
 use Rattle.plan.proofs.header_fits.Tie as tie
@@ -14,14 +15,25 @@ returns-2 c = simp (passed (c .before .before .before .before .devices-fit .ensu
 returns-3 : tie.Need-returns-3
 unfolding masterFits
 returns-3 c =
-    let l = c .before .before in
-    simp (passed (l .before .before .before .before .devices-fit .ensures) (l .before .before .before .if1 .left), passed (l .before .loads-fit .ensures) (l .if2 .left))
+    let l = c .before .before .before in
+    simp (passed (l .before .before .before .before .devices-fit .ensures) (l .before .before .before .if1 .left), passed (l .before .loads-fit .ensures) (l .if2 .left), lt-leb _ _ (c .if3 .taken))
+
+returns-4 : tie.Need-returns-4
+unfolding masterFits
+returns-4 c =
+    let m = c .before .before in
+    let l = m .before .before .before in
+    simp (passed (l .before .before .before .before .devices-fit .ensures) (l .before .before .before .if1 .left), passed (l .before .loads-fit .ensures) (l .if2 .left), le-leb _ _ (m .if3 .left))
+    (c .pairs-fit .ensures)
 
 devices-fit-requires : tie.Need-devices-fit-requires
 devices-fit-requires c κs = search needs
 
 loads-fit-requires : tie.Need-loads-fit-requires
 loads-fit-requires c κs = search needs
+
+pairs-fit-requires : tie.Need-pairs-fit-requires
+pairs-fit-requires c κs = search needs
 
 pub header-fits-spec : {M : Type 1} → statement M
 header-fits-spec =
@@ -36,4 +48,6 @@ header-fits-spec =
     loads-fit-requires
     returns-2
     (λ c. search needs)
-    returns-3)
+    returns-3
+    pairs-fit-requires
+    returns-4)

@@ -8,7 +8,7 @@ use lib.ListN.{set}
 use Rattle.lists.specs.Table.{table, joined}
 use Rattle.plan.specs.Block.{Field, check, checkField}
 use Rattle.plan.specs.Fields.{entryFields, ownFields, barField, nobody}
-use Rattle.plan.specs.Header.{headerFields, headerOf, headerNumbers}
+use Rattle.plan.specs.Header.{commonFields, pairFields, headerOf, commonNumbers, pairNumbers}
 use Rattle.plan.specs.declared.Core.{Core}
 use Rattle.plan.specs.declared.Header.{Header}
 use Rattle.plan.specs.declared.Plan.{Plan}
@@ -48,8 +48,15 @@ sealed s = putNumber s (checkField .place) (checkField .width) (check s)
 abbrev pub blockOf : List Holding → List ℕ
 blockOf hs = sealed (filled cleared hs)
 
-abbrev pub headerHoldings : Header → List Holding
-headerHoldings h = holdings headerFields (headerNumbers h)
+-- block 0: what it holds but for the pairs, and the pairs
+abbrev pub commonHoldings : Header → List Holding
+commonHoldings h = holdings commonFields (commonNumbers h)
+
+abbrev pub pairHoldings : List ℕ → ℕ → List Holding
+pairHoldings loads k = holdings (pairFields k) (pairNumbers loads k)
+
+unfoldable pub headerHoldings : Header → List Holding
+headerHoldings h = commonHoldings h ++ joined 32 (pairHoldings (h .loads))
 
 -- the entry of a port
 abbrev pub entryNumbers : ℕ → ℕ → List ℕ

@@ -1,6 +1,6 @@
-use mathlib.Core.Path.{sym}
-use native.Mathlib.Omega.{arith}
-use lib.ListN.{List·getD-eq-default}
+-- `state::load_for` meets its contract: the pair is asked first, and the common loads where it is 0. Assumes nothing.
+use mathlib.Core.Path.{sym, _∙_}
+use borrow.Author.Tests.{eq-eqb, ne-eqb}
 use borrow.Author.Needs.{needs}
 use Rattle.state.specs.Network.{loadFor}
 use Rattle.state.proofs.load_for.Statement.{statement}
@@ -8,11 +8,26 @@ use Rattle.state.proofs.load_for.Tie as tie
 
 returns : tie.Need-returns
 unfolding loadFor
-returns c = search needs
+returns c = rw (← c .before .load-at .ensures, ne-eqb _ _ (c .if1 .taken))
 
 returns-2 : tie.Need-returns-2
 unfolding loadFor
-returns-2 c = sym (List·getD-eq-default (c .before .args .t1) 0 (omega arith))
+returns-2 c = rw (← c .before .before .before .load-at .ensures, eq-eqb _ _ (c .before .before .if1 .left)) (c .load-at2 .ensures)
+
+load-at-requires : tie.Need-load-at-requires
+load-at-requires c κs = search needs
+
+load-at-requires-2 : tie.Need-load-at-requires-2
+load-at-requires-2 c κs = search needs
 
 pub load-for-spec : {M : Type 1} → statement M
-load-for-spec = tie.close (tie.spec (λ c. search needs) (λ c. search needs) (λ c. search needs) returns returns-2)
+load-for-spec =
+    tie.close
+    (tie.spec
+    (λ c. search needs)
+    (λ c. search needs)
+    (λ c. search needs)
+    load-at-requires
+    returns
+    load-at-requires-2
+    returns-2)

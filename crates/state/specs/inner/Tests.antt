@@ -12,17 +12,19 @@ use Rattle.plan.specs.Fields.{nobody}
 use Rattle.plan.specs.inner.Memory.{freeMasks}
 use Rattle.plan.specs.declared.Plan.{Plan}
 use Rattle.state.specs.State.{State, words, word, deviceWords, portsAt, portWords, portAt, register, timer, waiting, next, running, counter, time, dropsStart, mostDrops}
-use Rattle.state.specs.Network.{peerIn}
+use Rattle.state.specs.Network.{peerIn, loadFor}
 
-unfoldable pub timerSound : ℕ → ℕ → Bool
-timerSound on timer = cond (eqb on 1) (leb 1 timer && leb timer 65535) (eqb timer 0)
+-- a timer whose load is given
+unfoldable pub timerSound : ℕ → ℕ → ℕ → Bool
+timerSound on timer load = cond (eqb on 1) (leb 1 timer && leb timer load) (eqb timer 0)
 
-unfoldable pub deviceTimed : State → ℕ → Bool
-deviceTimed s d = every 32 (λ k. timerSound (bit (register s d) k) (timer s d k))
+-- those of a device of the role
+unfoldable pub deviceTimed : List ℕ → ℕ → State → ℕ → Bool
+deviceTimed loads role s d = every 32 (λ k. timerSound (bit (register s d) k) (timer s d k) (loadFor loads role k))
 
 -- of n devices; a state has room for 32
-unfoldable pub allTimed : ℕ → State → Bool
-allTimed n s = every (min n 32) (deviceTimed s)
+unfoldable pub allTimed : ℕ → List ℕ → List ℕ → State → Bool
+allTimed n loads roles s = every (min n 32) (λ d. deviceTimed loads (getD roles d 0) s d)
 
 -- the words from one place to another are 0
 unfoldable pub zerosIn : ℕ → ℕ → State → Bool
@@ -100,7 +102,7 @@ dropsSound n role ports s = every 32 (λ d. countsSound s d (ownCounts n role po
 unfoldable pub sounds : Plan → State → Bool
 sounds plan s =
     eqb (length s) words
-    && allTimed (plan .core .devices) s
+    && allTimed (plan .core .devices) (plan .core .loads) (plan .core .role) s
     && restZero (plan .core .devices) s
     && portsSound (plan .core .ports) (plan .core .permissions) (plan .peers) s
     && countersSound (plan .core .devices) s

@@ -3,6 +3,7 @@ use mathlib.Core.Path.{_≡_, sym, _∙_}
 use mathlib.Core.Bool.{true}
 use Prim.Native.Nat.{ℕ, _-_, _<_, _≤_}
 use native.Mathlib.Omega.{arith}
+use lib.ListN.{getD}
 use borrow.Author.Count.{below-none, below-more}
 use borrow.Author.Tests.{not-true, not-false}
 use Rattle.lists.proofs.Tests.{every-all, every-not}
@@ -12,10 +13,10 @@ use Rattle.state.proofs.sound.all_timed.Statement.{statement}
 use Rattle.state.proofs.sound.all_timed.Tie as tie
 
 abbrev Inv-loop : tie.InvT-loop
-Inv-loop n state d₀ d = (d ≤ 32) × ((i : ℕ) → i < d → deviceTimed state i ≡ true)
+Inv-loop n loads roles state d₀ d = (d ≤ 32) × ((i : ℕ) → i < d → deviceTimed loads (getD roles i 0) state i ≡ true)
 
 abbrev μ-loop : tie.MeasureT-loop
-μ-loop n state d₀ d = 32 - d
+μ-loop n loads roles state d₀ d = 32 - d
 
 loop-holds : tie.Need-loop-holds Inv-loop μ-loop
 loop-holds c = (omega arith, below-none _)
@@ -32,7 +33,7 @@ loop-less : tie.Need-loop-less Inv-loop μ-loop
 loop-less c = omega arith
 
 loop-again : tie.Need-loop-again Inv-loop μ-loop
-loop-again c = (omega arith, below-more _ _ (c .before .before .before .before .loop .inv .1) (sym (c .before .device-timed .ensures) ∙ not-false _ (c .if2 .left)))
+loop-again c = (omega arith, below-more _ _ (c .before .before .before .before .before .loop .inv .1) (sym (c .before .device-timed .ensures) ∙ not-false _ (c .if2 .left)))
 
 returns-3 : tie.Need-returns-3 Inv-loop μ-loop
 unfolding allTimed
@@ -49,6 +50,7 @@ all-timed-spec =
     μ-loop
     loop-holds
     returns
+    (λ c. search needs)
     device-timed-requires
     returns-2
     (λ c. search needs)

@@ -1,6 +1,6 @@
 use borrow.Author.Needs.{needs}
-use Rattle.planfile.proofs.header.put_fields.Statement.{statement}
-use Rattle.planfile.proofs.header.put_fields.Tie as tie
+use Rattle.planfile.proofs.header.put_common.Statement.{statement}
+use Rattle.planfile.proofs.header.put_common.Tie as tie
 
 returns : tie.Need-returns
 returns c = cc
@@ -23,8 +23,8 @@ put-requires-5 c κs = search needs
 put-requires-6 : tie.Need-put-requires-6
 put-requires-6 c κs = search needs
 
-pub put-fields-spec : {M : Type 1} → statement M
-put-fields-spec =
+pub put-common-spec : {M : Type 1} → statement M
+put-common-spec =
     tie.close
     (tie.spec
     (λ c. search needs)
