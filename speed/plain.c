@@ -11,15 +11,19 @@ enum { INTERRUPT, ACKNOWLEDGE };
 enum { NONE = BENCH_NOTHING, NEXT = BENCH_NEXT, RUNNING = BENCH_RUNNING };
 enum { UNREACHED = BENCH_UNREACHED };
 
-/* Of the word of a port's Time-Code: what waits, plus 1, and whether one was sent last. In block 0 the set of events, and the byte
-   of the master; in a device's block the sets that its ports bar, by port and then by kind, and what is behind them. */
-enum { WAITING = 127, LAST = 128, EVENTS = 6, MASTER = 10, BARS = 44, ZEROS = 108 };
+/* Of the word of a port's Time-Code: what waits, plus 1, and whether one was sent last. */
+enum { WAITING = 127, LAST = 128 };
+
+/* In block 0 the common loads, the set of events, the byte of the master, a pair of loads for each identifier, and what is behind
+   them; in a device's block the sets that its ports bar, by port and then by kind, and what is behind them. */
+enum { LOADS = 2, EVENTS = 6, MASTER = 10, PAIRS = 16, BEHIND_PAIRS = 144, BARS = 44, BEHIND_BARS = 108 };
 
 /* Where a count of drops stays. */
 enum { MOST_DROPS = 65535 };
 
 struct plan {
-    u32 devices, loads[2], events, master; /* or NONE */
+    u32 devices, events, master; /* or NONE */
+    u32 loads[2][32]; /* by role, and then by identifier */
     u8 role[32], ports[32];
     u32 source[32], handler[32];
     u8 permissions[BENCH_SENT];
@@ -37,6 +41,13 @@ static u32 four(const u8 *b) {
 
 /* ---- the plan file */
 
+static u32 zeros(const u8 *b, int from, int to) {
+    for (int i = from; i < to; i++)
+        if (b[i])
+            return 24;
+    return 0;
+}
+
 static u32 any_block(const u8 *b, int from, int good, int marked) {
     u32 sum = 0;
     for (u32 i = 0; i < 510; i++)
@@ -47,10 +58,32 @@ static u32 any_block(const u8 *b, int from, int good, int marked) {
         return 22;
     if (!good)
         return 23;
-    for (int i = from; i < 510; i++)
-        if (b[i])
-            return 24;
-    return 0;
+    return zeros(b, from, 510);
+}
+
+/* Of two loads that of routers stands first. */
+static int pair_fits(const u8 *pair) {
+    return two(pair) && two(pair) <= two(pair + 2);
+}
+
+/* What every identifier is loaded with; whether it fits. Where its own pair is zeros it takes the common one. */
+static int load_pairs(const u8 *b, struct plan *plan) {
+    int good = pair_fits(b + LOADS);
+    for (int k = 0; k < 32; k++) {
+        const u8 *own = b + PAIRS + 4 * k, *pair = four(own) ? own : b + LOADS;
+        plan->loads[0][k] = two(pair + 2);
+        plan->loads[1][k] = two(pair);
+        good &= pair_fits(pair);
+    }
+    return good;
+}
+
+static u32 load_header(const u8 *b, struct plan *plan) {
+    u32 n = b[1], master = b[MASTER] ? b[MASTER] - 1u : NONE;
+    *plan = (struct plan){.devices = n, .events = four(b + EVENTS), .master = master};
+    int good = n >= 1 && n <= 32 && b[MASTER] <= n && load_pairs(b, plan);
+    u32 bad = any_block(b, BEHIND_PAIRS, good, b[0] == 1);
+    return bad ? bad : zeros(b, MASTER + 1, PAIRS);
 }
 
 static int fits(const u8 *b, u32 n) {
@@ -71,7 +104,7 @@ static int fits(const u8 *b, u32 n) {
 /* Only the ports that a router has bar anything. */
 static int bars_fit(const u8 *b) {
     u8 any = 0;
-    for (int i = BARS + (b[2] ? 8 * b[3] : 0); i < ZEROS; i++)
+    for (int i = BARS + (b[2] ? 8 * b[3] : 0); i < BEHIND_BARS; i++)
         any |= b[i];
     return !any;
 }
@@ -104,19 +137,16 @@ static u32 read_plan(const u8 *file, usize length, struct plan *plan, u32 *block
     *block = 0;
     if (length < 512 || length > BENCH_FILE || length % 512)
         return 20;
-    u32 n = file[1], router = two(file + 2), node = two(file + 4), master = file[MASTER] ? file[MASTER] - 1u : NONE;
-    int good = n >= 1 && n <= 32 && router >= 1 && router <= node && file[MASTER] <= n;
-    u32 bad = any_block(file, MASTER + 1, good, file[0] == 1);
+    u32 bad = load_header(file, plan), n = plan->devices;
     if (bad)
         return bad;
     if (length != 512 * (1 + n))
         return 25;
-    *plan = (struct plan){.devices = n, .loads = {node, router}, .events = four(file + EVENTS), .master = master};
     for (u32 d = 0; d < n; d++) {
         const u8 *b = file + 512 * (1 + d);
         *block = 1 + d;
-        good = fits(b, n) && bars_fit(b) && !(b[2] && d == master);
-        if ((bad = any_block(b, ZEROS, good, b[0] == 2 && b[1] == d)))
+        int good = fits(b, n) && bars_fit(b) && !(b[2] && d == plan->master);
+        if ((bad = any_block(b, BEHIND_BARS, good, b[0] == 2 && b[1] == d)))
             return bad;
         load_device(b, d, plan);
     }
@@ -132,12 +162,17 @@ static u32 read_plan(const u8 *file, usize length, struct plan *plan, u32 *block
 
 /* ---- the state */
 
-static int timers_sound(const u32 *s, u32 n) {
-    for (u32 d = 0; d < n; d++)
+/* What device d loads the timer of k with. */
+static u32 load_of(const struct plan *plan, u32 d, u32 k) {
+    return plan->loads[plan->role[d]][k];
+}
+
+static int timers_sound(const struct plan *plan, const u32 *s) {
+    for (u32 d = 0; d < plan->devices; d++)
         for (u32 k = 0; k < 32; k++) {
             const u32 *w = s + device_at(d);
             u32 t = w[1 + k];
-            if (w[0] >> k & 1 ? t < 1 || t > 65535 : t)
+            if (w[0] >> k & 1 ? t < 1 || t > load_of(plan, d, k) : t)
                 return 0;
         }
     return 1;
@@ -180,7 +215,7 @@ static int drops_sound(const struct plan *plan, const u32 *drops) {
 }
 
 static int sound(const struct plan *plan, const u32 *s) {
-    if (!timers_sound(s, plan->devices) || !counters_sound(s + BENCH_COUNTERS, plan->devices) ||
+    if (!timers_sound(plan, s) || !counters_sound(s + BENCH_COUNTERS, plan->devices) ||
         !drops_sound(plan, s + BENCH_DROPS))
         return 0;
     for (u32 i = device_at(plan->devices); i < BENCH_PORTS; i++)
@@ -227,7 +262,7 @@ static u32 request(const struct plan *plan, u32 *s, u32 d, u32 k) {
     if (!sends)
         return 8;
     s[device_at(d)] |= 1u << k;
-    s[device_at(d) + 1 + k] = plan->loads[plan->role[d]];
+    s[device_at(d) + 1 + k] = load_of(plan, d, k);
     for (u32 q = first; q < past; q++)
         queue(plan, s, q, INTERRUPT, k);
     return 0;
@@ -310,7 +345,7 @@ static int arrive_code(const struct plan *plan, u32 *next, u32 d, u32 q, u32 kin
     if ((w[0] >> k & 1) != kind || (kind & plan->events >> k)) /* nobody takes an acknowledge of an event */
         return 0;
     w[0] ^= 1u << k;
-    w[1 + k] = kind == ACKNOWLEDGE ? 0 : plan->loads[plan->role[d]];
+    w[1 + k] = kind == ACKNOWLEDGE ? 0 : load_of(plan, d, k);
     for (u32 other = 8 * d; plan->role[d] && other < 8 * d + plan->ports[d]; other++)
         if (other != q)
             queue(plan, next, other, kind, k);

@@ -171,8 +171,8 @@ static void race(const char *what, const char *waiting, call *work) {
 
 /* ---- networks of any size */
 
-/* Where block 0 has the set of events, and the block of a device what its ports bar. */
-enum { EVENTS = 6, BARS = 44 };
+/* Where block 0 has the set of events and a pair of loads for each identifier, and the block of a device what its ports bar. */
+enum { EVENTS = 6, PAIRS = 16, BARS = 44 };
 
 static void seal(u8 *block) {
     u32 sum = 0;
@@ -271,6 +271,23 @@ static void with_bars(void) {
     }
 }
 
+/* Every second identifier has short loads of its own, at the node another than at the routers; where its timers run they have
+   just been loaded. */
+static void with_loads(void) {
+    for (u32 k = 0; k < 32; k += 2) {
+        memcpy(file + PAIRS + 4 * k, (u8[]){1 + k, 0, 64, k}, 4);
+        for (u32 d = 0; d < file[1]; d++)
+            if (before[device_at(d)] >> k & 1)
+                before[device_at(d) + 1 + k] = d ? 1 + k : 64 + 256 * k;
+    }
+    seal(file);
+}
+
+/* Of the node's timers, which have just been loaded, the first is one above its load: the state is not sound. */
+static void over_load(void) {
+    before[device_at(0) + 1 + __builtin_ctz(before[device_at(0)])]++;
+}
+
 /* How the cost grows with devices, and with the identifiers that every port has waiting. */
 static void growth(u32 n) {
     static const u32 sets[] = {0, 1, 0xff, 0xffffffff};
@@ -305,6 +322,11 @@ static void growth(u32 n) {
     compare("crossings with bars", crossings);
     compare("a chain with bars", chain);
     compare("a cut with bars", cut);
+    with_loads();
+    compare("a round with loads", round);
+    compare("settle with loads", settle);
+    over_load();
+    compare("a round over a load", round);
 }
 
 static void report_of(const char *name) {
