@@ -187,7 +187,7 @@ int main(void) {
 
     /* The handler is told by round 64 x (n - 1), as the farthest of n devices is n - 1 crossings away at most; it waits, and
      * the acknowledge is everywhere within another wait. */
-    must_last(CROSSING * (reached - 1) + 2 * wait);
+    must_last(identifier, CROSSING * (reached - 1) + 2 * wait);
 
     printf("interrupt %u of device %u, handled by device %u; it reaches %u devices\n", identifier, source, handler,
            reached);

@@ -96,8 +96,8 @@ static void try_calls(bench_u32 source, bench_u32 other) {
  * holds the event by round 64 x (n - 1), and one load later its timer has ended. Nodes load the most. A source that did not
  * request counts from when it is told of the interrupt, which is later. */
 static void request_by(bench_u32 source, bench_u32 other) {
-    bench_u32 reached = must_reach(source, other), wait = CROSSING * (reached - 1) + load_at(NODE_LOAD);
-    must_last(CROSSING * reached); /* while the event is on its way */
+    bench_u32 reached = must_reach(source, other), wait = CROSSING * (reached - 1) + load_of(event, NODE);
+    must_last(event, CROSSING * reached); /* while the event is on its way */
     turn = busy = traffic = clocked = 0;
     must("request", bench_request(file, length, AREA(states[now]), source, event));
     printf("device %u requests event %u, which reaches %u devices\n", source, event, reached);

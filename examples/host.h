@@ -9,8 +9,11 @@ int printf(const char *format, ...);
 _Noreturn void exit(int status);
 
 /* Where things stand in a plan file: in block 0, and in the block of a device. */
-enum { BLOCK = 512, DEVICES = 1, ROUTER_LOAD = 2, NODE_LOAD = 4, EVENTS = 6, MASTER = 10 };
+enum { BLOCK = 512, DEVICES = 1, LOADS = 2, EVENTS = 6, MASTER = 10, OWN_LOADS = 16, PAIR = 4 };
 enum { ROLE = 2, SOURCES = 4, HANDLERS = 8, ROWS = 12, ROW = 4, PERMISSIONS = 2, BARS = 44, SET = 4 };
+
+/* Roles. */
+enum { NODE, ROUTER };
 
 /* What a told word is about. */
 enum { INTERRUPT = 1, ACKNOWLEDGE = 2, TIMEOUT = 3, TIME = 4 };
@@ -67,14 +70,21 @@ static inline int is_event(bench_u32 k) {
     return file[EVENTS + k / 8] >> k % 8 & 1;
 }
 
-/* The load of a role's timers. That of routers is at most that of nodes. */
-static inline bench_u32 load_at(int place) {
+/* A load in block 0. */
+static inline bench_u32 load_at(bench_u32 place) {
     return file[place] + 256 * file[place + 1];
 }
 
-/* No timer may end within so many rounds. */
-static inline void must_last(bench_u32 rounds) {
-    bench_u32 load = load_at(ROUTER_LOAD);
+/* What devices of a role load the timer of k with: its own load, or the common one where it has none. That of routers stands
+ * before that of nodes, and is at most that. */
+static inline bench_u32 load_of(bench_u32 k, int role) {
+    bench_u32 behind = role == ROUTER ? 0 : 2, own = load_at(OWN_LOADS + PAIR * k + behind);
+    return own ? own : load_at(LOADS + behind);
+}
+
+/* No timer of k may end within so many rounds. */
+static inline void must_last(bench_u32 k, bench_u32 rounds) {
+    bench_u32 load = load_of(k, ROUTER);
     if (load <= rounds) {
         printf("timers are too short: a load is %u, and has to be above %u\n", load, rounds);
         exit(1);

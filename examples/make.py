@@ -15,6 +15,7 @@ class Plan:
 
     def __init__(self, router_load, node_load):
         self.loads = (router_load, node_load)
+        self.own = {}  # by identifier: loads of its own, in the same order
         self.events = ()
         self.master = None
         self.devices = []
@@ -43,9 +44,9 @@ class Plan:
         self.devices[d]["bars"][p] = (ALL - mask(interrupts), ALL - mask(acknowledges))
 
     def file(self):
-        router, node = self.loads
         master = 0 if self.master is None else 1 + self.master
-        blocks = [sealed(bytes([1, len(self.devices)]) + two(router) + two(node) + four(mask(self.events)) + bytes([master]))]
+        fields = bytes([1, len(self.devices)]) + pair(self.loads) + four(mask(self.events)) + bytes([master])
+        blocks = [sealed(fields + bytes(5) + b"".join(pair(self.own.get(k, (0, 0))) for k in range(32)))]
         for d, device in enumerate(self.devices):
             fields = bytes([2, d, device["role"], device["ports"]]) + four(device["source"]) + four(device["handler"])
             rows = b"".join(bytes(e) for e in device["entries"])
@@ -63,6 +64,12 @@ def two(n):
 
 def four(n):
     return n.to_bytes(4, "little")
+
+
+def pair(loads):
+    """That of routers, and that of nodes; two zeros where an identifier takes the common loads."""
+    router, node = loads
+    return two(router) + two(node)
 
 
 def sealed(fields):
@@ -349,6 +356,22 @@ def guarded():
     return edge(guarded=True)
 
 
+def loads():
+    """Four routers in a ring, two units and a computer at three of them, and loads as each identifier needs them. Event 0 is an alarm, which either
+    unit may soon send again; 31 is housekeeping, with which the computer may take its time. 5 takes the common loads, and these are so short that
+    its bits are gone when it comes round again: it never stops."""
+    plan = Plan(2, 3)
+    routers = [plan.router(3), plan.router(3), plan.router(3), plan.router(2)]
+    nodes = [plan.node(source=[0, 31]), plan.node(source=[0, 5]), plan.node(handler=[0, 5, 31])]
+    for i, r in enumerate(routers):
+        plan.join((r, 0), (routers[(i + 1) % 4], 1))
+    for r, n in zip(routers, nodes):
+        plan.join((r, 2), (n, 0))
+    plan.own = {0: (450, 500), 31: (20000, 24000)}
+    plan.events = [0]
+    return plan
+
+
 def idle():
     """One node, joined to nothing, and no source: the smallest file there is."""
     plan = Plan(1, 1)
@@ -358,5 +381,5 @@ def idle():
 
 if __name__ == "__main__":
     folder = pathlib.Path(sys.argv[1] if len(sys.argv) > 1 else pathlib.Path(__file__).parent)
-    for make in (three, ring, tree, torus, full, loop, brief, mute, incident, mesh, chain, never, fading, twice, refused, strapped, cut, parted, timed, events, causes, babble, guarded, idle):
+    for make in (three, ring, tree, torus, full, loop, brief, mute, incident, mesh, chain, never, fading, twice, refused, strapped, cut, parted, timed, events, causes, babble, guarded, loads, idle):
         (folder / f"{make.__name__}.plan").write_bytes(make().file())
