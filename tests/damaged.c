@@ -11,7 +11,8 @@ int close(int file);
 long write(int file, const void *from, unsigned long bytes);
 int snprintf(char *into, unsigned long room, const char *format, ...);
 
-enum { PORT = 12, LAST_ZERO = BLOCK - 3 };
+/* Where the rows of ports begin, and in block 0 the pairs of loads; the byte behind these, and the last one before the check. */
+enum { PORT = 12, PAIRS = 16, BEHIND_PAIRS = PAIRS + 4 * IDENTIFIERS, LAST_ZERO = BLOCK - 3 };
 
 static struct plan whole, copy;
 static flag keeps;
@@ -268,6 +269,80 @@ static void double_together(void) {
     say("and spoiled in", DEVICES, LONGEST_FILE);
 }
 
+/* ---- loads of an identifier's own, which are the pairs in bytes 16 to 143 of block 0: that of routers, and that of nodes */
+
+/* A pair of k, in the plan as it is. Its common loads are 2,000 and 2,400. */
+static void own(u32 k, u32 router, u32 node) {
+    copy = whole;
+    set_own_loads(&copy, k, router, node);
+    printf("loads %u and %u of ", router, node);
+    say("identifier", k, LONGEST_FILE);
+}
+
+/* Of each identifier a pair that is right, and wrong ones: that of routers above that of nodes, and each byte by itself, where
+ * the others are zeros. */
+static void name_pairs(void) {
+    for (u32 k = 0; k < IDENTIFIERS; k++) {
+        own(k, 8, 8);
+        own(k, 9, 8);
+        own(k, 8, 0);
+        own(k, 8 * 256, 0);
+        own(k, 0, 8);
+        own(k, 0, 8 * 256);
+    }
+}
+
+/* Loads as small and as great as there are, less than the common ones and greater, and compared by both bytes. */
+static void name_loads(void) {
+    static const struct {
+        u32 router, node;
+    } pairs[] = {{0, 0}, {1, 1}, {1, 65535}, {65535, 65535}, {65535, 65534}, {65535, 1}, {0, 65535}, {65535, 0}, {255, 256},
+                 {256, 255}, {257, 256}, {256, 257}, {1999, 2400}, {2000, 2401}, {2401, 2401}, {2400, 2000}};
+    for (u32 i = 0; i < sizeof pairs / sizeof *pairs; i++)
+        own(23, pairs[i].router, pairs[i].node);
+}
+
+/* The zeros before the pairs and those behind them. */
+static void fill_zeros(void) {
+    static const u32 places[] = {11, 12, 13, 14, 15, 144, 145, 146, 147, 148, 160, 255, 256, 384, 508, 509};
+    for (u32 i = 0; i < sizeof places / sizeof *places; i++) {
+        copy = whole;
+        put(0, places[i], 1);
+        say("a zero that is none, byte", places[i], LONGEST_FILE);
+    }
+}
+
+/* A pair that is right and one that is wrong, each with a fault more: the first in the order of the tests is answered. Then
+ * pairs for all, beside which the common loads have to be right too. */
+static void pair_together(void) {
+    static const struct {
+        const char *done;
+        u32 block, at;
+        u8 byte;
+    } faults[] = {{"kind", 0, 0, 7}, {"devices", 0, 1, 33}, {"fewer devices", 0, 1, 31}, {"common load", 0, 3, 255},
+                  {"master", 0, MASTER, 33}, {"zero before", 0, PAIRS - 1, 1}, {"zero behind", 0, BEHIND_PAIRS, 1},
+                  {"kind", 1, 0, 7}, {"source", 10, SOURCES, 255}};
+    for (u32 wrong = 0; wrong < 2; wrong++)
+        for (u32 i = 0; i < sizeof faults / sizeof *faults; i++) {
+            copy = whole;
+            set_own_loads(&copy, 31, 8 + wrong, 8);
+            put(faults[i].block, faults[i].at, faults[i].byte);
+            printf("%s pair, and ", wrong ? "wrong" : "right");
+            say(faults[i].done, faults[i].block, LONGEST_FILE);
+        }
+    copy = whole;
+    for (u32 k = 0; k < IDENTIFIERS; k++)
+        set_own_loads(&copy, k, 1 + k, 32);
+    say("pairs for all, up to", 32, LONGEST_FILE);
+    set_loads(&copy, 9, 8);
+    say("and common loads with", 9, LONGEST_FILE);
+    set_loads(&copy, 9, 9);
+    set_own_loads(&copy, 16, 33, 32);
+    say("and that of routers", 33, LONGEST_FILE);
+    spoil(0, LAST_ZERO, 1);
+    say("and spoiled in", 0, LONGEST_FILE);
+}
+
 /* ---- what ports bar, which are bytes 44 to 107 of a device's block */
 
 /* A byte of a block, in the plan as it is. Its routers have six ports. */
@@ -370,6 +445,10 @@ int main(int count, char **words) {
     crowd_sources();
     double_two();
     double_together();
+    name_pairs();
+    name_loads();
+    fill_zeros();
+    pair_together();
     name_bars();
     bar_by_ports();
     bar_together();

@@ -85,6 +85,20 @@ static void change_loads(void) {
     set_loads(&plan, router, node);
 }
 
+/* The identifier of the line. */
+static u32 identifier(void) {
+    u32 k = number();
+    if (k >= IDENTIFIERS)
+        wrong("there is no such identifier");
+    return k;
+}
+
+/* Other loads than an identifier has of its own: two zeros for none. */
+static void change_own_loads(void) {
+    u32 k = identifier(), router = number(), node = number();
+    set_own_loads(&plan, k, router, node);
+}
+
 /* Other events than the plan has. */
 static void change_events(void) {
     put_number(plan.bytes + EVENTS, 4, number());
@@ -145,6 +159,18 @@ static void print_state(void) {
     print_drops();
 }
 
+/* The timers that run: device, identifier, and where each stands. */
+static void print_timers(void) {
+    printf("timers");
+    for (u32 d = 0; d < DEVICES; d++)
+        for (u32 k = 0; k < IDENTIFIERS; k++) {
+            u32 timer = state.words[DEVICE_WORDS * d + 1 + k];
+            if (timer)
+                printf(" %u/%u:%u", d, k, timer);
+        }
+    printf("\n");
+}
+
 /* A call takes its numbers from the line; only a link has a flag, and a tick has its device alone. What is refused changes nothing
  * that could be printed. */
 static void change(enum call call) {
@@ -193,9 +219,7 @@ static void put_last(void) {
 
 /* Makes an acknowledge wait at a port, whether a call could do so or not: device, port, identifier. */
 static void put_waiting(void) {
-    u32 q = any_port(), k = number();
-    if (k >= IDENTIFIERS)
-        wrong("there is no such identifier");
+    u32 q = any_port(), k = identifier();
     state.words[FIRST_PORT + PORT_WORDS * q + AT_ACKNOWLEDGES] |= (u32)1 << k;
 }
 
@@ -326,11 +350,12 @@ static const struct word {
     const char *name;
     void (*play)(void);
 } words[] = {
-    {"--", print_title}, {"#", pass_over}, {"plan", take_plan}, {"loads", change_loads}, {"events", change_events},
-    {"bars", change_bars}, {"start", start_afresh}, {"request", ask}, {"acknowledge", acknowledge}, {"link", link},
-    {"reset", reset}, {"tick", tick}, {"last", put_last}, {"waits", put_waiting}, {"drops", put_drops}, {"rounds", play_rounds},
-    {"settle", settle_all}, {"reach", find_reach}, {"byte", read_byte}, {"arrives", arrive_anyhow}, {"comes", arrive_timed},
-    {"meets", arrive_guarded}, {"lengths", try_lengths}, {"report", print_report},
+    {"--", print_title}, {"#", pass_over}, {"plan", take_plan}, {"loads", change_loads}, {"own", change_own_loads},
+    {"events", change_events}, {"bars", change_bars}, {"start", start_afresh}, {"request", ask}, {"acknowledge", acknowledge},
+    {"link", link}, {"reset", reset}, {"tick", tick}, {"last", put_last}, {"waits", put_waiting}, {"drops", put_drops},
+    {"timers", print_timers}, {"rounds", play_rounds}, {"settle", settle_all}, {"reach", find_reach}, {"byte", read_byte},
+    {"arrives", arrive_anyhow}, {"comes", arrive_timed}, {"meets", arrive_guarded}, {"lengths", try_lengths},
+    {"report", print_report},
 };
 
 static const struct word *word_of_line(void) {

@@ -82,6 +82,25 @@ put 1 47 255
 sed 's/^8 0 .*/8 0 1 1/; s/^8 24 .*/8 24 1 1/' "$(stored $full)" >"$work/wanted"
 prints "$work/wanted" <"$work/file"
 
+# Loads of an identifier's own. As long as the common ones they change nothing. With 3 for routers the one at the source has lost 0
+# when nothing waits any more; with 4 for nodes so has the source; with 2 and 3 the code never stops. It is the same with 31, whose pair
+# is the last one, and all other identifiers go on as they did.
+cp $full "$work/file"
+pair 16 2000 2400
+prints "$(stored $full)" <"$work/file"
+while read -r router node rest; do
+    pair 16 "$router" "$node"
+    sed "s/^8 0 .*/8 0 $rest/" "$(stored $full)" >"$work/wanted"
+    prints "$work/wanted" <"$work/file"
+done <<'END'
+3 5 4 31
+3 4 4 30
+2 3 - 26
+END
+pair 140 3 5
+sed 's/^15 31 .*/15 31 4 31/' "$work/wanted" >"$work/both"
+prints "$work/both" <"$work/file"
+
 for block in 0 1 17 32; do
     cp $full "$work/file"
     spoil $((512 * block + 509)) 1
@@ -99,7 +118,13 @@ done <<'END'
 0 10 33 23 0
 0 10 1 23 1
 0 10 8 23 8
+0 16 1 23 0
+0 19 1 23 0
+0 140 1 23 0
+0 143 1 23 0
 0 11 1 24 0
+0 15 1 24 0
+0 144 1 24 0
 0 509 1 24 0
 0 1 31 25 0
 10 4 3 27 0
