@@ -10,7 +10,7 @@ trap 'rm -rf "$work"' EXIT
 build staticlib door
 compile tests/stack.c "$work/stack" target/staticlib/libdoor.a
 run "$work/stack" examples/three.plan examples/full.plan examples/chain.plan examples/refused.plan \
-    examples/timed.plan examples/events.plan examples/causes.plan examples/guarded.plan >"$work/calls" ||
+    examples/timed.plan examples/events.plan examples/causes.plan examples/guarded.plan examples/loads.plan >"$work/calls" ||
     { cat "$work/calls"; echo "a call needs more stack than the header says, or was never done"; exit 1; }
 cat "$work/calls"
 

@@ -147,6 +147,36 @@ for at in 8321 8322 8323 9471 9472 9476 9538 9539 9542 9543 9560 11519; do
     says r2 0 5 6 "$work/file" <$plan
 done
 
+# A timer up to its load, and not above it: the common ones are 2,000 and 2,400, and 5 may have its own, at byte 36 of block 0. Each line
+# has the first byte of a device's words and its timer of 5, for the node 0 and the router 1, the loads of 5, two zeros for none, and what
+# is printed.
+while read -r words timer router node answer; do
+    cp $plan "$work/file"
+    pair 36 "$router" "$node"
+    mv "$work/file" "$work/loaded"
+    cp "$state" "$work/file"
+    spoil "$words" 32
+    spoil $((words + 24)) $((timer % 256))
+    spoil $((words + 25)) $((timer / 256))
+    case $answer in
+    cut) prints "$work/cut" 0 5 6 "$work/file" <"$work/loaded" ;;
+    *) says "$answer" 0 5 6 "$work/file" <"$work/loaded" ;;
+    esac
+done <<'LINES'
+0 1 0 0 cut
+0 2400 0 0 cut
+0 2401 0 0 r2
+132 2000 0 0 cut
+132 2001 0 0 r2
+0 300 200 300 cut
+0 301 200 300 r2
+132 200 200 300 cut
+132 201 200 300 r2
+0 65535 200 65535 cut
+132 65535 65535 65535 cut
+0 0 0 0 r2
+LINES
+
 # No such source or device, no such identifier, and no source of it. What is too large for a word, or for two, does not come round.
 many=$(printf %05000d 0)
 for n in 8 31 32 255 256 4294967295 4294967296 4294967302 18446744073709551616 "1$many"; do
