@@ -23,6 +23,11 @@
  * Bytes 6 to 9 of a plan's first block are the set of its events: identifiers that nobody acknowledges, and that may have several
  * sources. Only a timer or a reset clears the bit of an event.
  *
+ * What a timer is loaded with hangs on its identifier and on the role of its device. In the first block bytes 2 to 5 are the
+ * common loads, that of routers and then that of nodes, two bytes each with the low one first. Bytes 16 to 143 are such a pair
+ * for each identifier, that of k from 16 + 4 x k on. Where both numbers of the pair are 0, k takes the common loads; where one is
+ * 0, or that of routers is above that of nodes, 23 is answered.
+ *
  * Bytes 44 to 107 of a device's block are what its ports bar: from 44 + 8 x p on port p has a set of interrupts and then one of
  * acknowledges, four bytes each. A router drops such a code where it arrives, and counts it. At a node, and at a port that the
  * router lacks, the sets are empty, or 23 is answered.
@@ -71,12 +76,13 @@ enum { BENCH_UNREACHED = 32, BENCH_NOBODY = 256 };
  * a node, and not the source. So BENCH_BARRED is looked for before BENCH_DOES_NOT_FORWARD, whose number it leaves as it was. */
 enum { BENCH_STOPPED = 1, BENCH_MAY_NOT_SEND, BENCH_MAY_NOT_RECEIVE, BENCH_DOES_NOT_FORWARD, BENCH_BARRED };
 
-/* Where words stand in a state. Device d has its register at BENCH_DEVICE x d, and behind it its 32 timers. Port p of device d has
- * BENCH_PORT words from BENCH_PORTS + BENCH_PORT x (8 x d + p) on: two sets that wait, interrupts and acknowledges, then its next
- * and whether it runs. Device d has its counter, 0 to 63, at BENCH_COUNTERS + d. Port p of it has at BENCH_TIMES + 8 x d + p the
- * Time-Code that waits plus 1, or 0 where none does, and 128 more where the last code that it sent was a Time-Code. At BENCH_DROPS
- * + 2 x (8 x d + p) it has how many interrupts were dropped there, as barred, and behind that how many acknowledges: up to 65,535
- * of each, where the count stays, and 0 at a node. */
+/* Where words stand in a state. Device d has its register at BENCH_DEVICE x d, and behind it its 32 timers, that of k at
+ * BENCH_DEVICE x d + 1 + k: 0 where the bit of k is 0, and else what is left of the load of k at this device, 1 or more; a state
+ * with more than the load is not sound. Port p of device d has BENCH_PORT words from BENCH_PORTS + BENCH_PORT x (8 x d + p) on:
+ * two sets that wait, interrupts and acknowledges, then its next and whether it runs. Device d has its counter, 0 to 63, at
+ * BENCH_COUNTERS + d. Port p of it has at BENCH_TIMES + 8 x d + p the Time-Code that waits plus 1, or 0 where none does, and 128
+ * more where the last code that it sent was a Time-Code. At BENCH_DROPS + 2 x (8 x d + p) it has how many interrupts were dropped
+ * there, as barred, and behind that how many acknowledges: up to 65,535 of each, where the count stays, and 0 at a node. */
 enum { BENCH_DEVICE = 33, BENCH_PORTS = 1056, BENCH_PORT = 4, BENCH_NEXT = 2, BENCH_RUNNING = 3 };
 enum { BENCH_COUNTERS = 2080, BENCH_TIMES = 2112, BENCH_DROPS = 2368 };
 
