@@ -36,6 +36,7 @@ example 'example babble'
 example 'example babble .*guarded'
 example 'why .*guarded'
 example 'example sweep'
+example 'settle .*loads'
 
 # The state that the second example of why is about is made by the line before it.
 line=$(sed -n 's/^    \(bin\/example snapshot .*\)$/\1/p' README.md)

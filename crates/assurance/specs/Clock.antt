@@ -37,7 +37,7 @@ module _ (plan : Plan) (k from to d D D' turn wait : ℕ) (s : State) (at back :
     -- then it acknowledges, and `window D'` rounds follow in which the same holds
     pub farthest : FarthestBack plan k from to s D'
     pub course : Course plan k (window D') (called plan 1 to k (at (turn + wait))) back
-    -- each load is greater than the rounds until it is told at the latest, its wait, and those after it, together
+    -- each load of k is greater than the rounds until it is told at the latest, its wait, and those after it, together
     pub loads : (e : ℕ) → e < devices plan → crossing * d + wait + window D' < loadOf plan e k
 
   pub record InTime : Type 0 where

@@ -35,7 +35,7 @@ pub record Cycle (plan : Plan) (k from to D D' gap : ℕ) (s : State) (at back :
   pub farthest : FarthestBack plan k from to s D'
   -- for `window D'` further rounds nobody requests or acknowledges k
   pub course : Course plan k (window D') (called plan 1 to k (at (window D + gap))) back
-  -- each load is greater than the rounds of both windows and the gap together
+  -- each load of k is greater than the rounds of both windows and the gap together
   pub loads : (d : ℕ) → d < devices plan → window D + gap + window D' < loadOf plan d k
 
 -- ---- what follows, where the acknowledge comes `until` rounds after the request
@@ -128,7 +128,7 @@ pub record Sooner (plan : Plan) (k from to D' until : ℕ) (s : State) (at back 
   pub idle : (kind q : ℕ) → kind < 2 → q < 256 → bit (waiting (at until) kind q) k ≡ 0
   pub handles : bit (handler plan to) k ≡ 1
   pub was-reached : Gets plan k from s to
-  -- D' and the second window as in a cycle; each load is greater than the rounds before the acknowledge and that window together
+  -- D' and the second window as in a cycle; each load of k is greater than the rounds before the acknowledge and that window together
   pub farthest : FarthestBack plan k from to s D'
   pub then : Course plan k (window D') (called plan 1 to k (at until)) back
   pub loads : (d : ℕ) → d < devices plan → until + window D' < loadOf plan d k

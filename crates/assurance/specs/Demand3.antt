@@ -60,7 +60,7 @@ module _ (plan : Plan) (k source D : ℕ) (s : State) where
     pub farthest : Farthest plan s 0 k source D
     -- for `window D` rounds nobody requests k again or acknowledges it; other identifiers are used as they may be, and the master ticks as it may
     pub course : Course plan k (window D) (called plan 0 source k s) at
-    -- every timer load is longer than that
+    -- every timer load of k is longer than that
     pub loads : (d : ℕ) → d < devices plan → window D < loadOf plan d k
 
   pub record Follows (at : ℕ → State) : Type 0 where

@@ -19,14 +19,14 @@ use Rattle.assurance.specs.Return.{Told, Gets}
 use Rattle.assurance.specs.Cycle.{AtRest}
 use Rattle.assurance.specs.Clock.{HearsIn}
 
--- the rounds from the request until all is clear: those of D crossings, and the longest load, which is the source's own, as it is a node's
+-- the rounds from the request until all is clear: those of D crossings, and the longest load of k, which is the source's own, as it is a node's
 abbrev pub lasting : Plan → ℕ → ℕ → ℕ → ℕ
 lasting plan k from D = crossing * D + loadOf plan from k
 
 -- node `from` requests k in state s; `at t` is the state t rounds later
 module _ (plan : Plan) (k from D : ℕ) (s : State) (at : ℕ → State) where
   pub record Event : Type 0 where
-    -- all that demand 3 asks: k is unset and waits nowhere, the request is taken, its window is kept, and every load is longer than that
+    -- all that demand 3 asks: k is unset and waits nowhere, the request is taken, its window is kept, and every load of k is longer than that
     pub request : Window plan k from D s at
     -- k is an event
     pub event : bit (events plan) k ≡ 1

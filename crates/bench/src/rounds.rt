@@ -13,7 +13,7 @@ ghost use Rattle.state.specs.State.{words};
 ghost use Rattle.state.specs.Network.{loadFor};
 ghost use Rattle.bench.specs.Round.{toldWord, nothing, sentWords, fall, firstWaits, goes, sends, posts, timed, forwarded, oneMore, lost, tells, acted, arrived, reached, areas};
 ghost use Rattle.bench.specs.RoundCall.{Plays};
-ghost use Rattle.bench.specs.inner.Idle.{Rests, Unused, Blank, Laid, Idles, Copies, Silent};
+ghost use Rattle.bench.specs.inner.Idle.{Rests, Unused, Blank, Laid, lent, Idles, Copies, Silent};
 ghost use Rattle.bench.specs.inner.Shown.{Notes, seen, Follows, Played};
 use crate::Answer;
 use crate::NOTHING;
@@ -303,12 +303,12 @@ fn act(
     }
 }
 
-// A byte arrives at port q, and its device reacts. The plan's loads and permissions are lent as one.
-fn arrive_one<'a>(
-    loads: &'a Loads,
+// A byte arrives at port q, and its device reacts.
+fn arrive_one(
+    loads: &Loads,
     role: u8,
     events: u32,
-    permissions: &'a [u8; 256],
+    permissions: &[u8; 256],
     barred: &[u32; 512],
     q: usize,
     byte: u8,
@@ -349,7 +349,12 @@ fn heard(peer: u16, sent: &[u32]) -> u32
 // What the far ends sent arrives, by receiving device, then port. A port that its device lacks leads
 // nowhere, and is passed over.
 fn arrive_all(
-    core: Core,
+    n: usize,
+    events: u32,
+    loads: &Loads,
+    roles: &[u8; 32],
+    ports: &[u8; 32],
+    permissions: &[u8; 256],
     peers: &[[u16; 8]; 32],
     barred: &[u32; 512],
     sent: &[u32],
@@ -357,22 +362,22 @@ fn arrive_all(
     told: &mut [u32],
     count: usize,
 ) -> usize
-    requires { ⌜ Laid (record { core = core; peers = now peers; barred = now barred }) × (length (now sent) ≡ sentWords) × (length (now state) ≡ words) × (count ≤ 1024) ⌝ }
-    ensures { λ r. ⌜ Follows (reached (record { core = core; peers = now (peers .entry); barred = now (barred .entry) }) (now (sent .entry))) (seen (now (state .entry)) (now (told .entry)) count) (seen (now (state .exit)) (now (told .exit)) r) ⌝ }
+    requires { ⌜ Laid (lent n events (now loads) (now roles) (now ports) (now permissions) (now peers) (now barred)) × (length (now sent) ≡ sentWords) × (length (now state) ≡ words) × (count ≤ 1024) ⌝ }
+    ensures { λ r. ⌜ Follows (reached (lent n events (now (loads .entry)) (now (roles .entry)) (now (ports .entry)) (now (permissions .entry)) (now (peers .entry)) (now (barred .entry))) (now (sent .entry))) (seen (now (state .entry)) (now (told .entry)) count) (seen (now (state .exit)) (now (told .exit)) r) ⌝ }
 {
     let mut count = count;
-    for d in 0..core.devices {
-        let role = core.role[d];
+    for d in 0..n {
+        let role = roles[d];
         let first = 8 * d;
-        let past = first + core.ports[d] as usize;
+        let past = first + ports[d] as usize;
         for q in first..past {
             let byte = heard(peers[d][q % 8], sent);
             if byte < NOTHING {
                 count = arrive_one(
-                    &core.loads,
+                    loads,
                     role,
-                    core.events,
-                    &core.permissions,
+                    events,
+                    permissions,
                     barred,
                     q,
                     byte as u8,
@@ -429,11 +434,26 @@ pub(crate) fn play(
 {
     bring(core.devices, old, next);
     // Taken out first: were parts of the core itself lent, each round would copy all of it once more.
-    let role = core.role;
+    let roles = core.role;
     let ports = core.ports;
-    let count = fall_all(core.devices, &role, next, told);
+    let loads = core.loads;
+    let permissions = core.permissions;
+    let count = fall_all(core.devices, &roles, next, told);
     post_all(core.devices, &ports, old, next, sent);
-    arrive_all(core, peers, barred, sent, next, told, count)
+    arrive_all(
+        core.devices,
+        core.events,
+        &loads,
+        &roles,
+        &ports,
+        &permissions,
+        peers,
+        barred,
+        sent,
+        next,
+        told,
+        count,
+    )
 }
 
 // ---- the public door

@@ -34,7 +34,7 @@ routerPairField k = field (16 + 4 * k) 2
 abbrev pub nodePairField : ℕ → Field
 nodePairField k = field (18 + 4 * k) 2
 
--- all of them, by place
+-- those in front of the pairs, those of a pair, and all of them, by place
 abbrev pub commonFields : List Field
 commonFields = kindField ∷ devicesField ∷ routerLoadField ∷ nodeLoadField ∷ eventsField ∷ masterField ∷ []
 

@@ -1,5 +1,6 @@
 // What the numbers of a plan may be, whether they come from a file or stand in memory.
 ghost use mathlib.Core.Path.{_≡_};
+ghost use mathlib.Core.Bool.{_&&_};
 ghost use Rattle.plan.specs.Fields.{devicesFit, loadsFit, pairFits, portsFit, masksFit, masterIsNode};
 ghost use Rattle.plan.specs.inner.Memory.{freeMasks};
 ghost use Prim.Native.Nat.{_≤_};
@@ -30,28 +31,35 @@ pub fn loads_fit(router: usize, node: usize) -> bool
 }
 
 // May an identifier have these loads? Two zeros say that it has none of its own.
-fn pair_fits(router: usize, node: usize) -> bool
+fn pair_fits(router: u16, node: u16) -> bool
     ensures { λ r. ⌜ r ≡ pairFits router node ⌝ }
 {
     if router == 0 {
         return node == 0;
     }
-    loads_fit(router, node)
+    router <= node
 }
 
-// May each identifier have its loads?
+fn both(one: bool, other: bool) -> bool
+    ensures { λ r. ⌜ r ≡ (one && other) ⌝ }
+{
+    if one {
+        return other;
+    }
+    false
+}
+
+// May each identifier have its loads? All are asked, several at a time, where a search for one that may
+// not would look at each.
 pub(crate) fn pairs_fit(loads: &Loads) -> bool
     ensures { λ r. ⌜ r ≡ every 32 (λ k. pairFits (getD (now (loads .entry)) (pairAt k 1) 0) (getD (now (loads .entry)) (pairAt k 0) 0)) ⌝ }
 {
+    let mut all = true;
     for k in 0..32 {
         let at = 2 + 2 * k;
-        let node = areas::wide16(loads[at]);
-        let router = areas::wide16(loads[at + 1]);
-        if !pair_fits(router, node) {
-            return false;
-        }
+        all = both(all, pair_fits(loads[at + 1], loads[at]));
     }
-    true
+    all
 }
 
 // Does the role allow this number of ports?

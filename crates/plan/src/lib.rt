@@ -148,12 +148,11 @@ pub fn header_fits(header: Header) -> bool
     if !fields::devices_fit(header.devices) {
         return false;
     }
-    let loads = header.loads;
-    if !fields::loads_fit(loads[1] as usize, loads[0] as usize) {
+    if !fields::loads_fit(header.loads[1] as usize, header.loads[0] as usize) {
         return false;
     }
     if header.devices < header.master as usize {
         return false;
     }
-    fields::pairs_fit(&loads)
+    fields::pairs_fit(&header.loads)
 }

@@ -142,7 +142,6 @@ pub(crate) fn put(header: Header, block: &mut [u8])
 {
     block::clear(block);
     put_common(header, block);
-    let loads = header.loads;
-    put_pairs(&loads, block);
+    put_pairs(&header.loads, block);
     block::seal(block);
 }

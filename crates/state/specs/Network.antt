@@ -1,4 +1,4 @@
--- RULES, "Plan file": what a plan says of its devices and ports. Port p of device d is q = 8 x d + p.
+-- RULES, "Plan file" and "Loads": what a plan says of its devices and ports, and of the loads of their timers. Port p of device d is q = 8 x d + p.
 use mathlib.Core.Bool.{Bool, cond, _&&_}
 use mathlib.Core.List.{List, []}
 use Prim.Native.Nat.{ℕ, _+_, _*_, _/_, _%_}

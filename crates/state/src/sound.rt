@@ -30,8 +30,7 @@ pub fn is_sound(plan: Plan, state: &[u32]) -> bool
         return false;
     }
     let core = plan.core;
-    let loads = core.loads;
-    if !all_timed(core.devices, &loads, &core.role, state) {
+    if !all_timed(core.devices, &core.loads, &core.role, state) {
         return false;
     }
     if !rest_zero(core.devices, state) {
@@ -84,7 +83,7 @@ fn inside(state: &[u32], i: usize) -> u32
 }
 
 // Are the timers of n devices sound, whose roles these are? A state has room for 32.
-fn all_timed(n: usize, loads: &Loads, roles: &[u8; 32], state: &[u32]) -> bool
+fn all_timed<'a>(n: usize, loads: &'a Loads, roles: &'a [u8; 32], state: &[u32]) -> bool
     requires { ⌜ length (now state) ≡ words ⌝ }
     ensures { λ r. ⌜ r ≡ allTimed n (now (loads .entry)) (now (roles .entry)) (now (state .entry)) ⌝ }
 {

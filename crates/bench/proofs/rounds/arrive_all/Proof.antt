@@ -9,6 +9,7 @@ use Rattle.plan.specs.declared.Plan.{Plan}
 use Rattle.state.specs.State.{words}
 use Rattle.state.specs.Network.{devices, router, loadOf}
 use Rattle.bench.specs.Round.{World, arrived, arrives, reached, nothing}
+use Rattle.bench.specs.inner.Idle.{lent}
 use Rattle.bench.specs.inner.Shown.{Seen, seen, Follows}
 use Rattle.bench.proofs.Following.{leads, silent, lands, follows-none, follows-more, follows-still, follows-done}
 use Rattle.bench.proofs.Stepped.{arrives-nothing, arrives-byte}
@@ -60,76 +61,73 @@ module _ (plan : Plan) (sent : List ℕ) (q d byte : ℕ) (device : q / 8 ≡ d)
   here-nothing h w = arrives-nothing plan sent q byte (rw device e) w h
 
 abbrev Inv-loop2 : tie.InvT-loop2
-Inv-loop2 peers barred sent state₀ told₀ count core count₀ d role first past q₀ d-end state told count' q =
-    ((size : ℕ) (x : Seen) → Reached (record { core = core; peers = peers; barred = barred }) sent size x first (seen state₀ told₀ count₀)
-    → Reached (record { core = core; peers = peers; barred = barred }) sent size x q (seen state told count'))
+Inv-loop2 n events loads roles ports permissions peers barred sent state₀ told₀ count count₀ d role first past q₀ state told count' q =
+    ((size : ℕ) (x : Seen) → Reached (lent n events loads roles ports permissions peers barred) sent size x first (seen state₀ told₀ count₀)
+    → Reached (lent n events loads roles ports permissions peers barred) sent size x q (seen state told count'))
     × (first ≤ q)
     × (q ≤ past)
-    × (past ≤ 8 * core .devices)
+    × (past ≤ 8 * n)
 
 abbrev μ-loop2 : tie.MeasureT-loop2
-μ-loop2 peers barred sent state₀ told₀ count core count₀ d role first past q₀ d-end state told count' q = past - q
+μ-loop2 n events loads roles ports permissions peers barred sent state₀ told₀ count count₀ d role first past q₀ state told count' q = past - q
 
 abbrev Inv-loop : tie.InvT-loop
-Inv-loop peers barred sent state₀ told₀ count core count₀ d₀ d-end state told count' d =
-    Reached (record { core = core; peers = peers; barred = barred }) sent (length told₀) (seen state₀ told₀ count) (8 * d) (seen state told count') × (d-end ≡ core .devices)
+Inv-loop n events loads roles ports permissions peers barred sent state₀ told₀ count count₀ d₀ state told count' d =
+    Reached (lent n events loads roles ports permissions peers barred) sent (length told₀) (seen state₀ told₀ count) (8 * d) (seen state told count')
 
 abbrev μ-loop : tie.MeasureT-loop
-μ-loop peers barred sent state₀ told₀ count core count₀ d₀ d-end state told count' d = d-end - d
+μ-loop n events loads roles ports permissions peers barred sent state₀ told₀ count count₀ d₀ state told count' d = n - d
 
 loop-holds : tie.Need-loop-holds Inv-loop2 μ-loop2 Inv-loop μ-loop
 loop-holds c =
     let s = c .before .before .before in
-    (record { within = omega arith; few = s .pre .0 .few; count = omega arith; state = s .pre .2; area = refl; follows = follows-none _ }, refl)
+    record { within = omega arith; few = s .pre .0 .few; count = omega arith; state = s .pre .2; area = refl; follows = follows-none _ }
 
 element-copy-out-role : tie.Need-element-copy-out-role Inv-loop2 μ-loop2 Inv-loop μ-loop
-element-copy-out-role c = omega (arith, c .before .before .before .before .before .pre .0 .few, c .before .loop .inv .1)
+element-copy-out-role c = omega (arith, c .before .before .before .before .before .pre .0 .few)
 
 mul-first : tie.Need-mul-first Inv-loop2 μ-loop2 Inv-loop μ-loop
-mul-first c = omega (arith, c .before .before .before .before .before .before .pre .0 .few, c .before .before .loop .inv .1)
+mul-first c = omega (arith, c .before .before .before .before .before .before .pre .0 .few)
 
 element-copy-out-past : tie.Need-element-copy-out-past Inv-loop2 μ-loop2 Inv-loop μ-loop
-element-copy-out-past c = omega (arith, c .before .before .before .before .before .before .pre .0 .few, c .before .before .loop .inv .1)
+element-copy-out-past c = omega (arith, c .before .before .before .before .before .before .pre .0 .few)
 
 cast-past : tie.Need-cast-past Inv-loop2 μ-loop2 Inv-loop μ-loop
 cast-past c =
     let s = c .before .before .before .before .before .before .before in
-    let l = c .before .before .before .loop in
-    omega (arith, l .inv .1, s .pre .0 .most (l .d) (omega (arith, l .inv .1)))
+    omega (arith, s .pre .0 .most (c .before .before .before .loop .d) (omega arith))
 
 add-past : tie.Need-add-past Inv-loop2 μ-loop2 Inv-loop μ-loop
 add-past c =
     let s = c .before .before .before .before .before .before .before in
-    let l = c .before .before .before .loop in
-    omega (arith, s .pre .0 .most (l .d) (omega (arith, l .inv .1)), s .pre .0 .few, l .inv .1)
+    omega (arith, s .pre .0 .most (c .before .before .before .loop .d) (omega arith), s .pre .0 .few)
 
 loop2-holds : tie.Need-loop2-holds Inv-loop2 μ-loop2 Inv-loop μ-loop
 loop2-holds c =
     let s = c .before .before .before .before .before .before .before in
-    let l = c .before .before .before .loop in
-    let most = s .pre .0 .most (l .d) (omega (arith, l .inv .1)) in
-    (λ size x v. v, omega arith, omega arith, omega (arith, most, l .inv .1))
+    let most = s .pre .0 .most (c .before .before .before .loop .d) (omega arith) in
+    (λ size x v. v, omega arith, omega arith, omega (arith, most))
 
 arrive-one-requires : tie.Need-arrive-one-requires Inv-loop2 μ-loop2 Inv-loop μ-loop
 arrive-one-requires c κs =
-    let l = c .before .before .before .before .before .before .before .before .before in
-    let v = l .loop2 .inv .0 _ _ (l .before .before .before .before .loop .inv .0) in
+    let l = c .before .before .before .before .before .before in
+    let v = l .loop2 .inv .0 _ _ (l .before .before .before .before .loop .inv) in
     (v .state, omega (arith, v .few, l .loop2 .inv .3), omega (arith, v .count, v .few, l .loop2 .inv .3))
 
 loop2-again : tie.Need-loop2-again Inv-loop2 μ-loop2 Inv-loop μ-loop
 loop2-again c =
     let l = c .before .before .before .before in
     let o = l .before .before .before .before in
-    let most = o .before .before .before .before .pre .0 .most (o .loop .d) (omega (arith, o .loop .inv .1)) in
+    let most = o .before .before .before .before .pre .0 .most (o .loop .d) (omega arith) in
     let device : l .loop2 .q / 8 ≡ o .loop .d = omega arith in
     let byte = c .before .heard .ensures in (
       λ size x v. let u = l .loop2 .inv .0 size x v in
           ⊎-elim
           (λ w. again u (omega (arith, l .loop2 .inv .3))
-          (lands (w .11) (w .12) (w .13) (leads (λ told. here-byte _ _ _ _ _ device byte (w .0 .taken) _) (w .6 .ensures .0)))
-          (omega (arith, w .13, w .6 .ensures .1))
-          (ap length (w .11) ∙ w .6 .kept .1 .1 .1 .1 .1 .1 .1 .0)
-          (ap length (w .12) ∙ w .6 .kept .1 .1 .1 .1 .1 .1 .1 .1 .0))
+          (lands (w .8) (w .9) (w .10) (leads (λ told. here-byte _ _ _ _ _ device byte (w .0 .taken) _) (w .3 .ensures .0)))
+          (omega (arith, w .10, w .3 .ensures .1))
+          (ap length (w .8) ∙ w .3 .kept .1 .1 .1 .1 .1 .1 .1 .0)
+          (ap length (w .9) ∙ w .3 .kept .1 .1 .1 .1 .1 .1 .1 .1 .0))
           (λ w. again u (omega (arith, l .loop2 .inv .3)) (lands (w .1) (w .2) (w .3) (silent (λ told. here-nothing _ _ _ _ _ device byte (w .0 .left) _))) (omega (arith, w .3)) (ap length (w .1)) (ap length (w .2)))
           (c .if1 .came),
       omega arith,
@@ -142,15 +140,13 @@ loop-again c =
     let l = c .before in
     let o = l .before .before .before .before in
     let s = o .before .before .before .before in
-    let most = s .pre .0 .most (o .loop .d) (omega (arith, o .loop .inv .1)) in (
-      skip (l .loop2 .inv .0 _ _ (o .loop .inv .0)) (omega arith) (omega arith)
-          (λ j a b. arrives-unused _ (s .pre .0) _ (s .pre .1) (o .loop .d) j (omega (arith, o .loop .inv .1)) (omega arith) (omega arith)),
-      o .loop .inv .1,
-    )
+    let most = s .pre .0 .most (o .loop .d) (omega arith) in
+    skip (l .loop2 .inv .0 _ _ (o .loop .inv)) (omega arith) (omega arith)
+    (λ j a b. arrives-unused _ (s .pre .0) _ (s .pre .1) (o .loop .d) j (omega arith) (omega arith) (omega arith))
 
 returns : tie.Need-returns Inv-loop2 μ-loop2 Inv-loop μ-loop
 unfolding reached
-returns c = follows-done _ (c .before .loop .inv .0 .follows) (omega (arith, c .before .loop .inv .0 .within, c .before .loop .inv .1))
+returns c = follows-done _ (c .before .loop .inv .follows) (omega (arith, c .before .loop .inv .within))
 
 heard-requires : tie.Need-heard-requires Inv-loop2 μ-loop2 Inv-loop μ-loop
 heard-requires c κs = search needs

@@ -1,60 +1,54 @@
--- `plan::fields::pairs_fit` meets its contract. The invariant: the pairs before k fit. Assumes nothing.
-use mathlib.Core.Path.{_≡_, sym, ap₂, _∙_}
-use mathlib.Core.Bool.{Bool}
+-- `plan::fields::pairs_fit` meets its contract. The invariant: `all` says whether the pairs before k fit. Assumes nothing.
+use mathlib.Core.Path.{_≡_, refl, sym, ap, ap₂, _∙_}
+use mathlib.Core.Bool.{Bool, _&&_}
 use mathlib.Core.List.{List}
-use Prim.Native.Nat.{ℕ, _+_, _-_, _*_}
+use Prim.Native.Nat.{ℕ, _+_, _-_, _*_, _≤_}
+use native.Mathlib.Numerals.{add-one}
 use native.Mathlib.Omega.{arith}
 use lib.ListN.{getD}
 use borrow.Author.Needs.{needs}
-use Rattle.lists.proofs.Tests.{every-not}
-use Rattle.lists.proofs.Turns.{Passed, passed-none, passed-more, passed-all, failed, passed}
+use Rattle.lists.specs.Table.{every}
 use Rattle.plan.specs.Fields.{pairFits}
 use Rattle.plan.specs.Header.{pairAt}
 use Rattle.plan.proofs.Loads.{node-at, router-at}
 use Rattle.plan.proofs.fields.pairs_fit.Statement.{statement}
 use Rattle.plan.proofs.fields.pairs_fit.Tie as tie
 
+abbrev fits : List ℕ → ℕ → Bool
+fits loads k = pairFits (getD loads (pairAt k 1) 0) (getD loads (pairAt k 0) 0)
+
 abbrev Inv-loop : tie.InvT-loop
-Inv-loop loads k₀ k = Passed 32 (λ i. pairFits (getD loads (pairAt i 1) 0) (getD loads (pairAt i 0) 0)) k
+Inv-loop loads all₀ k₀ all k = (all ≡ every k (fits loads)) × (k ≤ 32)
 
 abbrev μ-loop : tie.MeasureT-loop
-μ-loop loads k₀ k = 32 - k
+μ-loop loads all₀ k₀ all k = 32 - k
 
 loop-holds : tie.Need-loop-holds Inv-loop μ-loop
-loop-holds c = passed-none _ _
+unfolding every
+loop-holds c = (refl, omega arith)
 
--- what is tested is the pair of k
-tested : (loads : List ℕ) (k : ℕ) {router node : ℕ} {r : Bool} → r ≡ pairFits router node → router ≡ getD loads (2 + 2 * k + 1) 0 → node ≡ getD loads (2 + 2 * k) 0
-    → r ≡ pairFits (getD loads (pairAt k 1) 0) (getD loads (pairAt k 0) 0)
-tested loads k e a b = rw (node-at k, router-at k) (e ∙ ap₂ pairFits a b)
-
-returns : tie.Need-returns Inv-loop μ-loop
-returns c =
-    let t = c .before in
-    let r = t .before in
-    let n = r .before .before in
-    let l = n .before .before .before in
-    sym (every-not 32 _ (l .loop .k) (omega arith) (failed (tested (l .before .args .loads .now) (l .loop .k) (t .pair-fits .ensures) (r .wide162 .ensures .0) (n .wide16 .ensures .0)) (c .if1 .taken)))
+-- a pair more
+turn : (loads : List ℕ) (k : ℕ) {all one now : Bool} → all ≡ every k (fits loads) → one ≡ pairFits (getD loads (2 + 2 * k + 1) 0) (getD loads (2 + 2 * k) 0) → now ≡ (all && one)
+    → now ≡ every (k + 1) (fits loads)
+unfolding every
+turn loads k e f g = rw (add-one, node-at k, router-at k) (g ∙ ap₂ (λ (a b : Bool). a && b) e f)
 
 loop-again : tie.Need-loop-again Inv-loop μ-loop
 loop-again c =
-    let t = c .before in
-    let r = t .before in
-    let n = r .before .before in
-    let l = n .before .before .before in
-    passed-more (l .loop .inv) (omega arith) (passed (tested (l .before .args .loads .now) (l .loop .k) (t .pair-fits .ensures) (r .wide162 .ensures .0) (n .wide16 .ensures .0)) (c .if1 .left))
+    let l = c .before .before .before .before .before in
+    (turn (l .before .args .loads .now) (l .loop .k) (l .loop .inv .0) (c .before .pair-fits .ensures) (c .both .ensures), omega arith)
 
-returns-2 : tie.Need-returns-2 Inv-loop μ-loop
-returns-2 c = sym (passed-all (c .before .loop .inv) (c .loop-test .left))
-
-wide16-requires : tie.Need-wide16-requires Inv-loop μ-loop
-wide16-requires c κs = search needs
-
-wide16-requires-2 : tie.Need-wide16-requires-2 Inv-loop μ-loop
-wide16-requires-2 c κs = search needs
+returns : tie.Need-returns Inv-loop μ-loop
+returns c =
+    let l = c .before in
+    let end : l .loop .k ≡ 32 = omega (arith, l .loop .inv .1) in
+    l .loop .inv .0 ∙ ap (λ n. every n (fits (l .before .args .loads .now))) end
 
 pair-fits-requires : tie.Need-pair-fits-requires Inv-loop μ-loop
 pair-fits-requires c κs = search needs
+
+both-requires : tie.Need-both-requires Inv-loop μ-loop
+both-requires c κs = search needs
 
 pub pairs-fit-spec : {M : Type 1} → statement M
 pairs-fit-spec =
@@ -67,14 +61,12 @@ pairs-fit-spec =
     (λ c. search needs)
     (λ c. search needs)
     (λ c. search needs)
-    wide16-requires
     (λ c. search needs)
     (λ c. search needs)
     (λ c. search needs)
-    wide16-requires-2
     pair-fits-requires
-    returns
+    both-requires
     (λ c. search needs)
     (λ c. search needs)
     loop-again
-    returns-2)
+    returns)

@@ -9,7 +9,7 @@ returns c =
     let p = k .before .before .before .before in
     let n = p .before .before .before .before .before .before in
     let z = n .before .before .before .before in
-    header-made (z .before .before .before .args .header) (z .clear .ensures) (n .put-common .ensures) (p .put-pairs .ensures) (k .seal .ensures)
+    header-made (z .before .before .before .args .t1) (z .clear .ensures) (n .put-common .ensures) (p .put-pairs .ensures) (k .seal .ensures)
 
 clear-requires : tie.Need-clear-requires
 clear-requires c κs = search needs

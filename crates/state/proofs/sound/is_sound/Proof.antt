@@ -54,26 +54,26 @@ returns c = decided _ _ (fit (c .before)) false _ _ _ _ _ _ (ne-eqb _ _ (c .if1 
 
 returns-2 : tie.Need-returns-2
 returns-2 c =
-    let e = c .before .before .before .before .before .before .before in
+    let e = c .before .before .before .before .before .before in
     let timed = sym (c .before .all-timed .ensures) ∙ not-true _ (c .if2 .taken) in
     decided _ _ (fit (e .before)) true false _ _ _ _ _ (eq-eqb _ _ (e .if1 .left)) timed refl refl refl refl refl
 
 returns-3 : tie.Need-returns-3
 returns-3 c =
-    let e = c .before .before .before .before .before .before .before .before .before in
+    let e = c .before .before .before .before .before .before .before .before in
     let timed = sym (c .before .before .before .all-timed .ensures) ∙ not-false _ (c .before .before .if2 .left) in
     let rest = sym (c .before .rest-zero .ensures) ∙ not-true _ (c .if3 .taken) in
     decided _ _ (fit (e .before)) true true false _ _ _ _ (eq-eqb _ _ (e .if1 .left)) timed rest refl refl refl refl
 
 -- the first three tests are passed, when the ports are looked at: the answer is that of the last four
-looked : (c : tie.After-ports-sound) → let e = c .before .before .before .before .before .before .before .before .before .before .before .before .before .before .before .before .before .before in
+looked : (c : tie.After-ports-sound) → let e = c .before .before .before .before .before .before .before .before .before .before .before .before .before .before .before .before .before in
     (r : Bool)
     → ((g h k : Bool) → allCounters (e .args .plan) (now (e .args .state)) ≡ g → allTimes (e .args .plan) (now (e .args .state)) ≡ h
     → allDrops (e .args .plan) (now (e .args .state)) ≡ k → (c .ports-sound .result && g && h && k) ≡ r)
     → Decides (Sound (e .args .plan) (now (e .args .state))) r
 looked c r last =
     let t = c .before .before .before .before .before .before .before in
-    let e = t .before .before .before .before .before .before .before .before .before in
+    let e = t .before .before .before .before .before .before .before .before in
     let plan = e .before .before .args .plan in
     let s = now (e .before .before .args .state) in
     let timed = sym (t .before .before .before .all-timed .ensures) ∙ not-false _ (t .before .before .if2 .left) in
@@ -91,7 +91,7 @@ returns-5 c =
     (λ g h k u v w. rw (not-false (c .before .before .before .ports-sound .result) (c .before .before .if4 .left), ← u, ← c .before .counters-sound .ensures, not-true (c .before .counters-sound .result) (c .if5 .taken)))
 
 -- the counters are sound as well
-counted : (c : tie.After-times-sound) → let e = c .before .before .before .before .before .before .before .before .before .before .before .before .before .before .before .before .before .before .before .before .before .before .before in
+counted : (c : tie.After-times-sound) → let e = c .before .before .before .before .before .before .before .before .before .before .before .before .before .before .before .before .before .before .before .before .before .before in
     (r : Bool)
     → ((h k : Bool) → allTimes (e .args .plan) (now (e .args .state)) ≡ h → allDrops (e .args .plan) (now (e .args .state)) ≡ k → (h && k) ≡ r)
     → Decides (Sound (e .args .plan) (now (e .args .state))) r
