@@ -335,8 +335,8 @@ static void known_fault(const struct fault *fault) {
     must_be("the block", fault->in, value_given(0));
 }
 
-/* Byte 10 with every value, and all behind it in block 0, which are to be zero, with 1; and with 1 the bytes of the mask of
- * events, of which none is wrong. */
+/* Byte 10 with every value, and with 1 all others of block 0 from the mask of events on: no mask is wrong, a pair of loads
+ * with one byte is, and the rest are to be zero. */
 static void known_bytes(void) {
     star(15);
     for (u32 byte = 0; byte < 256; byte++) {
@@ -349,7 +349,7 @@ static void known_bytes(void) {
         plan.bytes[10] = 1;
         plan.bytes[at] = 1;
         seal(&plan, 0);
-        must_be("a file with this byte of block 0", at <= 10 ? 0 : 24, try_plan_read(&plan));
+        must_be("a file with this byte of block 0", at <= 10 ? 0 : at >= 16 && at < 144 ? 23 : 24, try_plan_read(&plan));
         plan.bytes[at] = 0;
     }
 }

@@ -309,7 +309,7 @@ void try_cycles(const struct plan *given, struct trips *trips) {
         light = most * course.plan.bytes[1] < 4000;
         count = once_in(light ? 2 : 12) ? 2 + pick(MOST_CYCLES - 1) : 1;
     }
-    exceed(&course, most);
+    exceed(&course, k, most);
     unset(&course, k);
     flag crowded = once_in(2), hushed = !crowded && once_in(2);
     let_tick(&course, hushed || once_in(2) ? cycles[0].back.start : cycles[0].out.start);
@@ -318,4 +318,5 @@ void try_cycles(const struct plan *given, struct trips *trips) {
     if (hushed)
         hush(k, cycles[0].back.start);
     play_cycles(cycles, count, hushed, trips);
+    count_loads(IN_T_01, &course, k, most);
 }

@@ -33,8 +33,10 @@ static void change_check(struct plan *plan, u32 block) {
     put_number(check, 2, once_in(2) ? value + 1 - 2 * pick(2) : pick(65536));
 }
 
-/* A remainder that is not reduced: it fits into two bytes for the smallest loads and one device or two. */
+/* A remainder that is not reduced: it fits into two bytes for the smallest loads, with none of their own, and one device or
+ * two. */
 static void raise_check(struct plan *plan) {
+    memset(plan->bytes + OWN_LOADS, 0, BEHIND_LOADS - OWN_LOADS);
     set_loads(plan, 1, 1);
     if (block_check(plan->bytes) + 65521 <= 65535)
         put_number(plan->bytes + 510, 2, block_check(plan->bytes) + 65521);
@@ -43,6 +45,14 @@ static void raise_check(struct plan *plan) {
 static void put_loads(struct plan *plan) {
     u32 load = pick(3) ? 1 + pick(5) : pick(65535), router = once_in(3) ? 0 : load + pick(2), node = once_in(3) ? 0 : load;
     set_loads(plan, router, node);
+}
+
+/* A pair with one zero, or with the router's load above the node's, by one or by more; or one that does no harm. */
+static void put_pair(struct plan *plan) {
+    u32 k = pick(IDENTIFIERS), load = pick(3) ? 1 + pick(5) : 1 + pick(65535), less = pick(load);
+    const struct loads pairs[] = {{0, load}, {load, 0}, {load, load - 1}, {load, less}, {load, load}, {less, load}};
+    struct loads pair = pairs[pick(sizeof pairs / sizeof *pairs)];
+    set_own_loads(plan, k, pair.router, pair.node);
 }
 
 /* Connections that are good fields and yet bad: a port that points to itself, to a port elsewhere, to one that its device
@@ -158,7 +168,7 @@ static void misbar(struct plan *plan, u32 device) {
 
 static void damage_block_0(struct plan *plan) {
     u8 dirt = 1 + pick(255);
-    switch (pick(10)) {
+    switch (pick(12)) {
     case 0: change(plan->bytes + pick(6)); break;
     case 1: plan->bytes[MASTER + pick(500)] = dirt; break;
     case 2: change_check(plan, 0); return;
@@ -168,6 +178,8 @@ static void damage_block_0(struct plan *plan) {
     case 6: missource(plan); break;
     case 7: unmask(plan); break;
     case 8: plan->bytes[EVENTS + pick(4)] = dirt; break;
+    case 9: put_pair(plan); return;
+    case 10: change(plan->bytes + OWN_LOADS + pick(BEHIND_LOADS - OWN_LOADS)); break;
     default: plan->bytes[1] += 1 - 2 * pick(2);
     }
     if (!once_in(4))

@@ -29,7 +29,7 @@ void try_demand_3(const struct plan *given, struct demands *demands) {
         crowd(&course, spread.k);
     let_tick(&course, spread.start);
     measure(&course, &spread, 0);
-    exceed(&course, spread.window);
+    exceed(&course, spread.k, spread.window);
     must_be("demand 3: the request is taken", 0, host_calls(&course, REQUEST, spread.start, spread.k));
     check_held(&spread, &course, 0);
     u32 calls = pick(4);
@@ -41,4 +41,5 @@ void try_demand_3(const struct plan *given, struct demands *demands) {
     check_all_sent(&spread, &course);
     check_rest(&spread, &course);
     count(&spread, demands);
+    count_loads(IN_DEMAND_3, &course, spread.k, spread.window);
 }

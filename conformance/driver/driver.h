@@ -121,9 +121,10 @@ flag all_counted(const char *what, const char *const *names, const size *counts,
 /* Of each program with a main: says what was being tried, when something fails. */
 void say_where(void);
 
-/* plans.c: accepted files of every shape. A mask is named by where it stands in a block, and so are the events and the master in
- * block 0. The bars of the ports stand behind their entries, eight bytes for each. */
-enum { SOURCES = 4, HANDLERS = 8, BARS = 44, BEHIND_BARS = 108, EVENTS = 6, MASTER = 10 };
+/* plans.c: accepted files of every shape. A mask is named by where it stands in a block, and so are the events, the master and
+ * what identifiers have for loads of their own, four bytes for each, in block 0. The bars of the ports stand behind their
+ * entries, eight bytes for each. */
+enum { SOURCES = 4, HANDLERS = 8, BARS = 44, BEHIND_BARS = 108, EVENTS = 6, MASTER = 10, OWN_LOADS = 16, BEHIND_LOADS = 144 };
 u32 master_of(const struct plan *plan); /* NO_MASTER for none */
 void name_master(struct plan *plan, u32 device);
 flag in_mask(struct plan *plan, u32 device, u32 mask, u32 k);
@@ -145,7 +146,13 @@ void blank(struct plan *plan, u32 devices);
 void be_router(struct plan *plan, u32 device, u32 ports);
 void be_node(struct plan *plan, u32 device, u32 ports);
 void connect_ports(struct plan *plan, u32 device, u32 port, u32 peer, u32 peer_port, u8 permissions);
-void set_loads(struct plan *plan, u32 router, u32 node);
+void set_loads(struct plan *plan, u32 router, u32 node); /* the common ones */
+void set_own_loads(struct plan *plan, u32 k, u32 router, u32 node); /* the pair of k; zeros are no pair */
+struct loads common_loads(const struct plan *plan);
+struct loads own_loads(const struct plan *plan, u32 k); /* zeros where k has no pair */
+flag has_pair(const struct plan *plan, u32 k);
+struct loads loads_of(const struct plan *plan, u32 k); /* its own, or else the common ones */
+u32 load_at(struct plan *plan, u32 device, struct loads loads); /* the one of the two that is for the device's role */
 void put_number(u8 *at, u32 bytes, u32 number);
 void make_plan(struct plan *plan);
 
@@ -153,17 +160,18 @@ void make_plan(struct plan *plan);
 void damage(struct plan *plan);
 
 /* states.c: any sound state, and states with one clause of soundness broken; 0 where the plan has no place for it. */
-enum { CLAUSES = 28 };
+enum { CLAUSES = 32 };
 u32 *device_words(struct state *state, u32 device);
 u32 *port_words(struct state *state, u32 device, u32 port);
 u32 *counter_word(struct state *state, u32 device);
 u32 *time_word(struct state *state, u32 device, u32 port);
 u32 *drop_word(struct state *state, u32 device, u32 port, enum kind kind);
 void sound_state(struct plan *plan, struct state *state);
+void fit_timers(struct plan *plan, struct state *state); /* where loads have become shorter: none is above its load then */
 void set_running(struct plan *plan, struct state *state, u32 device, u32 port, flag running); /* what cannot wait there is lost */
 flag break_state(struct plan *plan, struct state *state, u32 clause);
 void state_bytes(const struct state *state, struct state_file *file); /* with any given but 0 */
-void states_table(void); /* what sound ones have of Time-Codes, events and drops, and how often each clause was broken */
+void states_table(void); /* what sound ones have of Time-Codes, events, drops and loads, and how often each clause was broken */
 flag all_states_tried(void);
 
 /* A network whose rounds are played one after the other, and what the last of them built. The judge keeps it in its records,
@@ -205,7 +213,8 @@ u32 running_ports(struct course *course, u32 device);
 flag can_send(struct course *course, u32 device); /* an interrupt, by some port */
 u32 farthest(const u32 distance[DEVICES]); /* the greatest of those that are reached */
 void measure(struct course *course, struct spread *spread, const u32 *within); /* the window, and the distances as in reach.c */
-void exceed(struct course *course, u32 rounds); /* loads that are longer, by one in half of the trials */
+void give_loads(struct course *course, u32 k, u32 router, u32 node); /* by a pair of its own, or by the common loads */
+void exceed(struct course *course, u32 k, u32 rounds); /* loads of k that are longer, by one in half of the trials */
 u32 make_call(struct course *course, struct change change);
 u32 host_calls(struct course *course, enum call call, u32 device, u32 k); /* a request or an acknowledge */
 void play_on(struct course *course, u32 k, u32 calls); /* a round, and calls before it: ticks, on others, or refused */
@@ -292,12 +301,24 @@ void try_guards(const struct plan *plan);
 void guards_table(void);
 flag all_guards_tried(void);
 
-/* known.c, clock.c, profile.c, chains.c, edge.c, codes.c, trials.c, demand.c, cycle.c and drop.c: what is tried. */
+/* loads.c: which pairs of loads a file may have, what timers are loaded with in any run, and by which loads k lasts in a trial where
+ * it has to, which is for longer than so many rounds. */
+enum trial { IN_DEMAND_3, IN_T_01, IN_T_03, IN_T_08, IN_T_11, TRIALS };
+void count_pairs(const struct plan *plan);
+void try_pairs(const struct plan *plan);
+void loads_in_call(struct plan *plan, struct state *before, struct state *after, const struct change *change, u32 number);
+void loads_in_round(struct plan *plan, struct state *before, struct played *played);
+void count_loads(enum trial trial, const struct course *course, u32 k, u32 rounds);
+void loads_table(void);
+flag all_loads_tried(void);
+
+/* known.c, clock.c, profile.c, chains.c, edge.c, pairs.c, codes.c, trials.c, demand.c, cycle.c and drop.c: what is tried. */
 void known_values(void);
 void known_times(void);
 void known_events(void);
 void known_chains(void);
 void known_bars(void);
+void known_loads(void);
 void try_tables(void);
 void try_files(struct plan *plan);
 void try_calls(struct plan *plan);

@@ -40,7 +40,7 @@ static void prepare(void) {
         if (d != request.start && device_block(&course.plan, d)[2] == 0 && once_in(2))
             give_role(&course.plan, d, HANDLERS, request.k);
     load = 1 + pick(MOST_LOAD);
-    set_loads(&course.plan, 1 + pick(load), load);
+    give_loads(&course, request.k, 1 + pick(load), load);
     rounds = 0;
 }
 
@@ -121,6 +121,7 @@ struct drop try_drop(const struct plan *given) {
     drop.event = is_event(&course.plan, request.k);
     must_be("T-03: the request is taken", 0, host_calls(&course, REQUEST, request.start, request.k));
     check_source();
+    count_loads(IN_T_03, &course, request.k, load - 1);
     for (u32 p = 0; p < NODE_PORTS; p++)
         ran[p] = runs(p);
     for (;;) {

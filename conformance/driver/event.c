@@ -144,7 +144,7 @@ struct request {
 };
 
 static struct course course;
-static u32 k, router_load, node_load;
+static u32 k, router_load, node_load; /* the loads are those of k */
 static struct request requests[MOST_REQUESTS];
 
 static flag is_router(u32 device) {
@@ -199,7 +199,7 @@ static u32 choose_requests(u32 source, u32 count) {
     }
     router_load = window + 1 + (once_in(2) ? 0 : pick(MOST_OVER));
     node_load = router_load + (once_in(2) ? 0 : pick(MOST_OVER));
-    set_loads(&course.plan, router_load, node_load);
+    give_loads(&course, k, router_load, node_load);
     for (u32 i = 0; i < count; i++) {
         requests[i].rounds = CROSSING * farthest(requests[i].out.distance) + node_load;
         rounds += requests[i].rounds;
@@ -378,6 +378,7 @@ void try_events(const struct plan *given) {
         times[OTHER_TURNS] += i > 0 && requests[i].out.start != requests[i - 1].out.start;
     }
     times[NETWORKS]++;
+    count_loads(IN_T_08, &course, k, router_load - 1);
 }
 
 void events_table(void) {

@@ -209,14 +209,9 @@ static void set_guard(void) {
     ways[guarded.kind == INTERRUPT ? GUARD_INTERRUPTS : GUARD_ACKS]++;
 }
 
-/* Nobody else has it waiting and, where it is an interrupt, holds it. The node may, and of what it is to acknowledge it often
- * does. */
-static void prepare(void) {
-    u32 bit = 1u << guarded.k, load = 1 + pick(MOST_LOAD);
-    if (once_in(2)) {
-        open_links(&course, 1);
-        ways[OPEN_WIDE]++;
-    }
+/* Nobody else has it waiting and, where it is an interrupt, holds it. */
+static void clear_others(void) {
+    u32 bit = 1u << guarded.k;
     for (u32 d = 0; d < DEVICES; d++) {
         u32 *words = device_words(&course.state, d);
         for (u32 p = 0; d != guarded.start && p < PORTS; p++)
@@ -226,12 +221,25 @@ static void prepare(void) {
         words[0] &= ~bit;
         words[1 + guarded.k] = 0;
     }
-    if (guarded.kind == ACKNOWLEDGE && !once_in(4)) {
-        device_words(&course.state, guarded.start)[0] |= bit;
-        device_words(&course.state, guarded.start)[1 + guarded.k] = 1 + pick(ROUNDS);
+}
+
+/* The node may hold it, and what it is to acknowledge it often holds. In half of the trials the loads of k are short. */
+static void prepare(void) {
+    u32 load = 1 + pick(MOST_LOAD), more = pick(MOST_LOAD), *words = device_words(&course.state, guarded.start);
+    if (once_in(2)) {
+        open_links(&course, 1);
+        ways[OPEN_WIDE]++;
     }
-    if (once_in(2))
-        set_loads(&course.plan, load, load + pick(MOST_LOAD));
+    clear_others();
+    if (once_in(2)) {
+        give_loads(&course, guarded.k, load, load + more);
+        count_loads(IN_T_11, &course, guarded.k, load + more - 1);
+    }
+    if (guarded.kind == ACKNOWLEDGE && !once_in(4)) {
+        u32 most = load_at(&course.plan, guarded.start, loads_of(&course.plan, guarded.k));
+        words[0] |= 1u << guarded.k;
+        words[1 + guarded.k] = 1 + pick(most < ROUNDS ? most : ROUNDS);
+    }
     let_tick(&course, guarded.start);
 }
 

@@ -12,26 +12,33 @@ void say_where(void) {
            this_case);
 }
 
+/* What the driver knows by itself of both, which needs no network of any shape. */
+static void play_known(void) {
+    known_values();
+    known_times();
+    known_events();
+    known_chains();
+    known_examined();
+    known_bars();
+    known_loads();
+    try_tables();
+}
+
 static void play(size which) {
     this_case = which;
     before_case = compared();
     random_begin(seed, which);
-    if (which == 0) {
-        known_values();
-        known_times();
-        known_events();
-        known_chains();
-        known_examined();
-        known_bars();
-        try_tables();
-    }
+    if (which == 0)
+        play_known();
     make_plan(&plan);
     count_shapes(&plan);
     count_bars(&plan);
+    count_pairs(&plan);
     try_files(&plan);
     try_masters(&plan);
     try_sources(&plan);
     try_bars(&plan);
+    try_pairs(&plan);
     try_calls(&plan);
     try_ports(&plan);
     try_run(&plan, which % 16 == 15 ? 500 : 40);
@@ -139,8 +146,10 @@ int main(int count, char **words) {
     whys_table();
     examined_table();
     guards_table();
+    loads_table();
     if (whole && !(all_hit() && all_ticks_answered() && all_states_tried() && all_tried() && all_ports_tried() &&
-                   all_time_tried() && all_events_tried() && all_whys_tried() && all_examined_tried() && all_guards_tried()))
+                   all_time_tried() && all_events_tried() && all_whys_tried() && all_examined_tried() && all_guards_tried() &&
+                   all_loads_tried()))
         return 1;
     printf("judge: ok\n");
     return 0;

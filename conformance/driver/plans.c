@@ -116,6 +116,33 @@ void set_loads(struct plan *plan, u32 router, u32 node) {
     seal(plan, 0);
 }
 
+void set_own_loads(struct plan *plan, u32 k, u32 router, u32 node) {
+    put_number(plan->bytes + OWN_LOADS + 4 * k, 2, router);
+    put_number(plan->bytes + OWN_LOADS + 4 * k + 2, 2, node);
+    seal(plan, 0);
+}
+
+struct loads common_loads(const struct plan *plan) {
+    return (struct loads){number_at(plan->bytes + 2, 2), number_at(plan->bytes + 4, 2)};
+}
+
+struct loads own_loads(const struct plan *plan, u32 k) {
+    const u8 *pair = plan->bytes + OWN_LOADS + 4 * k;
+    return (struct loads){number_at(pair, 2), number_at(pair + 2, 2)};
+}
+
+flag has_pair(const struct plan *plan, u32 k) {
+    return own_loads(plan, k).node != 0;
+}
+
+struct loads loads_of(const struct plan *plan, u32 k) {
+    return has_pair(plan, k) ? own_loads(plan, k) : common_loads(plan);
+}
+
+u32 load_at(struct plan *plan, u32 device, struct loads loads) {
+    return device_block(plan, device)[2] == 1 ? loads.router : loads.node;
+}
+
 /* Nodes with one port, which lead nowhere. */
 void blank(struct plan *plan, u32 devices) {
     plan->length = BLOCK * (1 + devices);
@@ -401,13 +428,29 @@ static void choose_bars(struct plan *plan, u32 devices) {
     }
 }
 
-static void load(struct plan *plan) {
-    u32 most[] = {5, 5, 40, 300, 65535}, limit = most[pick(5)], one = 1 + pick(limit), other = 1 + pick(limit);
+/* More often short than long. The two are made equal once in so many times. */
+static struct loads any_loads(u32 equal) {
+    static const u32 most[] = {5, 5, 40, 300, 65535};
+    u32 limit = most[pick(sizeof most / sizeof *most)], one = 1 + pick(limit), other = 1 + pick(limit);
     if (once_in(10))
         one = 65535;
-    if (once_in(10))
+    if (once_in(equal))
         other = one;
-    set_loads(plan, one < other ? one : other, one < other ? other : one);
+    return one < other ? (struct loads){one, other} : (struct loads){other, one};
+}
+
+/* In half of the plans no identifier has loads of its own, as in those from before any could. In the others one has, few have,
+ * half, or all: each a pair that may be longer than the common loads, or shorter. */
+static void choose_loads(struct plan *plan) {
+    struct loads common = any_loads(10);
+    u32 owners = some_bits(once_in(2) ? 0 : 1 + pick(4));
+    set_loads(plan, common.router, common.node);
+    for (u32 k = 0; k < IDENTIFIERS; k++) {
+        if (!(owners >> k & 1))
+            continue;
+        struct loads own = any_loads(3);
+        set_own_loads(plan, k, own.router, own.node);
+    }
 }
 
 /* In half of the networks no device is the master, and where there are only routers none is either. */
@@ -429,7 +472,7 @@ void make_plan(struct plan *plan) {
     dress(plan, devices);
     choose_events(plan);
     choose_bars(plan, devices);
-    load(plan);
+    choose_loads(plan);
     seal_devices(plan);
     choose_master(plan, devices);
 }

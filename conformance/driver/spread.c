@@ -143,9 +143,25 @@ void measure(struct course *course, struct spread *spread, const u32 *within) {
     spread->window = CROSSING * (farthest(spread->distance) + 1);
 }
 
-void exceed(struct course *course, u32 rounds) {
-    u32 router = rounds + 1 + (once_in(2) ? 0 : pick(29000));
-    set_loads(&course->plan, router, router + (once_in(2) ? 0 : pick(29000)));
+/* In half of the trials k has a pair, and the common loads are as they were, or very short; in the others it has none, and
+ * they are its own. What other identifiers have of their own stays. Timers that run are within the new loads then. */
+void give_loads(struct course *course, u32 k, u32 router, u32 node) {
+    struct plan *plan = &course->plan;
+    if (once_in(2)) {
+        u32 brief = 1 + pick(5);
+        set_own_loads(plan, k, router, node);
+        if (once_in(2))
+            set_loads(plan, brief, brief + pick(5));
+    } else {
+        set_own_loads(plan, k, 0, 0);
+        set_loads(plan, router, node);
+    }
+    fit_timers(plan, &course->state);
+}
+
+void exceed(struct course *course, u32 k, u32 rounds) {
+    u32 router = rounds + 1 + (once_in(2) ? 0 : pick(29000)), node = router + (once_in(2) ? 0 : pick(29000));
+    give_loads(course, k, router, node);
 }
 
 u32 make_call(struct course *course, struct change change) {

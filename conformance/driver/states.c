@@ -66,13 +66,53 @@ static void sound_drops(struct plan *plan, struct state *state, u32 d) {
     }
 }
 
-/* What sound states have of Time-Codes, of events and of drops. */
-enum having { ANYTHING, A_COUNTER, ONE_WAITS, LAST_AND_STILL, AN_EVENT, OF_EVENT, DROPS, FULL, NOT_BARRED, AT_OPEN, HAVINGS };
+/* A timer that runs has any number up to its load, and is often just loaded, or in its last round. */
+static u32 some_timer(struct plan *plan, u32 d, u32 k, u32 brief) {
+    u32 load = load_at(plan, d, loads_of(plan, k)), which = pick(8);
+    if (which < 2)
+        return which ? load : 1;
+    return 1 + pick(pick(3) < brief && load > 4 ? 4 : load);
+}
+
+static void sound_timers(struct plan *plan, struct state *state, u32 d, u32 brief) {
+    u32 *words = device_words(state, d);
+    for (u32 k = 0; k < IDENTIFIERS; k++)
+        if (words[0] >> k & 1)
+            words[1 + k] = some_timer(plan, d, k, brief);
+}
+
+void fit_timers(struct plan *plan, struct state *state) {
+    for (u32 i = 0; i < plan->bytes[1] * IDENTIFIERS; i++) {
+        u32 d = i / IDENTIFIERS, k = i % IDENTIFIERS, *timer = &device_words(state, d)[1 + k];
+        if (*timer > load_at(plan, d, loads_of(plan, k)))
+            *timer = some_timer(plan, d, k, 0);
+    }
+}
+
+/* What sound states have of Time-Codes, of events, of drops and of loads. */
+enum having {
+    ANYTHING, A_COUNTER, ONE_WAITS, LAST_AND_STILL, AN_EVENT, OF_EVENT, DROPS, FULL, NOT_BARRED, AT_OPEN, AT_COMMON, AT_OWN,
+    ABOVE_COMMON, GREATEST, HAVINGS
+};
 static const char *const having_names[HAVINGS] = {
     "sound states", "with a counter that is not 0", "with a Time-Code that waits", "with the 128 at a port that stands still",
     "with an event that is held", "with an acknowledge of one that waits", "with drops that are counted",
-    "with a count of 65,535", "with a count where nothing is barred", "with a count where nothing is joined"};
+    "with a count of 65,535", "with a count where nothing is barred", "with a count where nothing is joined",
+    "with a timer at the common load", "with a timer at its own load", "with a timer above the common load",
+    "with a timer of 65,535"};
 static size having[HAVINGS];
+
+static void count_timers(struct plan *plan, struct state *state, u32 d, flag has[HAVINGS]) {
+    u32 common = load_at(plan, d, common_loads(plan));
+    for (u32 k = 0; k < IDENTIFIERS; k++) {
+        u32 timer = device_words(state, d)[1 + k];
+        flag loaded = timer == load_at(plan, d, loads_of(plan, k));
+        has[AT_COMMON] |= loaded && !has_pair(plan, k);
+        has[AT_OWN] |= loaded && has_pair(plan, k);
+        has[ABOVE_COMMON] |= timer > common;
+        has[GREATEST] |= timer == 65535;
+    }
+}
 
 static void count_drops(struct plan *plan, struct state *state, u32 d, u32 p, flag has[HAVINGS]) {
     for (enum kind kind = INTERRUPT; kind <= ACKNOWLEDGE; kind++) {
@@ -97,6 +137,8 @@ static void count_havings(struct plan *plan, struct state *state) {
         if (d < plan->bytes[1])
             count_drops(plan, state, d, p, has);
     }
+    for (u32 d = 0; d < plan->bytes[1]; d++)
+        count_timers(plan, state, d, has);
     for (u32 h = 0; h < HAVINGS; h++)
         having[h] += has[h];
 }
@@ -108,11 +150,8 @@ void sound_state(struct plan *plan, struct state *state) {
     state->length = STATE_WORDS;
     memset(state->words, 0, sizeof state->words);
     for (u32 d = 0; d < plan->bytes[1]; d++) {
-        u32 *words = device_words(state, d);
-        words[0] = some_of(set);
-        for (u32 k = 0; k < IDENTIFIERS; k++)
-            if (words[0] >> k & 1)
-                words[1 + k] = once_in(40) ? 65535 : 1 + (pick(3) < brief ? pick(4) : pick(65535));
+        *device_words(state, d) = some_of(set);
+        sound_timers(plan, state, d, brief);
         for (u32 p = 0; p < device_block(plan, d)[3]; p++)
             sound_port(plan, state, d, p, waiting, stopped);
         if (timed)
@@ -143,7 +182,9 @@ static const char *const clauses[CLAUSES] = {
     "a Time-Code word of 65 to 127", "a Time-Code word above 192", "a Time-Code at a port that stands still",
     "a Time-Code at a port joined to nothing", "a counter of no device", "a Time-Code word of no port of a device",
     "a Time-Code word of no device", "a count of drops above 65,535", "a count at a port of a node",
-    "a count at a port that a node lacks", "a count at a port that a router lacks", "a count of no device"};
+    "a count at a port that a node lacks", "a count at a port that a router lacks", "a count of no device",
+    "a timer above its load, without a pair", "a timer above its own load alone", "a timer above its own load and the common",
+    "a router's timer up to the load of nodes"};
 static size broken_so[CLAUSES];
 
 static u32 out_of(u32 limit) {
@@ -214,9 +255,31 @@ static flag break_drops(struct plan *plan, struct state *state, u32 d, u32 p, u3
     }
 }
 
+/* Clauses about a timer whose bit is 1 and that is above its load, by one or by more, up to just above what two bytes hold. It is
+ * above the common load; above that of a pair, where the common one would allow it, or would not; or that of a router, where a
+ * node could have it. */
+static flag break_load(struct plan *plan, struct state *state, u32 d, u32 clause) {
+    u32 k = pick(IDENTIFIERS), load = load_at(plan, d, loads_of(plan, k)), common = load_at(plan, d, common_loads(plan));
+    u32 of_nodes = loads_of(plan, k).node, from = load + 1, to = 65536;
+    flag pair = has_pair(plan, k), fits;
+    switch (clause) {
+    case 28: fits = !pair; break;
+    case 29: fits = pair && common > load; to = common; break;
+    case 30: fits = pair; from = 1 + (load > common ? load : common); break;
+    default: fits = of_nodes > load; to = of_nodes;
+    }
+    if (!fits)
+        return 0;
+    device_words(state, d)[0] |= 1u << k;
+    device_words(state, d)[1 + k] = once_in(2) ? from : from + pick(to + 1 - from);
+    return 1;
+}
+
 static flag break_at(struct plan *plan, struct state *state, u32 clause) {
     u32 d = pick(DEVICES), p = pick(PORTS), value = once_in(2) ? 1 : 1u << pick(32);
     flag device = d < plan->bytes[1], port = device && p < device_block(plan, d)[3];
+    if (clause > 27)
+        return device && break_load(plan, state, d, clause);
     if (clause > 22)
         return break_drops(plan, state, d, p, clause);
     if (clause > 14)

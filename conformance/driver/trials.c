@@ -145,7 +145,7 @@ void try_calls(struct plan *plan) {
     }
 }
 
-/* Any call, and what it does to events and to the counts of drops. */
+/* Any call, and what it does to events, to the counts of drops and to timers. */
 static void call_in_run(struct plan *plan, struct state *state) {
     static struct state before;
     struct change change = likely_change(plan);
@@ -153,6 +153,7 @@ static void call_in_run(struct plan *plan, struct state *state) {
     u32 number = try_likely(change, plan, state);
     events_in_call(plan, &before, state, &change);
     drops_in_call(plan, &before, state, &change, number);
+    loads_in_call(plan, &before, state, &change, number);
 }
 
 /* Rounds with calls between them, the state handed on. */
@@ -169,6 +170,7 @@ void try_run(struct plan *plan, u32 rounds) {
         must_be("a round", 0, try_round(plan, &state, &played));
         events_in_round(plan, &state, &played);
         drops_in_round(plan, &state, &played);
+        loads_in_round(plan, &state, &played);
         state = played.next;
     }
 }
@@ -192,30 +194,40 @@ void try_settling(struct plan *plan) {
     }
 }
 
-static u32 count_sources(struct plan *plan) {
+/* The identifiers whose load at routers is below 256. */
+static u32 short_ones(const struct plan *plan) {
+    u32 set = 0;
+    for (u32 k = 0; k < IDENTIFIERS; k++)
+        set |= (u32)(loads_of(plan, k).router < 256) << k;
+    return set;
+}
+
+static u32 count_sources(struct plan *plan, u32 of) {
     u32 count = 0;
     for (u32 d = 0; d < plan->bytes[1]; d++)
         for (u32 i = 0; i < 32; i++)
-            count += in_mask(plan, d, SOURCES, i);
+            count += of >> i & 1 && in_mask(plan, d, SOURCES, i);
     return count;
 }
 
-/* A report settles once for each source: with short loads that can take all rounds allowed, so fewer are left. */
-static void thin(struct plan *plan, u32 most) {
-    while (count_sources(plan) > most)
+/* Of these identifiers so many sources at most are left. */
+static void thin(struct plan *plan, u32 of, u32 most) {
+    while (count_sources(plan, of) > most)
         for (u32 d = 0; d < plan->bytes[1]; d++) {
-            for (u32 i = SOURCES; i < SOURCES + 4; i++)
-                device_block(plan, d)[i] &= random_word() >> 32;
+            u8 *sources = device_block(plan, d) + SOURCES;
+            put_number(sources, 4, number_at(sources, 4) & (~of | random_word()));
             seal(plan, 1 + d);
         }
 }
 
+/* A report settles once for each source: with short loads that can take all rounds allowed, so fewer of these are left. */
 void try_reports(struct plan *plan) {
     static struct plan file;
     static struct printed printed;
     const size texts[] = {TEXT_BYTES, TEXT_BYTES, TEXT_BYTES + 1, 2 * TEXT_BYTES, TEXT_BYTES - 1, 0, pick(TEXT_BYTES)};
     file = *plan;
-    thin(&file, plan->bytes[3] > 0 ? (once_in(20) ? 1024 : 50) : 2);
+    thin(&file, short_ones(plan), 2);
+    thin(&file, ~short_ones(plan), once_in(20) ? 1024 : 50);
     if (once_in(3))
         damage(&file);
     printed.text_length = texts[pick(sizeof texts / sizeof *texts)];

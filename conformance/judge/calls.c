@@ -35,7 +35,7 @@ u32 host_asks(struct network *net, size device, enum kind kind, u32 k) {
     if (node->set[k] == wanted)
         return 9;
     node->set[k] = wanted;
-    node->timer[k] = wanted ? net->node_load : 0;
+    node->timer[k] = wanted ? load_of(net, node, k) : 0;
     for (u32 p = 0; p < node->ports; p++)
         queue(&node->port[p], (struct code){kind, k});
     return 0;

@@ -3,7 +3,7 @@
 
 /* An entry of a port in a device's block: peer device, peer port, permissions, zero. */
 enum { FIRST_ENTRY = 12, ENTRY = 4, PEER_DEVICE = 0, PEER_PORT = 1, PERMISSIONS = 2, SPARE = 3, NOWHERE = 255 };
-enum { EVENTS = 6, MASTER = 10, CHECK_AT = 510 };
+enum { COMMON_LOADS = 2, EVENTS = 6, MASTER = 10, OWN_LOADS = 16, LOADS = 4, CHECK_AT = 510 };
 
 /* Behind the entries stand the bars of each port: a mask of interrupts and one of acknowledges. */
 enum { FIRST_BARS = FIRST_ENTRY + ENTRY * PORTS, MASK = 4, BARS = 2 * MASK, BEHIND_FIELDS = FIRST_BARS + BARS * PORTS };
@@ -33,23 +33,39 @@ static const u8 *entry_at(const u8 *file, u32 device, u32 port) {
     return file + BLOCK * (1 + device) + FIRST_ENTRY + ENTRY * port;
 }
 
+/* A router's load and then a node's, neither of them 0, and the router's not above the node's. */
+static flag loads_read(struct loads *loads, const u8 *at) {
+    loads->router = number_at(at, 2);
+    loads->node = number_at(at + 2, 2);
+    return loads->router >= 1 && loads->node >= 1 && loads->router <= loads->node;
+}
+
+/* What an identifier has of its own is zeros or good by itself: how long the common loads are is not asked. */
+static flag own_loads_read(struct network *net, const u8 *block) {
+    flag good = 1;
+    for (u32 k = 0; k < IDENTIFIERS; k++) {
+        const u8 *pair = block + OWN_LOADS + LOADS * k;
+        good &= loads_read(&net->own[k], pair) || zero(pair, 0, LOADS);
+    }
+    return good;
+}
+
 static u32 block_0_read(struct network *net, const u8 *block) {
     if (number_at(block + CHECK_AT, 2) != block_check(block))
         return 21;
     if (block[0] != 1)
         return 22;
     net->devices = block[1];
-    net->router_load = number_at(block + 2, 2);
-    net->node_load = number_at(block + 4, 2);
     if (net->devices < 1 || net->devices > DEVICES)
         return 23;
-    if (net->router_load < 1 || net->node_load < 1 || net->router_load > net->node_load)
+    if (!loads_read(&net->common, block + COMMON_LOADS) || !own_loads_read(net, block))
         return 23;
     if (block[MASTER] > net->devices)
         return 23;
     net->master = block[MASTER] ? block[MASTER] - 1 : NO_MASTER;
     mask_read(number_at(block + EVENTS, 4), net->event); /* any of them: no mask is refused */
-    return zero(block, MASTER + 1, CHECK_AT) ? 0 : 24;
+    flag zeros = zero(block, MASTER + 1, OWN_LOADS) && zero(block, OWN_LOADS + LOADS * IDENTIFIERS, CHECK_AT);
+    return zeros ? 0 : 24;
 }
 
 static flag entry_good(const u8 *entry, flag exists, u32 devices) {

@@ -1,9 +1,10 @@
 /* The judge: the paper's bench, written again from the paper alone and made to be read beside it.
  *
  * It keeps no area of words and no masks. A device has a flag and a timer per identifier, and a counter; a port points to its
- * peer and knows for each identifier what is barred and what waits, and which Time-Code does, and how much it has dropped. Files
- * and areas are turned into these records, and back, at the edge: file.c and state.c. The calls at the end take what those of
- * include/bench.h take, and answer with the same numbers. */
+ * peer and knows for each identifier what is barred and what waits, and which Time-Code does, and how much it has dropped; and a
+ * network knows for each identifier whether it is acknowledged, and what its timers are loaded with. Files and areas are turned
+ * into these records, and back, at the edge: file.c and state.c. The calls at the end take what those of include/bench.h take,
+ * and answer with the same numbers. */
 #ifndef JUDGE_H
 #define JUDGE_H
 
@@ -68,8 +69,14 @@ struct device {
     struct port port[PORTS];
 };
 
+/* What timers are loaded with. */
+struct loads {
+    u32 router, node;
+};
+
 struct network {
-    u32 devices, router_load, node_load;
+    u32 devices;
+    struct loads common, own[IDENTIFIERS]; /* an identifier whose own are zeros takes the common ones */
     u32 master; /* a device, or NO_MASTER */
     flag event[IDENTIFIERS]; /* in the un-acknowledged profile */
     struct device device[DEVICES];
@@ -99,6 +106,7 @@ u32 file_read(struct network *net, const u8 *file, size length, u32 *block);
 void clear_device(struct device *device);
 void clear_waiting(struct port *port); /* of Time-Codes the last one sent too, so that the port's word is 0 */
 void clear_dropped(struct port *port);
+u32 load_of(const struct network *net, const struct device *device, u32 k); /* of k's timer there, and the most that it can be */
 void start(struct network *net);
 flag state_read(struct network *net, const u32 *words, size length); /* of a plan that is there; 0 where it is not sound */
 u32 network_read(struct network *net, const u8 *plan, size plan_length, const u32 *state, size state_length);

@@ -74,9 +74,8 @@ static void arrive(struct network *net, struct port *port, struct code code, str
         count_drop(port, code.kind);
     if (action != FORWARDED && action != TELLS_HOST)
         return;
-    u32 load = device->router ? net->router_load : net->node_load;
     if (code.kind != TIME_CODE)
-        device->timer[code.value] = code.kind == INTERRUPT ? load : 0;
+        device->timer[code.value] = code.kind == INTERRUPT ? load_of(net, device, code.value) : 0;
     if (action == TELLS_HOST) {
         tell(told, told_of[code.kind], device, code.value);
         return;

@@ -40,6 +40,12 @@ void clear_dropped(struct port *port) {
     port->dropped[INTERRUPT] = port->dropped[ACKNOWLEDGE] = 0;
 }
 
+/* No pair that a file may have has one zero. */
+u32 load_of(const struct network *net, const struct device *device, u32 k) {
+    const struct loads *own = &net->own[k], *loads = own->node ? own : &net->common;
+    return device->router ? loads->router : loads->node;
+}
+
 void start(struct network *net) {
     for (u32 d = 0; d < net->devices; d++) {
         struct device *device = &net->device[d];
@@ -60,14 +66,14 @@ static flag all_zero(const u32 *words, u32 count) {
     return 1;
 }
 
-/* A timer runs exactly where the bit is 1. */
-static flag registers_read(struct device *device, const u32 *words) {
+/* A timer runs exactly where the bit is 1, and from its load down. */
+static flag registers_read(const struct network *net, struct device *device, const u32 *words) {
     flag sound = 1;
     for (u32 k = 0; k < IDENTIFIERS; k++) {
         u32 timer = words[1 + k];
         device->set[k] = words[0] >> k & 1;
         device->timer[k] = timer;
-        sound &= device->set[k] ? timer >= 1 && timer <= 65535 : timer == 0;
+        sound &= device->set[k] ? timer >= 1 && timer <= load_of(net, device, k) : timer == 0;
     }
     return sound;
 }
@@ -106,10 +112,10 @@ static flag dropped_read(struct port *port, const u32 *words) {
     return port->dropped[INTERRUPT] <= most && port->dropped[ACKNOWLEDGE] <= most;
 }
 
-static flag device_read(struct device *device, const u32 *words) {
+static flag device_read(const struct network *net, struct device *device, const u32 *words) {
     u32 d = device->number;
     device->counter = words[counter_at(d)];
-    flag sound = registers_read(device, words + device_at(d)) && device->counter < TIMES;
+    flag sound = registers_read(net, device, words + device_at(d)) && device->counter < TIMES;
     for (u32 p = 0; p < PORTS; p++) {
         struct port *port = &device->port[p];
         const u32 *of_port = words + port_at(d, p), time = words[time_at(d, p)], *drops = words + drops_at(d, p);
@@ -139,7 +145,7 @@ flag state_read(struct network *net, const u32 *words, size length) {
         return 0;
     flag sound = 1;
     for (u32 d = 0; d < net->devices; d++)
-        sound &= device_read(&net->device[d], words);
+        sound &= device_read(net, &net->device[d], words);
     for (u32 d = 0; d < net->devices; d++)
         sound &= ends_agree(&net->device[d]);
     for (u32 d = net->devices; d < DEVICES; d++)
