@@ -68,10 +68,11 @@ pub fn load_for(loads: &Loads, role: u8, k: u32) -> u32
     ensures { λ r. ⌜ r ≡ loadFor (now (loads .entry)) role k ⌝ }
 {
     let own = load_at(loads, 2 + (2 * k as usize + role as usize));
+    let common = load_at(loads, role as usize);
     if own != 0 {
         return own;
     }
-    load_at(loads, role as usize)
+    common
 }
 
 // Load i of a plan; past the end it is 0.

@@ -1,4 +1,4 @@
--- `state::load_for` meets its contract: the pair is asked first, and the common loads where it is 0. Assumes nothing.
+-- `state::load_for` meets its contract: the load of the pair is the answer where it is not 0. Assumes nothing.
 use mathlib.Core.Path.{sym, _∙_}
 use borrow.Author.Tests.{eq-eqb, ne-eqb}
 use borrow.Author.Needs.{needs}
@@ -8,11 +8,11 @@ use Rattle.state.proofs.load_for.Tie as tie
 
 returns : tie.Need-returns
 unfolding loadFor
-returns c = rw (← c .before .load-at .ensures, ne-eqb _ _ (c .if1 .taken))
+returns c = rw (← c .before .before .before .load-at .ensures, ne-eqb _ _ (c .if1 .taken))
 
 returns-2 : tie.Need-returns-2
 unfolding loadFor
-returns-2 c = rw (← c .before .before .before .load-at .ensures, eq-eqb _ _ (c .before .before .if1 .left)) (c .load-at2 .ensures)
+returns-2 c = rw (← c .before .before .before .load-at .ensures, eq-eqb _ _ (c .if1 .left)) (c .before .load-at2 .ensures)
 
 load-at-requires : tie.Need-load-at-requires
 load-at-requires c κs = search needs
@@ -28,6 +28,6 @@ load-for-spec =
     (λ c. search needs)
     (λ c. search needs)
     load-at-requires
-    returns
     load-at-requires-2
+    returns
     returns-2)
