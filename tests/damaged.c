@@ -11,8 +11,7 @@ int close(int file);
 long write(int file, const void *from, unsigned long bytes);
 int snprintf(char *into, unsigned long room, const char *format, ...);
 
-/* Where the rows of ports begin, and in block 0 the pairs of loads; the byte behind these, and the last one before the check. */
-enum { PORT = 12, PAIRS = 16, BEHIND_PAIRS = PAIRS + 4 * IDENTIFIERS, LAST_ZERO = BLOCK - 3 };
+enum { PORT = 12, LAST_ZERO = BLOCK - 3 };
 
 static struct plan whole, copy;
 static flag keeps;
@@ -320,7 +319,7 @@ static void pair_together(void) {
         u32 block, at;
         u8 byte;
     } faults[] = {{"kind", 0, 0, 7}, {"devices", 0, 1, 33}, {"fewer devices", 0, 1, 31}, {"common load", 0, 3, 255},
-                  {"master", 0, MASTER, 33}, {"zero before", 0, PAIRS - 1, 1}, {"zero behind", 0, BEHIND_PAIRS, 1},
+                  {"master", 0, MASTER, 33}, {"zero before", 0, OWN_LOADS - 1, 1}, {"zero behind", 0, BEHIND_LOADS, 1},
                   {"kind", 1, 0, 7}, {"source", 10, SOURCES, 255}};
     for (u32 wrong = 0; wrong < 2; wrong++)
         for (u32 i = 0; i < sizeof faults / sizeof *faults; i++) {

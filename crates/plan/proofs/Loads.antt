@@ -3,7 +3,7 @@ use mathlib.Core.Path.{_≡_, refl, sym, ap, _∙_}
 use mathlib.Core.List.{List, [], _∷_}
 use Prim.Native.Nat.{ℕ, suc, _+_, _*_, _<_}
 use native.Mathlib.Omega.{arith}
-use lib.ListN.{length, getD}
+use lib.ListN.{length}
 use Rattle.lists.specs.Table.{table, joined}
 use Rattle.lists.proofs.Tables.{is-table, same-table, length-joined, getD-joined, joined-tables}
 use Rattle.plan.specs.Header.{headerIn, pairIn, pairAt}

@@ -40,6 +40,7 @@ fn pair_fits(router: u16, node: u16) -> bool
     router <= node
 }
 
+// Are both so?
 fn both(one: bool, other: bool) -> bool
     ensures { λ r. ⌜ r ≡ (one && other) ⌝ }
 {

@@ -1,7 +1,7 @@
 -- RULES, "How an acknowledge goes back": two plans in which a source has two ways, and T-01 without its condition. In one of them a device that the
 -- source reaches is not found from the handler.
 use mathlib.Core.Bool.{Bool, cond, _&&_}
-use mathlib.Core.List.{[], _∷_, _++_}
+use mathlib.Core.List.{_∷_, _++_}
 use Prim.Native.Nat.{ℕ, _+_, _-_, _^_}
 use lib.Dec.{eqb}
 use lib.ListN.{replicate}

@@ -1,5 +1,4 @@
 -- `state::load_for` meets its contract: the load of the pair is the answer where it is not 0. Assumes nothing.
-use mathlib.Core.Path.{sym, _∙_}
 use borrow.Author.Tests.{eq-eqb, ne-eqb}
 use borrow.Author.Needs.{needs}
 use Rattle.state.specs.Network.{loadFor}

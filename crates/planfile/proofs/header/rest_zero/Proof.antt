@@ -1,5 +1,5 @@
 -- `planfile::header::rest_zero` meets its contract: what is tested are the gaps before the pairs and behind them; all other fields touch. Assumes nothing.
-use mathlib.Core.Path.{_≡_, refl, sym, _∙_}
+use mathlib.Core.Path.{_≡_, refl, sym}
 use mathlib.Core.Bool.{_&&_}
 use mathlib.Core.List.{List}
 use Prim.Native.Nat.{ℕ}
