@@ -85,7 +85,9 @@ def main():
     texts = {f: read(f) for f in sources}
     names = {f: re.findall(NAME, t) for f, t in texts.items()}
     camel = {n for found in names.values() for n in found if is_camel(n)}
-    lemmas = {snake(n) for n in camel}
+    # A record of specs/ keeps the names of its fields.
+    fields = {n for f, t in texts.items() if "/specs/" in f for n in re.findall(r"(?m)^ +pub (\S+) :", t)}
+    lemmas = {snake(n) for n in camel} - fields
     for f, text in texts.items():
         proof = f.endswith(".antt")
         new = outside_strings(text, lambda part: respell(part, camel, lemmas, proof))

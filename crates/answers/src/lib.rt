@@ -1,1 +1,2 @@
 // The definition of an answer alone: it has no function.
+#![tactic(auto)]

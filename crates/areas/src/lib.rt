@@ -1,5 +1,7 @@
 // Areas that a caller lends: a word put into one whole, or not at all, and whole areas copied, filled
 // or looked at; and numbers of lent areas, widened.
+#![tactic(auto)]
+
 ghost use Rattle.std.specs.Prelude.{◌≡◌, ◌+◌, ◌<◌, leb, length};
 ghost use Rattle.areas.specs.Put.{Puts, copied, all_zero, all_short};
 ghost use Rattle.areas.specs.Inner.Merged.{merged_of};

@@ -198,7 +198,7 @@ module _ {plan : Plan} {k from D last : ℕ} {s : State} {at : ℕ → State} (g
   goes-longer =
       record {
         begins = given.course.begins;
-        goes_on_lem = λ t h. dite (dec_lt t (window D)) (λ b. given.course.goes_on t b) (λ b. on t (omega arith) h);
+        goes_on = λ t h. dite (dec_lt t (window D)) (λ b. given.course.goes_on t b) (λ b. on t (omega arith) h);
       }
 
   pub longer-sound : (t : ℕ) → t ≤ last → Sound plan (at t)

@@ -148,7 +148,7 @@ module _ (plan : Plan) (held : Held plan) (d p : ℕ) (there : d < devices plan)
     ticked n =
         record {
           begins = ticks k before (record { sound = x; runs = runs });
-          goes_on_lem = λ t h. ticks k none (round-on (at_tick t));
+          goes_on = λ t h. ticks k none (round-on (at_tick t));
         }
 
 -- 15 grants all four permissions
@@ -164,4 +164,4 @@ on plan k u t = none
 
 pub played : {plan : Plan} {k : ℕ} {s u : State} → Calls plan k s u → (n : ℕ) → Course plan k n s (λ t. rounds plan t u)
 unfolding up_to
-played {plan} {k} {u = u} first n = record { begins = first; goes_on_lem = λ t h. on plan k u t }
+played {plan} {k} {u = u} first n = record { begins = first; goes_on = λ t h. on plan k u t }

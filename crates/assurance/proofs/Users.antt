@@ -134,7 +134,7 @@ module _ (plan : Plan) (k from n : ℕ) (s : State) (held : Held plan) (at_rest 
 
   plain : (until : ℕ) → Course plan k until (called plan 0 from k s) alone
   unfolding up_to
-  plain until = record { begins = none; goes_on_lem = λ t h. none }
+  plain until = record { begins = none; goes_on = λ t h. none }
 
   pub settling-quiets : (until : ℕ) → n ≤ until
       → Course plan k until (called plan 0 from k s) alone × ((kind q : ℕ) → kind < 2 → q < 256 → bit (waiting (alone until) kind q) k ≡ 0)

@@ -26,7 +26,7 @@ pub data Calls (plan : Plan) (k : ℕ) (s : State) : State → Type 0 where
 -- so many rounds are played from s on, each with calls after it; `at t` is the state after t rounds and the calls after them
 pub record Played (plan : Plan) (Calling : State → State → Type 0) (rounds : ℕ) (s : State) (at : ℕ → State) : Type 0 where
   pub begins : Calling s (at 0)
-  pub goes_on_lem : (t : ℕ) → t < rounds → Calling (round plan (at t)).next (at (suc t))
+  pub goes_on : (t : ℕ) → t < rounds → Calling (round plan (at t)).next (at (suc t))
 
 abbrev pub Course : Plan → ℕ → ℕ → State → (ℕ → State) → Type 0
 Course plan k = Played plan (Calls plan k)

@@ -1,5 +1,7 @@
 // The bench: what hosts and links may do between the rounds of a network, one round, and rounds until
 // nothing waits. Areas are the caller's; a refusal changes none of them.
+#![tactic(auto)]
+
 mod rounds;
 mod settling;
 mod trial;
@@ -11,7 +13,7 @@ pub use state::{WORDS, is_sound, start};
 pub use trial::trials;
 
 // What a call answers: 0 for done or a refusal's number, and the value beside it.
-#[derive(Drop)]
+#[derive(Clone, Copy)]
 pub struct Answer {
     pub number: u32,
     pub value: u32,

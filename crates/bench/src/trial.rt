@@ -14,7 +14,7 @@ use plan::{Core, Plan};
 use state::DEVICE;
 
 // What is found of one place.
-#[derive(Drop)]
+#[derive(Clone, Copy)]
 struct Tried {
     number: u32,
     rounds: u32,

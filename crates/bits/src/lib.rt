@@ -1,11 +1,13 @@
 // A set of identifiers or of devices: 32 places, place k in it where bit k of the number is 1.
 // Every function takes any number for a place. A place above 31 is in no set.
+#![tactic(auto)]
+
 ghost use Rattle.std.specs.Prelude.{◌≡◌};
 ghost use Rattle.bits.specs.Set.{bit, join as set_join, leave as set_leave, size};
 ghost use Rattle.bits.specs.First.{Finds};
 
 // Where the first member stands.
-#[derive(Drop)]
+#[derive(Clone, Copy)]
 pub enum Found {
     At(u32),
     Nowhere,

@@ -1,5 +1,7 @@
 // What hosts and links may do between rounds. A call changes the state that it is given, or answers
 // the number of its first condition that does not hold, and changes nothing.
+#![tactic(auto)]
+
 ghost use Rattle.std.specs.Prelude.{◌≡◌, true, cond, List, ◌∷◌, ℕ, ◌+◌, ◌*◌, ◌≤◌, ◌<◌, eqb, length, get_or};
 ghost use Rattle.answers.specs.Decides.{Decides};
 ghost use Rattle.answers.specs.Ordered.{ask, Ordered};

@@ -1,4 +1,6 @@
 // Control codes, and the byte after ESC that each of them is (draft 000, clause 1).
+#![tactic(auto)]
+
 ghost use Rattle.std.specs.Prelude.{◌≡◌, ◌+◌, ◌≤◌};
 ghost use Rattle.codes.specs.Codes.{reads, writes, at_most, answer_of};
 
@@ -9,7 +11,7 @@ pub const ACKNOWLEDGES: u8 = 160;
 
 // What a byte says. A value above 63 or an identifier above 31 has no byte. A reserved byte says its two
 // top bits, 1 or 3, and its low six.
-#[derive(Drop)]
+#[derive(Clone, Copy)]
 pub enum Code {
     Time(u8),
     Interrupt(u8),
@@ -18,7 +20,7 @@ pub enum Code {
 }
 
 // What writing a code gives: its byte, or refusal 5.
-#[derive(Drop)]
+#[derive(Clone, Copy)]
 pub enum Written {
     Byte(u8),
     Refused,

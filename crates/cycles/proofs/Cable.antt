@@ -68,6 +68,6 @@ out-and-in plan d k total s held x taken = known (holds (call_asks plan 0 d k s)
             sound = x;
             taken = taken;
             begins = link d p false 0 none out;
-            goes_on_lem = λ t c. elim t as (λ i. AnyCalls plan d (round plan (goes plan a b i)).next (goes plan a b (suc i))) [ zero ↦ link d p true 0 none back | suc i ↦ none ];
+            goes_on = λ t c. elim t as (λ i. AnyCalls plan d (round plan (goes plan a b i)).next (goes plan a b (suc i))) [ zero ↦ link d p true 0 none back | suc i ↦ none ];
           };
         }

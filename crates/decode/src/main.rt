@@ -1,4 +1,6 @@
 // Lists standard input on standard output, a line for each byte.
+#![tactic(auto)]
+
 ghost use Rattle.std.specs.Prelude.{◌≡◌, List, ℕ, ◌*◌, ◌≤◌, length};
 ghost use Rattle.areas.specs.Put.{over};
 ghost use Rattle.listing.specs.Listing.{lines, longest, Lists};

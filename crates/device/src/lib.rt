@@ -1,5 +1,7 @@
 // What one device does with a byte that arrives at one of its ports (draft 000, 2.2 and 2.3).
 // An Interrupt-Code and an acknowledge go by one rule, over the kind: 0 interrupt, 1 acknowledge.
+#![tactic(auto)]
+
 ghost use Rattle.std.specs.Prelude.{◌≡◌, get_or};
 ghost use Rattle.device.specs.Permissions.{may_send, may_receive};
 ghost use Rattle.device.specs.Reaction.{marked as reaction_marked, next_time, passed_on, is_used, bars_of, ruled as reaction_ruled, counted as reaction_counted, reacts};
@@ -7,7 +9,7 @@ ghost use Rattle.device.specs.Reaction.{marked as reaction_marked, next_time, pa
 use codes::Code;
 
 // What becomes of the code.
-#[derive(Drop)]
+#[derive(Clone, Copy)]
 pub enum Action {
     Named(Code),
     LinkError(Code),
@@ -20,7 +22,7 @@ pub enum Action {
 // The port's side of a reaction: whether its device is a router, whether it runs, its permissions, which
 // identifiers are events, that nobody acknowledges, and which it is to bar, by the kind of code. A node
 // does not look at the last.
-#[derive(Drop)]
+#[derive(Clone, Copy)]
 pub struct Side {
     pub router: bool,
     pub running: bool,
@@ -30,7 +32,7 @@ pub struct Side {
 }
 
 // The register and the counter afterwards, and what becomes of the code.
-#[derive(Drop)]
+#[derive(Clone, Copy)]
 pub struct Reaction {
     pub register: u32,
     pub counter: u32,

@@ -4,6 +4,8 @@
 // the reader's number where the file is not accepted, so that no call meets a plan that it refuses by 1.
 // A number behind a name: the function had other parameters once, and what was compiled for those must
 // not link.
+#![tactic(auto)]
+
 ghost use Rattle.std.specs.Prelude.{◌≡◌, ℕ};
 ghost use Rattle.codes.specs.Codes.{reads, writes};
 ghost use Rattle.codes.specs.Numbers.{kind_of, top_of, value_of, Says, code_of};

@@ -1,4 +1,6 @@
 // Input that a program takes in whole: from its standard input, or from a file that it opened.
+#![tactic(auto)]
+
 ghost use Rattle.std.specs.Prelude.{◌≡◌, ℕ};
 ghost use Rattle.io.specs.Counts.{IsPrefixLen};
 
@@ -6,7 +8,7 @@ ghost use Rattle.io.specs.Counts.{IsPrefixLen};
 pub const PLAN: usize = 16897;
 
 // What reading came to: so many bytes, or a read that failed.
-#[derive(Drop)]
+#[derive(Clone, Copy)]
 pub enum Input {
     Read(usize),
     Failed,

@@ -1,1 +1,2 @@
 // Known values of the definitions, computed: it has no function.
+#![tactic(auto)]

@@ -33,7 +33,7 @@ pub record Requested (plan : Plan) (d k rounds : ℕ) (s : State) (at : ℕ → 
   pub taken : Ordered (call_asks plan 0 d k s) 0
   -- calls follow, after the request and after each round
   pub begins : AnyCalls plan d (called plan 0 d k s) (at 0)
-  pub goes_on_lem : (t : ℕ) → t < rounds → AnyCalls plan d (round plan (at t)).next (at (suc t))
+  pub goes_on : (t : ℕ) → t < rounds → AnyCalls plan d (round plan (at t)).next (at (suc t))
 
 module _ (plan : Plan) (d k : ℕ) (at : ℕ → State) where
   -- ---- d holds on

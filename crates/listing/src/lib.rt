@@ -1,4 +1,6 @@
 // Bytes written out as text, a line for each: its number, and the code that it is.
+#![tactic(auto)]
+
 ghost use Rattle.std.specs.Prelude.{◌++◌, ◌+◌, ◌≤◌, length};
 ghost use Rattle.areas.specs.Put.{Puts};
 ghost use Rattle.text.specs.Text.{decimal};
@@ -11,7 +13,7 @@ use codes::Code;
 pub const LONGEST: usize = 19;
 
 // How many bytes have their line, and how long the lines are together.
-#[derive(Drop)]
+#[derive(Clone, Copy)]
 pub struct Listed {
     pub taken: usize,
     pub length: usize,

@@ -1,1 +1,2 @@
 // Lists by their places, and counted loops: definitions and laws alone, with no function.
+#![tactic(auto)]

@@ -1,5 +1,7 @@
 // Rescues a plan file in which device blocks are damaged: what good blocks tell of them is enough to
 // rebuild them as silent routers.
+#![tactic(auto)]
+
 ghost use Rattle.std.specs.Prelude.{◌≡◌, length, ℕ, ◌≤◌, ◌<◌};
 ghost use Rattle.mend.specs.Rescue.{Rescues, lent};
 ghost use Rattle.mend.specs.Told.{Prints};
@@ -20,7 +22,7 @@ pub const LONGEST: usize = 2848;
 const MOST: usize = 16896;
 
 // What a rescue came to: 0 and the length of the text, or a refusal with the block.
-#[derive(Drop)]
+#[derive(Clone, Copy)]
 pub struct Rescued {
     pub number: u32,
     pub block: u32,
@@ -28,7 +30,7 @@ pub struct Rescued {
 }
 
 // What was printed: the number, and the length of the text.
-#[derive(Drop)]
+#[derive(Clone, Copy)]
 pub struct Printed {
     pub number: u32,
     pub used: u32,

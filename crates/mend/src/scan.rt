@@ -4,7 +4,7 @@ ghost use Rattle.mend.specs.Inner.Steps.{Fronted, Scans};
 
 // What a scan found: the first refusal of a good block, or 0, and then a 1 for each device whose block is
 // damaged.
-#[derive(Drop)]
+#[derive(Clone, Copy)]
 pub(crate) struct Found {
     pub(crate) number: u32,
     pub(crate) at: u32,

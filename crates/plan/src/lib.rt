@@ -1,4 +1,6 @@
 // The plan of a network in memory: its parts, what its fields may hold, and whether a file holds it.
+#![tactic(auto)]
+
 ghost use Rattle.std.specs.Prelude.{◌≡◌};
 ghost use Rattle.plan.specs.Header.{header_of, header_fits, core_with};
 ghost use Rattle.plan.specs.Reading.{zeros};
@@ -20,7 +22,7 @@ pub type Loads = [u16; 66];
 // The numbers and flat arrays of a plan. The master is a node's number plus 1, or 0 for none. Events
 // are the identifiers that nobody acknowledges. Permissions stand by port, 8 x device + port. Absent
 // devices and ports have 0 everywhere.
-#[derive(Drop)]
+#[derive(Clone, Copy)]
 pub struct Core {
     pub devices: usize,
     pub master: u8,
@@ -34,7 +36,7 @@ pub struct Core {
 }
 
 // The numbers of a plan that block 0 of its file holds, as they stand in Core.
-#[derive(Drop)]
+#[derive(Clone, Copy)]
 pub struct Header {
     pub devices: usize,
     pub master: u8,
@@ -47,7 +49,7 @@ pub const NOBODY: u16 = 256;
 
 // The whole plan. A peer is 8 x its device + its port, or nobody. What port q bars of codes of a kind is
 // a set, at 2 x q + kind; it is no part of the core, so that who copies that does not copy this too.
-#[derive(Drop)]
+#[derive(Clone, Copy)]
 pub struct Plan {
     pub core: Core,
     pub peers: [[u16; 8]; 32],
@@ -56,14 +58,14 @@ pub struct Plan {
 
 // What the reader says of a file: a number, and the block that it is at; 0 and 0 where nothing is
 // wrong.
-#[derive(Drop)]
+#[derive(Clone, Copy)]
 pub struct Verdict {
     pub number: u32,
     pub at: u32,
 }
 
 // What reading a file gives: 0 and its plan, or a refusal with the block, beside a plan of zeros.
-#[derive(Drop)]
+#[derive(Clone, Copy)]
 pub struct Read {
     pub number: u32,
     pub block: u32,

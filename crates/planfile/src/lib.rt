@@ -1,4 +1,6 @@
 // The plan file: 512-byte blocks, read into a plan in memory and written from one.
+#![tactic(auto)]
+
 mod block;
 mod build;
 mod device;

@@ -12,7 +12,7 @@ use plan::{Read, Verdict};
 const MOST: usize = 16896;
 
 // The reader knows the file and the block that it has come to.
-#[derive(Drop)]
+#[derive(Clone, Copy)]
 pub struct Reader<'a> {
     pub file: &'a [u8],
     pub block: usize,

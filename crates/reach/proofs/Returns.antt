@@ -46,9 +46,9 @@ module _ (role ports : List ℕ) (to : ℕ → ℕ) where
     no_more : (e set : ℕ) (behind : Seen) → FromDevice e set behind → behind.examined + left behind.set ≤ left set
     no_more e set behind w = rw (w (suc (left set)) (omega arith)) (device-spends role ports to few (suc (left set)) e set)
 
-    goes_on_lem : (e d p : ℕ) (s behind r : Seen) → FromDevice e s.set behind → e ≡ next role ports to d p → p < has role ports to d
+    goes_on : (e d p : ℕ) (s behind r : Seen) → FromDevice e s.set behind → e ≡ next role ports to d p → p < has role ports to d
         → FromPort d (p + 1) (onward s behind) r → FromPort d p s r
-    goes_on_lem e d p s behind r w q h v =
+    goes_on e d p s behind r w q h v =
         above _ _ r (λ depth l.
         v depth (omega (arith, no_more e s.set behind w, few d)) ∙ rw (w depth (omega (arith, few d)), q) (sym (port-goes role ports to depth d p s h)))
 
@@ -69,7 +69,7 @@ module _ (role ports : List ℕ) (to : ℕ → ℕ) where
   next-turn few d start set examined p e behind t h q w =
       let more = no_more few e set behind w in
       record {
-        rest = λ r v. t.rest r (goes_on_lem few e d p (seen set examined) behind r w q h v);
+        rest = λ r v. t.rest r (goes_on few e d p (seen set examined) behind r w q h v);
         less = omega (arith, more, t.less);
         spent = omega (arith, more, t.spent);
       }

@@ -4,7 +4,7 @@ ghost use Rattle.std.specs.Prelude.{◌≡◌};
 
 // 0 with how many devices are reached, the set of them, and how many ports were examined for that; or
 // a refusal beside zeros.
-#[derive(Drop)]
+#[derive(Clone, Copy)]
 pub struct Reach {
     pub number: u32,
     pub value: u32,

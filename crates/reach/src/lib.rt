@@ -1,4 +1,6 @@
 // The reach of an identifier: the devices that its interrupts come to from a source.
+#![tactic(auto)]
+
 ghost use Rattle.answers.specs.Ordered.{Ordered};
 ghost use Rattle.reach.specs.Reach.{source_asks, Reaches};
 

@@ -84,7 +84,7 @@ pub fn ahead_all(
 }
 
 // What visits have seen: the devices met so far, as a set, and how many ports were examined.
-#[derive(Drop)]
+#[derive(Clone, Copy)]
 pub(crate) struct Seen {
     pub set: u32,
     pub examined: u32,

@@ -1,5 +1,7 @@
 // What the program `why` prints: the bytes of a plan file, of a state file if there is one, and three
 // numbers go in, the whole text comes out, in a lent area.
+#![tactic(auto)]
+
 ghost use Rattle.std.specs.Prelude.{◌≤◌, length};
 ghost use Rattle.reasons.specs.Why.{Prints, longest, TellsWhy};
 ghost use Rattle.reasons.specs.Inner.Pieces.{Writes};

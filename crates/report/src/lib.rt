@@ -1,5 +1,7 @@
 // What the program `settle` prints: the bytes of a plan file go in, the whole text comes out, in a
 // lent area.
+#![tactic(auto)]
+
 ghost use Rattle.std.specs.Prelude.{length};
 ghost use Rattle.answers.specs.Decides.{Decides};
 ghost use Rattle.report.specs.Report.{Fits, Reports, lent};

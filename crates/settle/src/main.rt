@@ -1,4 +1,6 @@
 // Reads a plan file on standard input and writes what `report` makes of it on standard output.
+#![tactic(auto)]
+
 ghost use Rattle.std.specs.Prelude.{length};
 ghost use Rattle.report.specs.Report.{Fits, Reports, lent};
 

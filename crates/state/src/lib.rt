@@ -1,5 +1,7 @@
 // The state of a network: where its words stand, whether it is sound, the one that every run starts
 // from, and how a code is queued at a port.
+#![tactic(auto)]
+
 ghost use Rattle.std.specs.Prelude.{◌≡◌, get_or};
 ghost use Rattle.answers.specs.Decides.{Decides};
 ghost use Rattle.state.specs.Network.{load_for};

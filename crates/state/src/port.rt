@@ -7,7 +7,7 @@ ghost use Rattle.state.specs.Inner.Port.{queued_port};
 use crate::{ACKNOWLEDGES, INTERRUPTS, LATELY, NEXT, PORT, PORTS, RUNNING, TIMES, WORDS};
 
 // What waits at a port, where its search starts, and whether it runs.
-#[derive(Drop)]
+#[derive(Clone, Copy)]
 pub struct Port {
     pub interrupts: u32,
     pub acknowledges: u32,

@@ -1,5 +1,7 @@
 // Numbers in decimal, put into a lent area whole or not at all, and read; and lines of them that more
 // than one text has.
+#![tactic(auto)]
+
 ghost use Rattle.std.specs.Prelude.{◌≡◌, ◌+◌, ◌-◌, ◌≤◌, ◌<◌, length, ◌++◌};
 ghost use Rattle.areas.specs.Put.{put_at, Puts};
 ghost use Rattle.text.specs.Text.{decimal};

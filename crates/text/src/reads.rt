@@ -4,7 +4,7 @@ ghost use Rattle.answers.specs.Decides.{Decides};
 ghost use Rattle.text.specs.Text.{Says, IsDigit, greatest};
 
 // What bytes are read as: a number, or none.
-#[derive(Drop)]
+#[derive(Clone, Copy)]
 pub enum Number {
     Is(u32),
     Not,

@@ -5,6 +5,8 @@
 // Each device is looked at once a layer, of which there are 31 at most. Each port is looked at to see where
 // it leads, and in its device's layer: twice in all for crossings; for a cut once more; and for a chain too,
 // to see what leads to its device, and on the devices of the chain up to seven ports once again.
+#![tactic(auto)]
+
 ghost use Rattle.std.specs.Prelude.{◌≡◌, true};
 ghost use Rattle.answers.specs.Ordered.{Ordered};
 ghost use Rattle.ways.specs.Calls.{way_asks};
@@ -49,7 +51,7 @@ pub const DOES_NOT_FORWARD: u32 = 4;
 pub const BARRED: u32 = 5;
 
 // What a call answers: 0 for done or a refusal's number, and the value beside it.
-#[derive(Drop)]
+#[derive(Clone, Copy)]
 pub struct Answer {
     pub number: u32,
     pub value: u32,

@@ -1,5 +1,7 @@
 // Reads a plan file on standard input, and a state file if one is named, and writes what `reasons` makes
 // of them and three numbers on standard output: why SOURCE K DEVICE [STATE] < PLAN.
+#![tactic(auto)]
+
 ghost use Rattle.std.specs.Prelude.{◌≡◌, ℕ, ◌≤◌, length};
 ghost use Rattle.io.specs.Counts.{IsPrefixLen};
 ghost use Rattle.reasons.specs.Why.{longest, TellsWhy};
@@ -15,7 +17,7 @@ const STATE: usize = reasons::STATE + 1;
 const ARGUMENT: usize = 131072;
 
 // What is asked about, if the arguments say it.
-#[derive(Drop)]
+#[derive(Clone, Copy)]
 enum Question {
     About { source: u32, k: u32, device: u32 },
     Wrong,

@@ -45,4 +45,4 @@ module _ (at : ℕ → State) (copies : Copies line 31 (window 2) requested at) 
 
 -- there are such rounds
 pub copied : Copies line 31 (window 2) requested (λ t. requested)
-copied = record { begins = none; goes_on_lem = λ t h. none }
+copied = record { begins = none; goes_on = λ t h. none }

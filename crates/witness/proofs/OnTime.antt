@@ -124,7 +124,7 @@ ticks-again =
     record {
       taken = passed (tick_asks deaf 0 asked) [] 0 (deaf-held, (asked-sound, (there, (refl, ((0, omega arith, ready.runs), tt))))) refl;
       enough = omega arith;
-      passing = record { begins = none; goes_on_lem = λ t h. none };
+      passing = record { begins = none; goes_on = λ t h. none };
     }
 
 -- ---- no fewer rounds
@@ -163,7 +163,7 @@ ticks-first =
     record {
       taken = passed (tick_asks line 0 (started line)) [] 0 (line-held, (started-sound line line-held, (line-there, (refl, ((0, omega arith, runs-first), tt))))) refl;
       enough = le_refl _;
-      passing = record { begins = none; goes_on_lem = λ t h. none };
+      passing = record { begins = none; goes_on = λ t h. none };
     }
 
 hears : HearsTime line 0 (started line) 2

@@ -7,4 +7,4 @@ use Rattle.assurance.specs.Demand3.{Calls}
 -- so many rounds that leave the state as it was, each with calls after it
 pub record Copies (plan : Plan) (k rounds : ℕ) (s : State) (at : ℕ → State) : Type 0 where
   pub begins : Calls plan k s (at 0)
-  pub goes_on_lem : (t : ℕ) → t < rounds → Calls plan k (at t) (at (suc t))
+  pub goes_on : (t : ℕ) → t < rounds → Calls plan k (at t) (at (suc t))

@@ -24,10 +24,10 @@ record Going (plan : Plan) (i : ℕ) (state second found : List ℕ) : Type 0 wh
   cleared : second ≡ table words (λ _. 0)
 
 -- one place more
-goes_on_lem : {plan : Plan} {i : ℕ} {state second found after after-second : List ℕ} {t : Tried} → Going plan i state second found → i < 1024
+goes_on : {plan : Plan} {i : ℕ} {state second found after after-second : List ℕ} {t : Tried} → Going plan i state second found → i < 1024
     → Tries plan (i / 32) (i % 32) t.number t.rounds t.held → length after ≡ length state → after-second ≡ table words (λ _. 0)
     → Going plan (i + 1) after after-second (set (set (set found (3 * i) t.number) (3 * i + 1) t.rounds) (3 * i + 2) t.held)
-goes_on_lem v l t p q =
+goes_on v l t p q =
     record { within = omega arith; so_far = found-more v.so_far l t; long = p ∙ v.long; cleared = q }
 
 as-tried : {plan : Plan} {d k : ℕ} {t u : Tried} → t ≡ u → Tries plan d k u.number u.rounds u.held → Tries plan d k t.number t.rounds t.held
@@ -69,8 +69,8 @@ loop-again c =
     let e = c.before.before.refused.ensures in
     let h = c.before.before.before.before.before.before.before.before.before.before.requires.0 in
     ⊎_elim
-    (λ w. goes_on_lem l.invariant (omega arith) (as-tried w.10 w.3.ensures.0) (ap length w.8 ∙ w.3.kept.1.1.1.0) (w.9 ∙ w.3.ensures.1))
-    (λ w. goes_on_lem l.invariant (omega arith) (as-tried (w.3 ∙ e) (is-foreign _ h _ _ _ f (λ z. w.0.left (ap (λ (t : Tried). t.number) e ∙ z)))) (ap length w.1) (w.2 ∙ l.invariant.cleared))
+    (λ w. goes_on l.invariant (omega arith) (as-tried w.10 w.3.ensures.0) (ap length w.8 ∙ w.3.kept.1.1.1.0) (w.9 ∙ w.3.ensures.1))
+    (λ w. goes_on l.invariant (omega arith) (as-tried (w.3 ∙ e) (is-foreign _ h _ _ _ f (λ z. w.0.left (ap (λ (t : Tried). t.number) e ∙ z)))) (ap length w.1) (w.2 ∙ l.invariant.cleared))
     c.if1.branch
 
 same-length-2 : tie.Need-same-length-2 invariant-loop decreases-loop
