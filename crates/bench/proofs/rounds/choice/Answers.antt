@@ -1,0 +1,7 @@
+use Rattle.state.specs.State.{word}
+use Rattle.bench.proofs.Stepped.{first-is}
+use Rattle.bench.proofs.rounds.choice.Goals as goal
+
+pub returns : goal.returns
+unfolding word
+returns c = first-is _ _ c.first.ensures

@@ -1,0 +1,24 @@
+use mathlib.Core.Logic.{inl, inr, ⊎_elim}
+use Prim.Native.Nat.{◌-◌}
+use native.Mathlib.Omega.{arith}
+use Rattle.lists.proofs.Filled.{filled_none}
+use Rattle.mend.proofs.Marked.{stops-good, marks-more, marks-all}
+use Rattle.mend.proofs.scan.scan.Goals as goal
+
+pub loop-d-init : goal.loop-d-init
+loop-d-init c = let p = c.requires in record { counted = omega arith; filled = filled_none (omega arith); pass = λ e h. absurd (omega arith) }
+
+pub returns-then-marked-eq0 : goal.returns-then-marked-eq0
+returns-then-marked-eq0 c =
+    stops-good c.requires c.loop-d.invariant
+    c.loop-d-test.true c.refusal_at-number.ensures c.mark-marked.ensures
+    c.if-number-ne0.true c.if-marked-eq0.true
+
+pub loop-d-preserved : goal.loop-d-preserved
+loop-d-preserved c =
+    marks-more c.requires c.loop-d.invariant c.loop-d-test.true
+    c.refusal_at-number.ensures c.mark-marked.ensures
+    (⊎_elim (λ w. inl w.1.left) (λ w. inr w.left) c.if-number-ne0.branch)
+
+pub returns : goal.returns
+returns c = marks-all c.requires c.loop-d.invariant c.loop-d-test.false

@@ -1,0 +1,13 @@
+use Prim.Native.Nat.{◌-◌}
+use native.Mathlib.Omega.{arith}
+use Rattle.lists.proofs.Filled.{filled_none, filled_more, filled-whole}
+use Rattle.planfile.proofs.build.peer_row.Goals as goal
+
+pub loop-p-init : goal.loop-p-init
+loop-p-init c = filled_none (omega arith)
+
+pub loop-p-preserved : goal.loop-p-preserved
+loop-p-preserved c = filled_more c.loop-p.invariant c.loop-p-test.true c.peer.ensures
+
+pub returns : goal.returns
+returns c = filled-whole c.loop-p.invariant c.loop-p-test.false

@@ -1,0 +1,30 @@
+use mathlib.Core.Path.{refl, ap, ◌∙◌}
+use Prim.Native.Nat.{◌-◌}
+use native.Mathlib.Omega.{arith}
+use lib.ListN.{length-take, length-drop}
+use borrow.Author.Rules.{rules}
+use Rattle.plan.specs.File.{block_of, header_holdings}
+use Rattle.plan.specs.declared.Header.{Header}
+use Rattle.planfile.proofs.WrittenBlocks.{first_block, next-block, whole-file}
+use Rattle.planfile.proofs.writer.put_file.Goals as goal
+
+pub put-requires : goal.put-requires
+put-requires c = let e = ap (λ (h : Header). h.devices) c.header_of.ensures in (omega arith, search rules)
+
+pub loop-d-init : goal.loop-d-init
+loop-d-init c =
+    let p = c in
+    first_block _ _ (search rules) (p.put.ensures ∙ ap (λ (h : Header). block_of (header_holdings h)) p.header_of.ensures) refl
+
+pub put-requires-in-loop-d : goal.put-requires-in-loop-d
+put-requires-in-loop-d c =
+    (omega arith, simp (length-take, length-drop) (omega arith))
+
+pub loop-d-preserved : goal.loop-d-preserved
+loop-d-preserved c =
+    let p = c in
+    let l = p in
+    next-block _ _ l.loop-d.invariant (omega arith) p.put-in-loop-d.ensures (search rules) refl
+
+pub returns : goal.returns
+returns c = whole-file c.loop-d.invariant (omega arith)

@@ -1,0 +1,11 @@
+-- `reach::visits::ahead_all` meets its contract. The invariant: the ports before port q are filled in. Assumes nothing.
+use Prim.Native.Nat.{◌-◌}
+use Rattle.lists.proofs.Filled.{Filled}
+use Rattle.reach.specs.Visits.{ahead}
+use Rattle.reach.proofs.visits.ahead_all.Given as goal
+
+abbrev pub invariant-loop-q : goal.invariant-loop-q
+invariant-loop-q l = Filled 256 256 32 (ahead l.permissions l.peers l.barred l.state l.k) l.q l.all
+
+abbrev pub decreases-loop-q : goal.decreases-loop-q
+decreases-loop-q l = 256 - l.q

@@ -1,0 +1,32 @@
+-- `ways::layers::layer` meets its contract: a turn for each device. Assumes nothing.
+use mathlib.Core.Path.{◌≡◌, refl, sym, ap, ◌∙◌}
+use mathlib.Core.Bool.{Bool, true, false, false≢true}
+use mathlib.Core.List.{List}
+use mathlib.Core.Logic.{◌⊎◌, inl, inr, ⊎_elim}
+use Prim.Native.Nat.{ℕ, ◌+◌, ◌-◌, ◌<◌}
+use lib.ListN.{length}
+use borrow.Author.Rules.{rules}
+use Rattle.lists.proofs.Loops.{none, turn, done}
+use Rattle.ways.specs.Inner.Layers.{goes_on, spread, layer}
+use Rattle.ways.proofs.layers.layer.Invariants.{Turned}
+use Rattle.ways.proofs.layers.layer.Goals as goal
+
+-- the device passes on, or nothing changes
+again : (role to : List ℕ) (n d : ℕ) (first far next : List ℕ) (any more : Bool) {b : Bool} → b ≡ goes_on role n d far → Turned role to n first far d any → d < 32
+    → ((b ≡ true) × (next ≡ spread to n d far) × (length next ≡ length far) × (more ≡ true)) ⊎ ((b ≡ false) × (next ≡ far) × (more ≡ any))
+    → Turned role to n first next (d + 1) more
+again role to n d first far next any more e v h (inl w) = (turn v.0 h (rw (← e, w.0) w.1), w.2 ∙ v.1, λ z. absurd (false≢true (sym z ∙ w.3)))
+again role to n d first far next any more e v h (inr w) = (turn v.0 h (rw (← e, w.0) w.1), ap length w.1 ∙ v.1, λ z. w.1 ∙ v.2 (sym w.2 ∙ z))
+
+pub loop-d-init : goal.loop-d-init
+loop-d-init c = (none, search rules, λ _. refl)
+
+pub loop-d-preserved : goal.loop-d-preserved
+loop-d-preserved c =
+    let t = c in
+    again _ _ _ _ _ _ _ _ _ c.goes_on.ensures t.loop-d.invariant t.loop-d-test.true
+    (⊎_elim (λ w. inl (w.0.taken, w.5 ∙ w.2.ensures, ap length w.5 ∙ w.2.kept.1.1.1.0, w.6)) (λ w. inr (w.0.left, w.1, w.2)) c.if-goes_on.branch)
+
+pub returns : goal.returns
+unfolding layer
+returns c = (done c.loop-d.invariant.0 c.loop-d-test.false, c.loop-d.invariant.2)

@@ -1,0 +1,20 @@
+-- `ways::layers::spread` meets its contract: a turn for each port. Assumes nothing.
+use mathlib.Core.Path.{◌∙◌}
+use Prim.Native.Nat.{◌-◌}
+use borrow.Author.Rules.{rules}
+use Rattle.lists.proofs.Loops.{none, turn, done}
+use Rattle.ways.specs.Inner.Layers.{meet, spread}
+use Rattle.ways.proofs.layers.spread.Goals as goal
+
+pub loop-p-init : goal.loop-p-init
+loop-p-init c = (none, search rules)
+
+pub loop-p-preserved : goal.loop-p-preserved
+loop-p-preserved c =
+    let m = c in
+    let t = m in
+    (turn t.loop-p.invariant.0 t.loop-p-test.true m.meet.ensures, m.meet.auto.far ∙ t.loop-p.invariant.1)
+
+pub returns : goal.returns
+unfolding spread
+returns c = done c.loop-p.invariant.0 c.loop-p-test.false
