@@ -1,10 +1,10 @@
 -- `calls::refusal` meets its contract: the first two conditions by one call, then the device. Assumes nothing.
 use mathlib.Core.Path.{refl}
-use mathlib.Core.List.{List, [], ◌∷◌}
+use mathlib.Core.List.{[], ◌∷◌}
 use mathlib.Core.Logic.{inl, inr}
 use Prim.Native.Nat.{◌<◌}
 use native.Mathlib.Omega.{arith}
-use Rattle.answers.specs.Ordered.{Condition, ask}
+use Rattle.answers.specs.Ordered.{ask}
 use Rattle.answers.proofs.Outcomes.{holds, passed, stopped}
 use Rattle.state.specs.Network.{devices}
 use Rattle.state.specs.Sound.{state_asks}

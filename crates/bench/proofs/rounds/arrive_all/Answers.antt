@@ -1,7 +1,6 @@
 use mathlib.Core.Path.{◌≡◌, refl, ap, ◌∙◌}
 use mathlib.Core.List.{List, []}
-use mathlib.Core.Logic.{⊎_elim}
-use Prim.Native.Nat.{ℕ, ◌-◌, ◌/◌, ◌%◌, ◌≤◌, ◌<◌}
+use Prim.Native.Nat.{ℕ, ◌/◌, ◌%◌, ◌≤◌, ◌<◌}
 use native.Mathlib.Omega.{arith}
 use lib.ListN.{length, get_or}
 use Rattle.plan.specs.declared.Plan.{Plan}
@@ -67,16 +66,16 @@ loop-q-preserved c =
     let byte = c.heard-byte.ensures in (
       λ size x v. let u = l.loop-q.invariant.0 size x v in
           elim c.if-byte-lt-NOTHING.branch [
-            then-byte-lt-NOTHING w ↦
-              again u (omega (arith, l.loop-q.invariant.3))
-              (lands w.state-is w.told-is w.count-is (leads (λ told. here-byte _ _ _ _ _ device byte w.if-byte-lt-NOTHING.true _) w.arrive_one-count.ensures.0))
-              (omega (arith, w.count-is, w.arrive_one-count.ensures.1))
-              (ap length w.state-is ∙ w.arrive_one-count.auto.state)
-              (ap length w.told-is ∙ w.arrive_one-count.auto.told)
-          | else-byte-lt-NOTHING w ↦
-              again u (omega (arith, l.loop-q.invariant.3))
-              (lands w.state-is w.told-is w.count-is (silent (λ told. here-nothing _ _ _ _ _ device byte w.if-byte-lt-NOTHING.false _)))
-              (omega (arith, w.count-is)) (ap length w.state-is) (ap length w.told-is)
+            | then-byte-lt-NOTHING w ↦
+                again u (omega (arith, l.loop-q.invariant.3))
+                (lands w.state-is w.told-is w.count-is (leads (λ told. here-byte _ _ _ _ _ device byte w.if-byte-lt-NOTHING.true _) w.arrive_one-count.ensures.0))
+                (omega (arith, w.count-is, w.arrive_one-count.ensures.1))
+                (ap length w.state-is ∙ w.arrive_one-count.auto.state)
+                (ap length w.told-is ∙ w.arrive_one-count.auto.told)
+            | else-byte-lt-NOTHING w ↦
+                again u (omega (arith, l.loop-q.invariant.3))
+                (lands w.state-is w.told-is w.count-is (silent (λ told. here-nothing _ _ _ _ _ device byte w.if-byte-lt-NOTHING.false _)))
+                (omega (arith, w.count-is)) (ap length w.state-is) (ap length w.told-is)
           ],
       omega arith,
       omega arith,

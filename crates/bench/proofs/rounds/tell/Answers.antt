@@ -1,9 +1,8 @@
 use mathlib.Core.Path.{◌≡◌, refl, sym, ap, ◌∙◌}
 use mathlib.Core.List.{List}
 use Prim.Native.Nat.{ℕ, ◌≤◌}
-use lib.ListN.{length, set, length-set}
+use lib.ListN.{length, set}
 use lib.Seq.{set_out}
-use Rattle.bench.specs.Round.{told_word}
 use Rattle.bench.proofs.Following.{note-one}
 use Rattle.bench.proofs.rounds.tell.Goals as goal
 use Rattle.bench.proofs.rounds.tell.Goals.{then-count-told, else-count-told}

@@ -1,6 +1,6 @@
 use mathlib.Core.Path.{◌≡◌, sym, ap, subst, ◌∙◌}
 use mathlib.Core.List.{List}
-use Prim.Native.Nat.{ℕ, ◌-◌, ◌/◌, ◌%◌}
+use Prim.Native.Nat.{ℕ, ◌/◌, ◌%◌}
 use native.Mathlib.Omega.{arith}
 use lib.ListN.{length, get_or, length-set}
 use Rattle.answers.specs.Ordered.{Condition, Ordered}
@@ -46,8 +46,8 @@ loop-i-preserved c =
     let e = c.refused-tried.ensures in
     let h = c.requires.0 in
     elim c.if-tried-eq0.branch [
-      then-tried-eq0 w ↦ goes_on l.invariant (omega arith) (as-tried w.tried-is w.attempt-tried.ensures.0) (ap length w.state-is ∙ w.attempt-tried.auto.state) (w.second-is ∙ w.attempt-tried.ensures.1)
-    | else-tried-eq0 w ↦ goes_on l.invariant (omega arith) (as-tried (w.tried-is ∙ e) (is-foreign _ h _ _ _ f (λ z. w.if-tried-eq0.false (ap (λ (t : Tried). t.number) e ∙ z)))) (ap length w.state-is) (w.second-is ∙ l.invariant.cleared)
+      | then-tried-eq0 w ↦ goes_on l.invariant (omega arith) (as-tried w.tried-is w.attempt-tried.ensures.0) (ap length w.state-is ∙ w.attempt-tried.auto.state) (w.second-is ∙ w.attempt-tried.ensures.1)
+      | else-tried-eq0 w ↦ goes_on l.invariant (omega arith) (as-tried (w.tried-is ∙ e) (is-foreign _ h _ _ _ f (λ z. w.if-tried-eq0.false (ap (λ (t : Tried). t.number) e ∙ z)))) (ap length w.state-is) (w.second-is ∙ l.invariant.cleared)
     ]
 
 pub shape_of-second : goal.shape_of-second
