@@ -217,7 +217,7 @@ module _ (file : List ℕ) where
       λ q h x z. omega (arith, lowest-below here 256 q h, contest-at h (record { leads = eqb-true _ _ x; port = g; other = z; marked = m })) in
       every-all 256 _
       (λ a h. every-all a _
-      (λ b l. not-both _ _ (λ x y. elim (ℕ_discrete (claimant file t) a) [ yes e ↦ none b (omega arith) y (omega arith) | no e ↦ none a h x e ])))
+      (λ b l. not-both (claims file t a) (claims file t b) (λ x y. elim (ℕ_discrete (claimant file t) a) [ yes e ↦ none b (omega arith) y (omega arith) | no e ↦ none a h x e ])))
 
   below-lowest : (d : ℕ) → d < count_in file → d < 32 → 1 + d < low → uncontested file d ≡ true
   unfolding uncontested
