@@ -1,12 +1,9 @@
-use mathlib.Core.Path.{◌≡◌, refl, sym, ap, ◌∙◌}
-use mathlib.Core.List.{List, []}
-use Prim.Native.Nat.{ℕ, ◌≤◌}
-use native.Mathlib.Omega.{arith}
-use lib.ListN.{length}
-use lib.Seq.{length-take-le, take-length}
+use Rattle.std.proofs.Common.{◌≡◌, refl, sym, ap, ◌∙◌, subst, le_refl, List, [], ℕ, ◌≤◌, arith, length, take, take_all}
+use Rattle.std.proofs.KnownBytes.{Consumes-kept, Consumes-nil}
+use Rattle.std.proofs.Math.Seq.{take-append_seam}
+use Rattle.std.specs.Io.KnownBytes.{Appends}
 use Rattle.areas.specs.Put.{over}
 use Rattle.listing.specs.Listing.{lines, Lists}
-use Rattle.listing.proofs.Unique.{list_length}
 use Rattle.decode.proofs.list_some.Goals as goal
 
 -- nothing was read, and nothing is listed
@@ -14,28 +11,26 @@ none-listed : (page : List ℕ) → page ≡ over (lines []) page
 unfolding over lines
 none-listed page = refl
 
--- the lines of a whole piece were put
-whole : {piece before after : List ℕ} {n used answer : ℕ} → n ≤ 4096 → n ≡ length piece → answer ≤ n → Lists piece before (length piece) used after
-    → (bytes : List ℕ) × (length bytes ≤ 4096) × (answer ≤ length bytes) × (after ≡ over (lines bytes) before)
-whole {piece} {before} few size less l =
-    (piece, omega (arith, few, size), omega (arith, size, less), l.text ∙ ap (λ (bytes : List ℕ). over (lines bytes) before) (take-length piece))
+-- what was written over an area stands in front
+front : (w before : List ℕ) → take (length w) (over w before) ≡ w
+unfolding over
+front w before = take-append_seam w _
 
-pub returns-then-got-lt0 : goal.returns-then-got-lt0
-returns-then-got-lt0 c = ([], omega arith, omega arith, none-listed _)
+-- the lines of a whole piece were put, and they are what stands in front
+whole : {piece before after : List ℕ} {used : ℕ} → Lists piece before (length piece) used after → (after ≡ over (lines piece) before) × (take used after ≡ lines piece)
+whole {piece} {before} {after} {used} l =
+    let all : take (length piece) piece ≡ piece = take_all _ _ (le_refl _) in
+    let text = l.text ∙ ap (λ (bytes : List ℕ). over (lines bytes) before) all in
+    let size = l.size ∙ ap (λ (bytes : List ℕ). length (lines bytes)) all in
+    (text, ap (take used) text ∙ ap (λ n. take n (over (lines piece) before)) size ∙ front (lines piece) before)
 
-pub returns-then-write_all : goal.returns-then-write_all
-returns-then-write_all c =
-    let count = c.count-n.ensures.0 in
-    whole (omega (arith, count.0)) count.1 (omega arith) c.list_piece-length.ensures
+pub returns-in-Err : goal.returns-in-Err
+returns-in-Err g c =
+    ([], omega arith, omega arith, none-listed _, Consumes-kept _ _ _ _ (Consumes-nil _) c.in-Err.ensures.bytes, λ h. absurd (omega (arith, h)))
 
-pub returns : goal.returns
-returns c =
-    let count = c.count-n.ensures.0 in
-    whole (omega (arith, count.0)) count.1 (omega arith) c.list_piece-length.ensures
-
--- LOST
--- slice-aggregate-write-all-2 : tie.Need-slice-aggregate-write-all-2
--- slice-aggregate-write-all-2 c =
---     let listed = c.before.before.before.list-piece.ensures in
---     sym (length-take-le _ _ (omega (arith, listed.room, list_length listed)))
--- 
+pub returns-in-Ok-write_all : goal.returns-in-Ok-write_all
+returns-in-Ok-write_all g c =
+    let piece = take c.in-Ok.n c.read.new.buf in
+    let count = c.in-Ok.ensures.bound in
+    let put = whole c.list_piece-length.ensures in
+    (piece, omega (arith, count.0, count.1, c.read.auto.buf), omega (arith, count.1), put.0, c.in-Ok.ensures.bytes.0, λ h. subst (Appends _ _) put.1 c.in-Ok-write_all.ensures.bytes)

@@ -1,10 +1,29 @@
-use mathlib.Core.Path.{sym}
-use lib.Seq.{length-take-le}
+use Rattle.std.proofs.Common.{◌≡◌, refl, sym, ap, ◌∙◌, subst, ℕ, List, length, take, length-take-le}
+use Rattle.std.proofs.Math.Seq.{take-append_seam}
+use Rattle.std.specs.Io.KnownBytes.{Appends}
+use Rattle.areas.specs.Put.{over}
+use Rattle.report.specs.Report.{Areas, Prints, Reports}
 use Rattle.report.proofs.Texts.{made-room}
 use Rattle.settle.proofs.settle.Goals as goal
 
+-- what was written over an area stands in front
+front : (w before : List ℕ) → take (length w) (over w before) ≡ w
+unfolding over
+front w before = take-append_seam w _
+
+-- what was made stands in front of its area, and is the text of the file
+made-text : {file : List ℕ} {before after : Areas} {value : ℕ} → Reports file before 0 value after → (text : List ℕ) × Prints file text × (take value after.text ≡ text)
+made-text {before = before} {after} r =
+    let x = r.made refl in
+    (x.0, x.1, ap (λ n. take n after.text) x.2 ∙ ap (λ (a : Areas). take (length x.0) a.text) x.3 ∙ front x.0 before.text)
+
 pub slice_bounds-text-end : goal.slice_bounds-text-end
-slice_bounds-text-end c = made-room c.make-length.ensures
+slice_bounds-text-end g c = made-room c.make-length.ensures
 
 pub slice_bounds-write_all-end : goal.slice_bounds-write_all-end
-slice_bounds-write_all-end c = sym (length-take-le _ _ (made-room c.make-length.ensures))
+slice_bounds-write_all-end g c = sym (length-take-le _ _ (made-room c.make-length.ensures))
+
+pub returns-in-Ok : goal.returns-in-Ok
+returns-in-Ok g c = λ e.
+    let made = made-text c.make-length.ensures in
+    (made.0, made.1, subst (Appends _ _) made.2 c.in-Ok.ensures.bytes)
