@@ -9,7 +9,7 @@ use native.Mathlib.Omega.{arith}
 use lib.Dec.{ltb}
 use lib.ListN.{length, get_or}
 use borrow.Author.Tests.{lt-ltb, le-ltb}
-use Rattle.lists.specs.Table.{table, joined}
+use Rattle.lists.specs.Table.{table}
 use Rattle.lists.proofs.Tables.{get_d-table, is-table, same-joined}
 use Rattle.plan.specs.Block.{block}
 use Rattle.plan.specs.Fields.{role_in, ports_in, source_in, handler_in, entry, nobody, peer_number, bar_in, joins, sources_fit}

@@ -1,7 +1,6 @@
 -- `state::write_first` meets its contract. The invariant: the ports before port q are written, in an area that is 0 otherwise. Assumes nothing.
 use mathlib.Core.Path.{◌∙◌, ap}
-use mathlib.Core.Logic.{⊎_elim, inl, inr}
-use Prim.Native.Nat.{◌-◌}
+use mathlib.Core.Logic.{inl, inr}
 use native.Mathlib.Omega.{arith}
 use Rattle.lists.specs.Table.{table}
 use Rattle.state.specs.State.{put}
