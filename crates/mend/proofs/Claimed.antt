@@ -14,7 +14,7 @@ use Rattle.lists.specs.Table.{table}
 use Rattle.lists.proofs.Tables.{get_d-table, is-table, same-table, set-table}
 use Rattle.lists.proofs.Tests.{and_left, and_right, both, every-all, every-not}
 use Rattle.plan.specs.Fields.{nobody}
-use Rattle.plan.specs.File.{at}
+use Rattle.plan.specs.Inner.Memory.{at}
 use Rattle.plan.specs.Refusals.{count_in}
 use Rattle.mend.specs.Claims.{last, damaged, pointed, claims, claimant, once, uncontested}
 use Rattle.mend.specs.Mended.{ports_for}

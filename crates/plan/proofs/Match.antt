@@ -19,7 +19,7 @@ use Rattle.plan.specs.Reading.{column, plan_of}
 use Rattle.plan.specs.declared.Header.{Header}
 use Rattle.plan.specs.declared.Plan.{Plan}
 use Rattle.plan.specs.Inner.Memory.{at, peer_at, row_right, right}
-use Rattle.plan.specs.File.{file_of}
+use Rattle.plan.specs.Inner.File.{file_of}
 use Rattle.lists.proofs.Facts.{facts}
 use Rattle.plan.proofs.Shape.{Shaped}
 use Rattle.plan.proofs.Good.{Good, GoodDevice, devices-fit, header-says}

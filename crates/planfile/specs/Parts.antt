@@ -3,7 +3,7 @@
 use Rattle.std.specs.Prelude.{cond, ◌&&◌, List, [], ◌∷◌, ◌++◌, ℕ, zero, suc, ◌+◌, ◌*◌, ◌/◌, eqb, ltb, length}
 use Rattle.plan.specs.Block.{block}
 use Rattle.plan.specs.Fields.{nobody}
-use Rattle.plan.specs.File.{block_of, device_holdings}
+use Rattle.plan.specs.Inner.File.{block_of, device_holdings}
 use Rattle.plan.specs.Refusals.{test, Test, first, length_fits, header_tests, device_tests, count_in, master_in, device_block, peer_of}
 use Rattle.plan.specs.declared.Core.{Core}
 
