@@ -1,5 +1,5 @@
 -- No rules: what private functions of the rescue compute on the way.
-use Rattle.std.specs.Prelude.{◌≡◌, Bool, cond, not, ◌&&◌, List, [], ◌∷◌, ◌++◌, ℕ, zero, suc, ◌+◌, ◌*◌, ◌/◌, ◌≤◌, min, eqb, ltb, length, take, drop, replicate}
+use Rattle.std.specs.Prelude.{◌≡◌, Bool, cond, not, ◌&&◌, List, [], ◌++◌, ℕ, zero, suc, ◌+◌, ◌*◌, ◌/◌, ◌≤◌, min, eqb, ltb, length, take, drop, replicate}
 use Rattle.lists.specs.Table.{table, joined}
 use Rattle.text.specs.Text.{ascii, headed, joint}
 use Rattle.text.specs.Inner.Within.{Within}

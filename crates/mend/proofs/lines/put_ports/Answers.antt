@@ -1,4 +1,4 @@
-use Prim.Native.Nat.{◌+◌, ◌-◌, ◌*◌}
+use Prim.Native.Nat.{◌+◌, ◌*◌}
 use native.Mathlib.Omega.{arith}
 use Rattle.areas.proofs.Puts.{same_size}
 use Rattle.text.proofs.Within.{lined-none, lined-room, lined-more, lined-all, none-joined, one-joined}

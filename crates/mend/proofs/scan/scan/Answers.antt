@@ -1,5 +1,4 @@
 use mathlib.Core.Logic.{inl, inr}
-use Prim.Native.Nat.{◌-◌}
 use native.Mathlib.Omega.{arith}
 use Rattle.lists.proofs.Filled.{filled_none}
 use Rattle.mend.proofs.Marked.{stops-good, marks-more, marks-all}

@@ -1,5 +1,4 @@
 use native.Mathlib.Omega.{arith}
-use Prim.Native.Nat.{◌-◌}
 use Rattle.areas.proofs.Written.{none, turn, done}
 use Rattle.plan.specs.Inner.File.{cleared}
 use Rattle.planfile.proofs.block.clear.Goals as goal

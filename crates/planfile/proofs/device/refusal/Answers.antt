@@ -1,11 +1,7 @@
 use mathlib.Core.Path.{ap}
 use mathlib.Core.Bool.{not}
-use mathlib.Core.Path.{◌≡◌, sym, ◌∙◌}
-use mathlib.Core.Bool.{true}
-use lib.Dec.{eqb}
+use mathlib.Core.Path.{sym, ◌∙◌}
 use borrow.Author.Tests.{eq-eqb, ne_eqb}
-use Rattle.plan.specs.Block.{byte, checked}
-use Rattle.plan.specs.Fields.{device_fits}
 use Rattle.plan.specs.Refusals.{first, device_tests}
 use Rattle.lists.proofs.Turns.{failed, passed}
 use Rattle.planfile.proofs.device.refusal.Goals as goal

@@ -1,11 +1,6 @@
 use mathlib.Core.Path.{ap}
 use mathlib.Core.Bool.{not}
-use mathlib.Core.Bool.{true}
-use mathlib.Core.Path.{◌≡◌}
-use lib.Dec.{eqb}
 use borrow.Author.Tests.{eq-eqb, ne_eqb}
-use Rattle.plan.specs.Block.{byte, checked}
-use Rattle.plan.specs.Header.{header_in, header_fits}
 use Rattle.plan.specs.Refusals.{first, header_tests}
 use Rattle.lists.proofs.Turns.{failed, passed}
 use Rattle.planfile.proofs.header.refusal.Goals as goal
