@@ -1,6 +1,6 @@
 -- No rule: the file of a plan as the writer writes it, number by number. Nothing here has to be believed; `BothWays` proves that it is the one
 -- accepted file of the plan.
-use Rattle.std.specs.Prelude.{cond, List, [], ◌∷◌, ◌++◌, ℕ, zero, suc, ◌+◌, ◌*◌, ◌/◌, ◌%◌, eqb, get_or, set}
+use Rattle.std.specs.Prelude.{cond, List, [], ◌∷◌, ◌++◌, ℕ, zero, suc, ◌+◌, ◌*◌, ◌/◌, ◌%◌, eqb, set}
 use Rattle.lists.specs.Table.{table, joined}
 use Rattle.plan.specs.Block.{Field, check, check_field}
 use Rattle.plan.specs.Fields.{entry_fields, own_fields, bar_field, nobody}
