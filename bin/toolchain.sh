@@ -73,7 +73,7 @@ crates_of() {
             for (i = 1; i <= n; i++) visit(need[i])
         }
         { sub(/#.*/, "") }
-        /:/ { name = $0; sub(/:.*/, "", name); sub(/[^:]*:/, ""); needs[name] = $0 }
+        /:/ { name = $0; sub(/[ :].*/, "", name); sub(/[^:]*:/, ""); needs[name] = $0 }
         END { visit(want); print count }' "$here/crates.txt"
 }
 
