@@ -48,15 +48,11 @@ static u32 zeros(const u8 *b, int from, int to) {
     return 0;
 }
 
-static u32 check_of(const u8 *b) {
+static u32 any_block(const u8 *b, int from, int good, int marked) {
     u32 sum = 0;
     for (u32 i = 0; i < 510; i++)
         sum += (i + 1) * b[i];
-    return sum % 65521;
-}
-
-static u32 any_block(const u8 *b, int from, int good, int marked) {
-    if (check_of(b) != two(b + 510))
+    if (sum % 65521 != two(b + 510))
         return 21;
     if (!marked)
         return 22;
@@ -113,11 +109,6 @@ static int bars_fit(const u8 *b) {
     return !any;
 }
 
-static u32 device_refusal(const u8 *b, u32 d, const struct plan *plan) {
-    int good = fits(b, plan->devices) && bars_fit(b) && !(b[2] && d == plan->master);
-    return any_block(b, BEHIND_BARS, good, b[0] == 2 && b[1] == d);
-}
-
 static void load_device(const u8 *b, u32 d, struct plan *plan) {
     plan->role[d] = b[2];
     plan->ports[d] = b[3];
@@ -142,17 +133,24 @@ static int two_sources(const struct plan *plan) {
     return (again & ~plan->events) != 0;
 }
 
-/* What is asked before the blocks of devices. */
-static u32 load_front(const u8 *file, usize length, struct plan *plan) {
+static u32 read_plan(const u8 *file, usize length, struct plan *plan, u32 *block) {
+    *block = 0;
     if (length < 512 || length > BENCH_FILE || length % 512)
         return 20;
-    u32 bad = load_header(file, plan);
-    return bad ? bad : length == 512 * (1 + plan->devices) ? 0 : 25;
-}
-
-/* What is asked behind them. */
-static u32 joint_refusal(const struct plan *plan, u32 *block) {
-    for (u32 q = 0; q < 8 * plan->devices; q++) {
+    u32 bad = load_header(file, plan), n = plan->devices;
+    if (bad)
+        return bad;
+    if (length != 512 * (1 + n))
+        return 25;
+    for (u32 d = 0; d < n; d++) {
+        const u8 *b = file + 512 * (1 + d);
+        *block = 1 + d;
+        int good = fits(b, n) && bars_fit(b) && !(b[2] && d == plan->master);
+        if ((bad = any_block(b, BEHIND_BARS, good, b[0] == 2 && b[1] == d)))
+            return bad;
+        load_device(b, d, plan);
+    }
+    for (u32 q = 0; q < 8 * n; q++) {
         u32 peer = plan->peers[q];
         *block = 1 + q / 8;
         if (peer != NONE && (peer % 8 >= plan->ports[peer / 8] || plan->peers[peer] != q || peer == q))
@@ -160,21 +158,6 @@ static u32 joint_refusal(const struct plan *plan, u32 *block) {
     }
     *block = 0;
     return two_sources(plan) ? 27 : 0;
-}
-
-static u32 read_plan(const u8 *file, usize length, struct plan *plan, u32 *block) {
-    *block = 0;
-    u32 bad = load_front(file, length, plan);
-    if (bad)
-        return bad;
-    for (u32 d = 0; d < plan->devices; d++) {
-        const u8 *b = file + 512 * (1 + d);
-        *block = 1 + d;
-        if ((bad = device_refusal(b, d, plan)))
-            return bad;
-        load_device(b, d, plan);
-    }
-    return joint_refusal(plan, block);
 }
 
 /* ---- the state */
@@ -519,87 +502,6 @@ static u8 *put_text(const u8 *file, usize length, u32 *areas[2], u8 *at) {
     return at;
 }
 
-/* ---- rescue */
-
-/* A damaged device becomes a router; of its ports nothing is known yet, but that it has one. */
-static void forget_device(struct plan *plan, u32 d) {
-    plan->role[d] = plan->ports[d] = 1;
-    for (u32 q = 8 * d; q < 8 * d + 8; q++)
-        plan->peers[q] = NONE;
-}
-
-/* Ports of good devices are joined back to those of damaged ones, which are a set. The first device one of whose ports is claimed
-   twice, or NONE. */
-static u32 join_back(struct plan *plan, u32 damaged) {
-    u32 twice = NONE;
-    for (u32 q = 0; q < 8 * plan->devices; q++) {
-        u32 peer = plan->peers[q], d = peer / 8;
-        if (damaged >> q / 8 & 1 || peer == NONE || !(damaged >> d & 1))
-            continue;
-        if (plan->peers[peer] != NONE && d < twice)
-            twice = d;
-        plan->peers[peer] = q;
-        if (plan->ports[d] <= peer % 8)
-            plan->ports[d] = peer % 8 + 1;
-    }
-    return twice;
-}
-
-/* The mended plan, and the set of its devices that were damaged. */
-static u32 mend_plan(const u8 *file, usize length, struct plan *plan, u32 *damaged, u32 *block) {
-    *block = *damaged = 0;
-    u32 bad = load_front(file, length, plan);
-    if (bad)
-        return bad;
-    for (u32 d = 0; d < plan->devices; d++) {
-        const u8 *b = file + 512 * (1 + d);
-        *block = 1 + d;
-        if ((bad = device_refusal(b, d, plan)) == 21) {
-            *damaged |= 1u << d;
-            forget_device(plan, d);
-        } else if (bad)
-            return bad;
-        else
-            load_device(b, d, plan);
-    }
-    u32 twice = join_back(plan, *damaged), master = plan->master;
-    if (twice != NONE) {
-        *block = 1 + twice;
-        return 28;
-    }
-    if (master != NONE && (*damaged >> master & 1)) {
-        *block = 1 + master;
-        return 23;
-    }
-    return joint_refusal(plan, block);
-}
-
-static void put_router(const struct plan *plan, u32 d, u8 *b) {
-    memset(b, 0, 512);
-    memcpy(b, (u8[]){2, d, 1, plan->ports[d]}, 4);
-    for (u32 p = 0; p < 8; p++) {
-        u32 peer = plan->peers[8 * d + p];
-        b[12 + 4 * p] = peer == NONE ? 255 : peer / 8;
-        b[13 + 4 * p] = peer == NONE ? 255 : peer % 8;
-    }
-    u32 check = check_of(b);
-    b[510] = check & 255;
-    b[511] = check >> 8;
-}
-
-static u8 *put_restored(const struct plan *plan, u32 d, u8 *at) {
-    memcpy(at, "block ", 6);
-    at = put_number(at + 6, 1 + d, '\n');
-    for (u32 q = 8 * d; q < 8 * d + 8; q++) {
-        u32 peer = plan->peers[q];
-        if (peer == NONE)
-            continue;
-        at = put_number(put_number(at, d, ' '), q % 8, ' ');
-        at = put_number(put_number(at, peer / 8, ' '), peer % 8, '\n');
-    }
-    return at;
-}
-
 /* ---- the calls */
 
 /* What every call asks: a file that is accepted, and a sound state. */
@@ -717,24 +619,5 @@ u32 plain_report(const u8 *file, usize length, u8 *text, usize text_length, u32 
     u32 state[BENCH_STATE], second[BENCH_STATE];
     (void)text_length;
     *text_used = put_text(file, length, (u32 *[]){state, second}, text) - text;
-    return 0;
-}
-
-u32 plain_rescue(const u8 *file, usize length, u8 *mended, usize mended_length, u8 *text, usize text_length, u32 *block,
-                 u32 *text_used) {
-    struct plan plan;
-    u8 *at = text;
-    u32 damaged, number = mend_plan(file, length, &plan, &damaged, block);
-    (void)text_length;
-    *text_used = 0;
-    if (number)
-        return number;
-    memcpy(mended, file, mended_length);
-    for (; damaged; damaged &= damaged - 1) {
-        u32 d = __builtin_ctz(damaged);
-        put_router(&plan, d, mended + 512 * (1 + d));
-        at = put_restored(&plan, d, at);
-    }
-    *text_used = at - text;
     return 0;
 }

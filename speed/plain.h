@@ -28,5 +28,3 @@ u32 plain_chain(const u8 *file, usize length, const u32 *state, usize state_leng
                 u32 *ports, usize ports_length, u32 *crossings);
 u32 plain_cut(const u8 *file, usize length, const u32 *state, usize state_length, usize source, u32 k, u32 *causes,
               usize causes_length, u32 *count);
-u32 plain_rescue(const u8 *file, usize length, u8 *mended, usize mended_length, u8 *text, usize text_length, u32 *block,
-                 u32 *text_used);

@@ -28,7 +28,6 @@ struct bench {
     __typeof__(plain_crossings) *crossings;
     __typeof__(plain_chain) *chain;
     __typeof__(plain_cut) *cut;
-    __typeof__(plain_rescue) *rescue;
 };
 __typeof__(plain_plan_read) judge_plan_read;
 __typeof__(plain_tick) judge_tick;
@@ -39,16 +38,15 @@ __typeof__(plain_report) judge_report;
 __typeof__(plain_crossings) judge_crossings;
 __typeof__(plain_chain) judge_chain;
 __typeof__(plain_cut) judge_cut;
-__typeof__(plain_rescue) judge_rescue;
 
 enum { OURS, PLAIN, JUDGE, ALL };
 static const struct bench benches[ALL] = {
     {bench_plan_read, bench_tick, bench_round, bench_settle, bench_reach_ports, bench_report, bench_crossings, bench_chain,
-     bench_cut, bench_rescue},
+     bench_cut},
     {plain_plan_read, plain_tick, plain_round, plain_settle, plain_reach_ports, plain_report, plain_crossings, plain_chain,
-     plain_cut, plain_rescue},
+     plain_cut},
     {judge_plan_read, judge_tick, judge_round, judge_settle, judge_reach_ports, judge_report, judge_crossings, judge_chain,
-     judge_cut, judge_rescue},
+     judge_cut},
 };
 
 /* What a call is given: a plan, and the state before it. */
@@ -58,10 +56,10 @@ static u32 before[BENCH_STATE];
 
 /* What it gives. */
 static struct given {
-    u32 number, value, set, examined, used;
+    u32 number, value, set, examined;
     u32 state[BENCH_STATE], sent[BENCH_SENT], told[BENCH_TOLD];
     u32 crossings[BENCH_CROSSINGS], ports[BENCH_CHAIN], causes[BENCH_CUT];
-    u8 text[BENCH_TEXT], mended[BENCH_FILE];
+    u8 text[BENCH_TEXT];
 } given[ALL];
 
 /* ---- the calls */
@@ -106,10 +104,6 @@ static void chain(const struct bench *b, struct given *g) {
 
 static void cut(const struct bench *b, struct given *g) {
     g->number = b->cut(file, length, before, BENCH_STATE, 0, 5, g->causes, BENCH_CUT, &g->value);
-}
-
-static void rescue(const struct bench *b, struct given *g) {
-    g->number = b->rescue(file, length, g->mended, length, g->text, BENCH_TEXT, &g->value, &g->used);
 }
 
 /* ---- the measure */
@@ -294,49 +288,12 @@ static void over_load(void) {
     before[device_at(0) + 1 + __builtin_ctz(before[device_at(0)])]++;
 }
 
-/* The check of a device's block fails. */
-static void damage(u32 d) {
-    file[512 * (1 + d) + 509] ^= 1;
-}
-
-/* Of every second device, the router at the node first. */
-static void damage_some(void) {
-    for (u32 d = 1; d < file[1]; d += 2)
-        damage(d);
-}
-
-/* The node is joined to port 1 of the last router, as the router before that is, where there is one. */
-static void claim(void) {
-    memcpy(entry(0, 0), (u8[]){file[1] - 1, 1, 15, 0}, 4);
-    seal(file + 512);
-}
-
-/* The rescue with every second block damaged. Beside it with none; of a port that two claim, of all but the master, and of the
-   master; and of a connection that is not good, where nothing is damaged. */
-static void rescues(u32 n) {
-    compare("rescue of nothing damaged", rescue);
-    damage_some();
-    race("rescue", "", rescue);
-    claim();
-    compare("rescue of two claims", rescue);
-    for (u32 d = 2; d < n; d += 2)
-        damage(d);
-    compare("rescue of all but the master", rescue);
-    damage(0);
-    compare("rescue of the master", rescue);
-    mesh(n);
-    claim();
-    compare("rescue of a bad connection", rescue);
-    mesh(n);
-}
-
 /* How the cost grows with devices, and with the identifiers that every port has waiting. */
 static void growth(u32 n) {
     static const u32 sets[] = {0, 1, 0xff, 0xffffffff};
     static const char *const names[] = {"0", "1", "8", "32"};
     mesh(n);
     race("read a plan", "", plan_read);
-    rescues(n);
     busy(0);
     race("reach", "", reach);
     race("crossings", "", crossings);

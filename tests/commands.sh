@@ -37,8 +37,6 @@ example 'example babble .*guarded'
 example 'why .*guarded'
 example 'example sweep'
 example 'settle .*loads'
-example rescue
-cmp "$work/user/mended.plan" examples/mended.plan
 
 # The state that the second example of why is about is made by the line before it.
 line=$(sed -n 's/^    \(bin\/example snapshot .*\)$/\1/p' README.md)
@@ -81,11 +79,6 @@ for given in "$three" ''; do
 done
 ends 0 3 0 bin/why 0 5 2 <$three
 ends 0 5 0 bin/why 0 5 6 "$work/user/state" <examples/causes.plan
-card=examples/damaged.card mended=$work/mended
-ends 0 6 0 bin/rescue "$mended" <$card
-cmp "$mended" examples/mended.plan
-ends 0 0 0 bin/rescue "$mended" <$three
-cmp "$mended" $three
 
 # By a link, and by a link to that, from elsewhere.
 ln -s "$PWD/bin/settle" "$work/link"
@@ -101,20 +94,16 @@ ends 1 1 0 bin/why 0 5 2 <"$work/short"
 grep -qx 'bad 20 0' "$work/out"
 ends 1 1 0 bin/why 0 5 3 <$three
 grep -qx r4 "$work/out"
-ends 1 1 0 bin/rescue "$mended" <"$work/short"
-grep -qx 'bad 20 0' "$work/out"
-cmp "$mended" $three
 ends 0 0 0 bin/decode </dev/null
 ends 1 1 0 bin/example incident "$work/short"
-for program in settle decode 'why 0 5 2' "rescue $mended"; do
-    case $program in rescue*) given=$card ;; *) given=$three ;; esac
+for program in settle decode 'why 0 5 2'; do
     ends 1 0 1 bin/$program <&-
     grep -q 'input could not be read' "$work/said"
     ends 1 0 1 bin/$program </
     grep -q 'input could not be read' "$work/said"
-    ends 1 0 1 sh -c "bin/$program <$given >/dev/full"
+    ends 1 0 1 sh -c "bin/$program <$three >/dev/full"
     grep -q 'output could not be written' "$work/said"
-    ends 1 0 1 sh -c "bin/$program <$given >&-"
+    ends 1 0 1 sh -c "bin/$program <$three >&-"
     grep -q 'output could not be written' "$work/said"
 done
 
@@ -124,7 +113,7 @@ for tool in sh dirname uname readlink; do ln -s "$(command -v $tool)" "$work/too
 no_kit() {
     PATH=$work/tools "$@"
 }
-for program in settle decode 'why 0 5 2' "rescue $mended" 'example incident'; do
+for program in settle decode 'why 0 5 2' 'example incident'; do
     # shellcheck disable=SC2086
     ends 2 0 1 no_kit bin/$program <$three
     grep -q 'kit is missing' "$work/said"
@@ -143,10 +132,8 @@ for program in settle decode 'example incident'; do
     ends 0 1 0 no_kit bin/${program% *} --help
     grep -q '^usage: ' "$work/out"
 done
-for program in why rescue; do
-    ends 0 1 0 no_kit bin/$program --help
-    grep -q '^usage: ' "$work/out"
-done
+ends 0 1 0 no_kit bin/why --help
+grep -q '^usage: ' "$work/out"
 for given in '' 0 '0 5' '0 5 2 one two' '0 5 2 no-such-file' '0 5 2 examples' --flag \
     'x 5 2' '0 5x 2' '0 5 -2' '0 5 +2' '0 5 0x2'; do
     # shellcheck disable=SC2086
@@ -155,12 +142,6 @@ done
 helps bin/why 0 '' 2
 helps bin/why 0 5 '2 '
 helps bin/why 0 5 2 ''
-for given in '' 'one two' examples examples/ no-such-folder/mended "$three/mended" /dev/null --flag; do
-    # shellcheck disable=SC2086
-    helps bin/rescue $given
-done
-helps bin/rescue ''
-[ -c /dev/null ]
 helps bin/example
 helps bin/example no-such-example
 helps bin/example ../speed/plain
@@ -180,12 +161,12 @@ else:
     os.set_blocking(given, False)
 sys.exit(subprocess.run(sys.argv[2:], stdin=given).returncode)
 END
-    for program in settle decode 'why 0 5 2' "rescue $mended" 'example incident'; do
+    for program in settle decode 'why 0 5 2' 'example incident'; do
         # shellcheck disable=SC2086
         ends 2 0 1 python3 "$work/input.py" terminal bin/$program
         grep -q 'usage: ' "$work/said"
     done
-    for program in settle decode 'why 0 5 2' "rescue $mended"; do
+    for program in settle decode 'why 0 5 2'; do
         ends 1 0 1 python3 "$work/input.py" waiting bin/$program
         grep -q 'input could not be read' "$work/said"
     done

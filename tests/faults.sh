@@ -1,5 +1,5 @@
 #!/bin/sh
-# Faults of input and output: settle, decode, why and rescue end, are ended by no signal of their own, and print nothing wrong.
+# Faults of input and output: settle, decode and why end, are ended by no signal of their own, and print nothing wrong.
 # tests/commands.sh has what the commands then say, and their status.
 set -eu
 cd "$(dirname "$0")/.."
@@ -18,15 +18,13 @@ ends() {
 printed() {
     printf "$1" | cmp - "$work/out"
 }
-why='why 0 5 2' rescue="rescue $work/mended"
+why='why 0 5 2'
 bin/settle $plan >/dev/null
 bin/decode $plan >/dev/null
 bin/$why <$plan >/dev/null
-bin/$rescue <$plan >/dev/null
-rm "$work/mended"
 
 # No input, and none that could be read.
-for program in settle "$why" "$rescue"; do
+for program in settle "$why"; do
     ends bin/$program </dev/null
     printed 'bad 20 0\n'
     ends bin/$program <&-
@@ -42,7 +40,7 @@ ends bin/decode </
 printed ''
 
 # Input that ends early.
-for program in settle "$why" "$rescue"; do
+for program in settle "$why"; do
     head -c 700 $plan >"$work/early"
     ends bin/$program <"$work/early"
     printed 'bad 20 0\n'
@@ -51,8 +49,8 @@ for program in settle "$why" "$rescue"; do
     printed 'bad 25 0\n'
 done
 
-# Input without an end: settle, why and rescue read no more than they need; decode goes on until nobody reads.
-for program in settle "$why" "$rescue"; do
+# Input without an end: settle and why read no more than they need; decode goes on until nobody reads.
+for program in settle "$why"; do
     ends bin/$program </dev/zero
     printed 'bad 20 0\n'
 done
@@ -72,35 +70,27 @@ slowly() {
 }
 slowly | ends bin/decode
 printed '5 time 5\n128 interrupt 0\n191 acknowledge 31\n192 reserved 3 0\n'
-for program in settle "$why" "$rescue"; do
+for program in settle "$why"; do
     slowly | ends bin/$program
     printed 'bad 20 0\n'
 done
 
-# Of all these no file was made.
-[ ! -e "$work/mended" ]
-
-# What a program prints something for: rescue does so where a block is damaged.
-given() {
-    case $1 in rescue*) echo examples/damaged.card ;; *) echo $plan ;; esac
-}
-
 # Output that is closed, or full.
-for program in settle decode "$why" "$rescue"; do
+for program in settle decode "$why"; do
     status=0
-    timeout 20 bin/$program <"$(given "$program")" >&- 2>/dev/null || status=$?
+    timeout 20 bin/$program <$plan >&- 2>/dev/null || status=$?
     [ "$status" -lt 124 ]
     status=0
-    timeout 20 bin/$program <"$(given "$program")" >/dev/full 2>/dev/null || status=$?
+    timeout 20 bin/$program <$plan >/dev/full 2>/dev/null || status=$?
     [ "$status" -lt 124 ]
 done
 ends sh -c 'bin/decode </dev/zero >/dev/full'
 printed ''
 
-# The program itself, as the commands for settle, why and rescue write in its place: the one line that it says.
-for program in settle decode "$why" "$rescue"; do
+# The program itself, as the commands for settle and why write in its place: the one line that it says.
+for program in settle decode "$why"; do
     for output in '>/dev/full' '>&-'; do
-        said=$(eval "run target/bin/$program <$(given "$program") $output" 2>&1)
+        said=$(eval "run target/bin/$program <$plan $output" 2>&1)
         [ "$said" = "${program%% *}: standard output could not be written" ]
     done
     said=$(run target/bin/$program </ 2>&1)

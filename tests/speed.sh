@@ -16,7 +16,7 @@ consistent() {
         }
         NF == 10 && $5 ~ /^[0-9]/ { near($8, $5, $6, 0.005); near($9, $5, $7, 0.005); calls++ }
         NF == 6 && $3 ~ /^[0-9]+$/ && $5 ~ /[.]/ { near($5, $3, $4, 0.5); programs++ }
-        END { exit bad || calls != 44 || programs != 3 }' "$1"
+        END { exit bad || calls != 41 || programs != 3 }' "$1"
 }
 consistent "$work/tables"
 consistent docs/SPEED.md

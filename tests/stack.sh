@@ -38,7 +38,7 @@ for program in settle decode; do
     within $program
 done
 
-# The program why is asked something too, from the start and from a state; then of what is no plan or no state, and wrongly, where
+# The last program is asked something too, from the start and from a state; then of what is no plan or no state, and wrongly, where
 # the size is behind a line on how to call it.
 build check why
 bin/example snapshot <examples/chain.plan >"$work/state"
@@ -54,17 +54,4 @@ bin/example snapshot <examples/chain.plan >"$work/state"
     painted why 0 5 31 "$work/none" <examples/chain.plan | tail -n 1
 } >"$work/why"
 within why
-
-# The last program mends a damaged file, and one that is not; then what is no plan, or is no file that can be made, and wrongly, where
-# the size is behind what it says.
-build check rescue
-{
-    for input in examples/damaged.card examples/full.plan tests/stack.sh /dev/null; do
-        painted rescue "$work/${input##*/}.mended" <$input
-    done
-    painted rescue "$work/$(printf %0200d 0)" <examples/damaged.card
-    painted rescue "$work/none/mended" <examples/damaged.card | tail -n 1
-    painted rescue | tail -n 1
-} >"$work/rescue"
-within rescue
 echo "stack: ok"

@@ -489,7 +489,7 @@ module _ (plan : Plan) (held : Held plan) (kind q : ℕ) (g : kind < 2) (h : q <
   -- ---- many steps
 
   -- each that is dropped is counted, in sound states all the way
-  counted : {n : ℕ} {s t : State} → Sound plan s → Dropped plan kind q s n t → Sound plan t × (drops t kind q ≡ up_to_most (drops s kind q + n))
+  counted : {s : State} {n : ℕ} {t : State} → Sound plan s → Dropped plan kind q s n t → Sound plan t × (drops t kind q ≡ up_to_most (drops s kind q + n))
   counted {s = s} x none = (x, omega (arith, x.guard.counts q kind h g))
   counted {s = s} x (one {n = n} steps last y) =
       let before = counted x steps in (

@@ -64,6 +64,7 @@ fn value_of(code: Code) -> u32
 }
 
 // Top bits are left out: only a reserved code has some that its kind does not say, and none is written.
+#[tactic(auto, unfolding(codes::specs::Numbers::code_of))]
 fn code_of(kind: u32, value: u8) -> Code
     ensures { result ≡ code_of kind 0 value }
 {

@@ -3,7 +3,7 @@ use mathlib.Core.Path.{◌≡◌, refl}
 use Prim.Native.Nat.{ℕ, ◌+◌, ◌-◌, ◌*◌, ◌<◌}
 use native.Mathlib.Decide.{ℕ_discrete}
 use native.Mathlib.Omega.{arith}
-use Rattle.answers.proofs.Outcomes.{Holds, holds}
+use Rattle.answers.proofs.Outcomes.{Holds}
 use Rattle.bits.specs.Set.{bit}
 use Rattle.device.proofs.Rule.{event-unused}
 use Rattle.plan.specs.Reading.{Held}

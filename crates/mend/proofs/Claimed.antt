@@ -1,6 +1,6 @@
 -- Claims: the loops over the ports, and that the lists which they fill say what the rules say of claims.
-use mathlib.Core.Path.{◌≡◌, refl, sym, ap, ap₂, ◌∙◌}
-use mathlib.Core.Bool.{Bool, true, false, cond, not, ◌&&◌, ◌||◌, false≢true}
+use mathlib.Core.Path.{◌≡◌, refl, sym, ap, ◌∙◌}
+use mathlib.Core.Bool.{Bool, true, false, cond, not, ◌&&◌, ◌||◌}
 use mathlib.Core.List.{List}
 use mathlib.Core.Logic.{dite}
 use Prim.Native.Nat.{ℕ, zero, suc, ◌+◌, ◌*◌, ◌/◌, ◌%◌, ◌≤◌, ◌<◌, min}
@@ -14,7 +14,7 @@ use Rattle.lists.specs.Table.{table}
 use Rattle.lists.proofs.Tables.{get_d-table, is-table, same-table, set-table}
 use Rattle.lists.proofs.Tests.{and_left, and_right, both, every-all, every-not}
 use Rattle.plan.specs.Fields.{nobody}
-use Rattle.plan.specs.File.{at}
+use Rattle.plan.specs.Inner.Memory.{at}
 use Rattle.plan.specs.Refusals.{count_in}
 use Rattle.mend.specs.Claims.{last, damaged, pointed, claims, claimant, once, uncontested}
 use Rattle.mend.specs.Mended.{ports_for}
@@ -217,7 +217,7 @@ module _ (file : List ℕ) where
       λ q h x z. omega (arith, lowest-below here 256 q h, contest-at h (record { leads = eqb-true _ _ x; port = g; other = z; marked = m })) in
       every-all 256 _
       (λ a h. every-all a _
-      (λ b l. not-both _ _ (λ x y. elim (ℕ_discrete (claimant file t) a) [ yes e ↦ none b (omega arith) y (omega arith) | no e ↦ none a h x e ])))
+      (λ b l. not-both (claims file t a) (claims file t b) (λ x y. elim (ℕ_discrete (claimant file t) a) [ yes e ↦ none b (omega arith) y (omega arith) | no e ↦ none a h x e ])))
 
   below-lowest : (d : ℕ) → d < count_in file → d < 32 → 1 + d < low → uncontested file d ≡ true
   unfolding uncontested

@@ -1,5 +1,5 @@
 -- What the call answers, from what its parts found.
-use mathlib.Core.Path.{◌≡◌, refl, sym, subst, ap, ap₂, ◌∙◌}
+use mathlib.Core.Path.{◌≡◌, refl, sym, ap, ap₂, ◌∙◌}
 use mathlib.Core.Bool.{Bool, true, false, cond, ◌&&◌}
 use mathlib.Core.List.{List, [], ◌∷◌, ◌++◌, append-nil, append_assoc}
 use mathlib.Core.Logic.{inl, inr}
@@ -8,18 +8,18 @@ use native.Mathlib.Omega.{arith}
 use lib.Dec.{eqb, leb}
 use lib.ListN.{length, take, length-append, drop_of_length-le}
 use lib.Seq.{take_at}
-use borrow.Author.Tests.{eq-eqb, ne_eqb}
 use Rattle.areas.specs.Put.{Puts, over}
-use Rattle.lists.specs.Table.{table, joined}
+use Rattle.lists.specs.Table.{table}
 use Rattle.lists.proofs.Facts.{facts}
 use Rattle.lists.proofs.Tables.{same-joined}
 use Rattle.text.specs.Inner.Within.{Within}
 use Rattle.text.specs.Text.{bad}
 use Rattle.text.proofs.Parts.{in-front, bad-short}
 use Rattle.plan.specs.Block.{block}
-use Rattle.plan.specs.File.{at, block_of, entry_holdings}
+use Rattle.plan.specs.Inner.File.{block_of, entry_holdings}
+use Rattle.plan.specs.Inner.Memory.{at}
 use Rattle.plan.specs.Reading.{reads}
-use Rattle.plan.specs.Refusals.{Test, test, accepts, first, device_block, count_in, verdict}
+use Rattle.plan.specs.Refusals.{Test, test, first, device_block, count_in, verdict}
 use Rattle.plan.specs.declared.Read.{Read}
 use Rattle.plan.specs.declared.Verdict.{Verdict}
 use Rattle.plan.proofs.Firsts.{AllPass, Stops, here, passes-or-stops, first-accepts, first_stops, stops-front, stops-back, stops-joined, all_append, all-joined}
@@ -28,12 +28,12 @@ use Rattle.planfile.specs.Parts.{front_tests}
 use Rattle.planfile.proofs.Marked.{first-behind}
 use Rattle.planfile.proofs.Scans.{front-passes}
 use Rattle.mend.specs.Claims.{damaged, claimant, uncontested}
-use Rattle.mend.specs.Mended.{router_holdings, ports_for, rebuilt, mended}
-use Rattle.mend.specs.Rescue.{longest, good_tests, claim_tests, result_tests, rescue_tests, refusal, rescue_text, Lent, lent, Rescues}
+use Rattle.mend.specs.Mended.{rebuilt, mended}
+use Rattle.mend.specs.Rescue.{longest, good_tests, claim_tests, result_tests, rescue_tests, refusal, Lent, lent, Rescues}
 use Rattle.mend.specs.Told.{Prints}
-use Rattle.mend.specs.Inner.Steps.{Fronted, marks, pointed_all, claimants_in, contested, ports_in, router_in, routers_over, lines_in, Finishes, Ready, rest_tests, Mends}
+use Rattle.mend.specs.Inner.Steps.{Fronted, marks, pointed_all, claimants_in, contested, router_in, routers_over, lines_in, Finishes, Ready, rest_tests, Mends}
 use Rattle.mend.proofs.Blocks.{mended-long}
-use Rattle.mend.proofs.Claimed.{claimants-are, claimant-at, claimant-most, ports-are, FirstContest, answer, contested-none, contested-first}
+use Rattle.mend.proofs.Claimed.{claimants-are, claimant-at, claimant-most, ports-are, answer, contested-none, contested-first}
 use Rattle.mend.proofs.Passing.{good-passes}
 use Rattle.mend.proofs.Result.{fronted, reader-says}
 use Rattle.mend.proofs.Texts.{mark-there, lines-text}

@@ -1,23 +1,23 @@
 -- The theorems of a rescue: what a mended file is; that a file with nothing damaged comes out as it is; and that a mended file has nothing to mend.
 use mathlib.Core.Path.{◌≡◌, refl, sym, ap, ◌∙◌}
-use mathlib.Core.Bool.{Bool, true, false, cond, not, ◌&&◌, ◌||◌, false≢true}
+use mathlib.Core.Bool.{Bool, true, false, cond, not, ◌&&◌, false≢true}
 use mathlib.Core.List.{List, [], ◌∷◌, ◌++◌, append_assoc}
 use mathlib.Core.Logic.{inl, inr}
 use Prim.Native.Nat.{ℕ, zero, suc, ◌+◌, ◌*◌, ◌/◌, ◌%◌, ◌≤◌, ◌<◌}
 use native.Mathlib.Omega.{arith}
 use lib.Dec.{eqb, leb}
 use lib.ListN.{length}
-use borrow.Author.Tests.{eqb-true, eq-eqb, ne_eqb}
+use borrow.Author.Tests.{eq-eqb, ne_eqb}
 use Rattle.lists.specs.Table.{joined, every}
 use Rattle.lists.proofs.Facts.{facts}
 use Rattle.lists.proofs.Tables.{same-joined}
 use Rattle.lists.proofs.Tests.{every-all}
-use Rattle.plan.specs.Block.{block, checked}
+use Rattle.plan.specs.Block.{block}
 use Rattle.plan.specs.Fields.{peer_number, nobody, joins, sources_fit}
 use Rattle.plan.specs.Refusals.{Test, test, accepts, first, join_tests, device_block, count_in, master_in, events_in, ports_of, peer_of, source_of, tests, verdict}
 use Rattle.plan.specs.declared.Verdict.{Verdict}
 use Rattle.plan.proofs.Firsts.{AllPass, Stops, passes-or-stops, first-accepts, first_stops, stops-front, stops-back, all-front, all_back, all-joined}
-use Rattle.plan.proofs.Good.{Good, good, zero-accepts}
+use Rattle.plan.proofs.Good.{Good, good}
 use Rattle.plan.proofs.Runs.{whole-file}
 use Rattle.planfile.specs.Parts.{front_tests, of_device}
 use Rattle.planfile.proofs.Marked.{first-behind}

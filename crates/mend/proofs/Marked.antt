@@ -14,7 +14,7 @@ use Rattle.lists.proofs.Tests.{same_truth}
 use Rattle.lists.proofs.Facts.{facts}
 use Rattle.lists.proofs.Filled.{Filled, filled_more, filled-all}
 use Rattle.plan.specs.Fields.{nobody}
-use Rattle.plan.specs.File.{at}
+use Rattle.plan.specs.Inner.Memory.{at}
 use Rattle.plan.specs.Reading.{column}
 use Rattle.plan.specs.Refusals.{Test, test, first, device_tests, device_block, count_in, master_in}
 use Rattle.plan.proofs.Firsts.{AllPass, first_stops, first-accepts, accepts-all, all-joined, stops-joined}

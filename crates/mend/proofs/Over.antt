@@ -11,7 +11,8 @@ use lib.Seq.{take_at, drop-drop, drop-append-add}
 use Rattle.lists.specs.Table.{table, joined}
 use Rattle.lists.proofs.Tables.{get_d-table}
 use Rattle.plan.specs.Block.{block}
-use Rattle.plan.specs.File.{at, block_of, device_holdings}
+use Rattle.plan.specs.Inner.File.{block_of, device_holdings}
+use Rattle.plan.specs.Inner.Memory.{at}
 use Rattle.plan.specs.Header.{core_with, no_header}
 use Rattle.plan.specs.declared.Core.{Core}
 use Rattle.mend.specs.Inner.Steps.{ports_in, row_in, router_in, router_of, routers_over}

@@ -1,18 +1,17 @@
 -- What it is that nothing is refused: each part of the tests is passed.
-use mathlib.Core.Path.{◌≡◌, refl, sym, ap, ◌∙◌}
+use mathlib.Core.Path.{◌≡◌}
 use mathlib.Core.Bool.{Bool, true, false, cond, ◌&&◌}
 use mathlib.Core.List.{List, [], ◌∷◌, ◌++◌}
 use mathlib.Core.Logic.{inl, inr}
-use Prim.Native.Nat.{ℕ, ◌+◌, ◌*◌, ◌≤◌, ◌<◌}
+use Prim.Native.Nat.{ℕ, ◌≤◌, ◌<◌}
 use native.Mathlib.Omega.{arith}
 use lib.Dec.{eqb, leb}
 use lib.ListN.{length}
 use Rattle.lists.specs.Table.{joined}
 use Rattle.lists.proofs.Facts.{facts}
 use Rattle.plan.specs.Fields.{sources_fit}
-use Rattle.plan.specs.Refusals.{Test, test, accepts, first, join_tests, device_block, count_in, master_in, events_in, source_of, ports_of, peer_of}
-use Rattle.plan.specs.declared.Verdict.{Verdict}
-use Rattle.plan.proofs.Firsts.{AllPass, Stops, Numbered, passes-or-stops, first-accepts, first_stops, all_append, all-front, all_back}
+use Rattle.plan.specs.Refusals.{Test, test, first, join_tests, device_block, count_in, master_in, events_in, source_of, ports_of, peer_of}
+use Rattle.plan.proofs.Firsts.{AllPass, Numbered, passes-or-stops, all_append, all-front, all_back}
 use Rattle.planfile.specs.Parts.{front_tests, of_device}
 use Rattle.planfile.proofs.Marked.{Each, stops-each, each_append, each-joined, each-table, first-behind}
 use Rattle.planfile.proofs.Scans.{front-numbered, device-numbered}

@@ -1,21 +1,22 @@
 -- A block that is rebuilt: what it says, and that nothing is wrong with it but that it may be the master's.
 use mathlib.Core.Path.{◌≡◌, refl, sym, ap, ◌∙◌}
-use mathlib.Core.Bool.{Bool, true, false, cond, not, ◌&&◌, ◌||◌, false≢true}
-use mathlib.Core.List.{List, [], ◌∷◌, ◌++◌}
+use mathlib.Core.Bool.{Bool, true, false, cond, not, ◌&&◌, false≢true}
+use mathlib.Core.List.{List, []}
 use mathlib.Core.Logic.{dite}
 use Prim.Native.Nat.{ℕ, ◌+◌, ◌*◌, ◌/◌, ◌%◌, ◌≤◌, ◌<◌}
 use native.Mathlib.Decide.{dec_lt}
 use native.Mathlib.Omega.{arith}
 use lib.Dec.{eqb, ltb, leb}
-use lib.ListN.{length, get_or, get_or-eq_default}
+use lib.ListN.{get_or-eq_default}
 use borrow.Author.Tests.{lt-ltb, ltb-true, eqb-true, eq-eqb, ne_eqb}
-use Rattle.lists.specs.Table.{table, joined}
+use Rattle.lists.specs.Table.{table}
 use Rattle.lists.proofs.Facts.{facts}
 use Rattle.lists.proofs.Tables.{get_d-table, length-table, same-joined}
 use Rattle.lists.proofs.Tests.{or_right}
 use Rattle.plan.specs.Block.{number_in, kind_field}
 use Rattle.plan.specs.Fields.{number_field, role_in, ports_in, source_in, handler_in, entry, bar_in, peer_number, nobody, ports_fit, masks_fit, master_is_node, device_fits}
-use Rattle.plan.specs.File.{at, peer_at, block_of, entry_holdings, bar_holdings, device_holdings}
+use Rattle.plan.specs.Inner.File.{block_of, entry_holdings, bar_holdings, device_holdings}
+use Rattle.plan.specs.Inner.Memory.{at, peer_at}
 use Rattle.plan.specs.Header.{core_with}
 use Rattle.plan.specs.Refusals.{device_tests, count_in, peer_of}
 use Rattle.plan.specs.declared.Core.{Core}
@@ -23,8 +24,8 @@ use Rattle.plan.specs.Inner.Memory.{port_right, device_right, row_right}
 use Rattle.plan.proofs.BothWays.{node-master}
 use Rattle.plan.proofs.Firsts.{AllPass, Stops, here, later}
 use Rattle.plan.proofs.Good.{GoodDevice, good-device}
-use Rattle.plan.proofs.Rows.{free-bar, written_row, written-device, Row}
-use Rattle.mend.specs.Claims.{last, damaged, pointed, claims, claimant}
+use Rattle.plan.proofs.Rows.{free-bar, written_row, written-device}
+use Rattle.mend.specs.Claims.{damaged, pointed, claims, claimant}
 use Rattle.mend.specs.Mended.{router_holdings, ports_for, rebuilt}
 use Rattle.mend.specs.Kept.{Router}
 use Rattle.mend.specs.Inner.Steps.{Fronted}

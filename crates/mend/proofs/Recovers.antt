@@ -1,33 +1,33 @@
 -- What a customer asks for: an accepted file that was damaged only in blocks of devices, whose checks now fail, is mended, but where the master's
 -- block is among them; and every device and link that its good blocks tell of is in the result as it was.
-use mathlib.Core.Path.{◌≡◌, refl, sym, ap, ap₂, ◌∙◌}
-use mathlib.Core.Bool.{Bool, true, false, cond, not, ◌&&◌, ◌||◌, false≢true}
-use mathlib.Core.List.{List, [], ◌∷◌, ◌++◌}
+use mathlib.Core.Path.{◌≡◌, refl, sym, ap, ◌∙◌}
+use mathlib.Core.Bool.{Bool, true, false, cond, not, ◌&&◌, false≢true}
+use mathlib.Core.List.{List, [], ◌∷◌}
 use mathlib.Core.Logic.{◌⊎◌, inl, inr, dite}
 use Prim.Native.Nat.{ℕ, ◌+◌, ◌*◌, ◌/◌, ◌%◌, ◌≤◌, ◌<◌}
 use native.Mathlib.Decide.{dec_lt, ℕ_discrete}
 use native.Mathlib.Omega.{arith}
 use lib.Bits.{bit_and, and_zero_l, and_zero_r}
-use lib.Dec.{eqb, ltb}
+use lib.Dec.{eqb}
 use lib.ListN.{length}
 use borrow.Author.Tests.{lt-ltb, eq-eqb, ne_eqb, eqb-true}
 use Rattle.lists.specs.Table.{joined, every}
 use Rattle.lists.proofs.Facts.{facts}
-use Rattle.lists.proofs.Tests.{every-all, every-at, every-not, and_left, and_right, both, or_right}
+use Rattle.lists.proofs.Tests.{every-all, every-at, every-not, and_left, and_right, or_right}
 use Rattle.plan.specs.Block.{block, number_in}
 use Rattle.plan.specs.Fields.{ports_in, source_in, peer_number, nobody, joins, share_events, sources_fit}
 use Rattle.plan.specs.Header.{devices_field, master_field, events_field, header_in}
-use Rattle.plan.specs.Refusals.{Test, test, accepts, first, length_fits, header_tests, device_tests, join_tests, device_block, count_in, master_in, events_in, source_of, ports_of, peer_of, tests, verdict}
+use Rattle.plan.specs.Refusals.{Test, test, accepts, first, length_fits, join_tests, device_block, count_in, master_in, events_in, source_of, ports_of, peer_of, tests, verdict}
 use Rattle.plan.specs.declared.Verdict.{Verdict}
 use Rattle.plan.proofs.Entries.{entry-port, no-port, port-range}
-use Rattle.plan.proofs.Firsts.{AllPass, Stops, here, passes-or-stops, stops-numbered, first-accepts, first_stops, stops-front, all_append, all-joined, all-table}
+use Rattle.plan.proofs.Firsts.{AllPass, here, passes-or-stops, stops-numbered, first-accepts, first_stops, stops-front, all_append, all-joined, all-table}
 use Rattle.plan.proofs.Good.{Good, good, good-device, header-says, master-fits}
 use Rattle.planfile.specs.Parts.{front_tests, of_device}
 use Rattle.planfile.proofs.Scans.{front-numbered}
-use Rattle.mend.specs.Claims.{last, damaged, pointed, claims, claimant, once, uncontested}
+use Rattle.mend.specs.Claims.{damaged, pointed, claims, claimant, once, uncontested}
 use Rattle.mend.specs.Mended.{ports_for, mended}
 use Rattle.mend.specs.Rescue.{longest, good_tests, claim_tests, result_tests, refusal}
-use Rattle.mend.specs.Kept.{Router, DamageOf, MasterLost, Recovers}
+use Rattle.mend.specs.Kept.{DamageOf, MasterLost, Recovers}
 use Rattle.mend.specs.Inner.Steps.{Fronted}
 use Rattle.mend.proofs.Last.{last_found}
 use Rattle.mend.proofs.Blocks.{mended-good, mended-rebuilt}

@@ -3,22 +3,17 @@
 use mathlib.Core.Path.{◌≡◌, refl, sym, ap, ◌∙◌}
 use mathlib.Core.Bool.{Bool, true, false, cond, not, ◌&&◌, false≢true}
 use mathlib.Core.List.{List, [], ◌∷◌, ◌++◌, append_assoc}
-use mathlib.Core.Logic.{◌⊎◌, inl, inr}
-use Prim.Native.Nat.{ℕ, ◌+◌, ◌*◌, ◌≤◌, ◌<◌}
-use native.Mathlib.Decide.{ℕ_discrete}
+use Prim.Native.Nat.{ℕ, ◌+◌, ◌*◌, ◌<◌}
 use native.Mathlib.Omega.{arith}
 use lib.Dec.{eqb}
 use lib.ListN.{length}
-use borrow.Author.Tests.{eq-eqb, ne_eqb, eqb-true}
+use borrow.Author.Tests.{eq-eqb, eqb-true}
 use Rattle.lists.specs.Table.{joined, every}
-use Rattle.lists.proofs.Facts.{facts}
-use Rattle.lists.proofs.Tests.{and_left, and_right, every-all, every-at}
-use Rattle.plan.specs.Block.{block}
+use Rattle.lists.proofs.Tests.{and_left, and_right, every-at}
 use Rattle.plan.specs.Fields.{sources_fit}
-use Rattle.plan.specs.Refusals.{Test, test, accepts, first, length_fits, header_tests, device_tests, join_tests, device_block, count_in, master_in, events_in, source_of, ports_of, peer_of, tests, verdict}
-use Rattle.plan.specs.declared.Verdict.{Verdict}
-use Rattle.plan.proofs.Connections.{Fails, not-every}
-use Rattle.plan.proofs.Firsts.{AllPass, Stops, here, first_stops, stops-front, stops-back, stops-joined, all_append, all-front, all_back, all-joined, all-at}
+use Rattle.plan.specs.Refusals.{Test, test, first, device_tests, join_tests, device_block, count_in, master_in, events_in, source_of, ports_of, peer_of, tests, verdict}
+use Rattle.plan.proofs.Connections.{not-every}
+use Rattle.plan.proofs.Firsts.{AllPass, Stops, here, first_stops, stops-front, stops-back, stops-joined, all_append, all-joined, all-at}
 use Rattle.plan.proofs.Good.{fitting}
 use Rattle.planfile.specs.Parts.{front_tests, of_device}
 use Rattle.planfile.proofs.Marked.{first-behind}

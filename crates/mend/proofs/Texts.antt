@@ -13,7 +13,7 @@ use Rattle.text.specs.Text.{ascii, headed, joint}
 use Rattle.text.proofs.Parts.{headed-short}
 use Rattle.text.proofs.Within.{none-joined, one-joined}
 use Rattle.plan.specs.Fields.{nobody}
-use Rattle.plan.specs.File.{at}
+use Rattle.plan.specs.Inner.Memory.{at}
 use Rattle.plan.specs.Reading.{column}
 use Rattle.plan.specs.Refusals.{count_in}
 use Rattle.mend.specs.Claims.{damaged, claimant}

@@ -3,7 +3,6 @@ use Rattle.std.specs.Prelude.{◌≡◌, true, false, List, ◌⊎◌, ℕ, ◌+
 use Rattle.plan.specs.Block.{block}
 use Rattle.plan.specs.Fields.{role_in, ports_in, source_in, handler_in, entry, bar_in, peer_number, nobody}
 use Rattle.plan.specs.Refusals.{device_block, count_in, master_in, peer_of, accepts, verdict}
-use Rattle.plan.specs.declared.Verdict.{Verdict}
 use Rattle.mend.specs.Claims.{damaged, claimant}
 use Rattle.mend.specs.Mended.{ports_for, mended}
 use Rattle.mend.specs.Rescue.{longest, refusal}

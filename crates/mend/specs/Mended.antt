@@ -3,7 +3,7 @@ use Rattle.std.specs.Prelude.{cond, not, List, ◌++◌, ℕ, ◌+◌, ◌*◌, 
 use Rattle.lists.specs.Table.{joined}
 use Rattle.plan.specs.Block.{block}
 use Rattle.plan.specs.Fields.{nobody}
-use Rattle.plan.specs.File.{Holding, block_of, own_holdings, entry_holdings, bar_holdings}
+use Rattle.plan.specs.Inner.File.{Holding, block_of, own_holdings, entry_holdings, bar_holdings}
 use Rattle.plan.specs.Refusals.{device_block, count_in}
 use Rattle.mend.specs.Claims.{last, damaged, claimant}
 

@@ -6,7 +6,7 @@ ghost use Rattle.std.specs.Prelude.{◌≡◌, length, ℕ, ◌≤◌, ◌<◌};
 ghost use Rattle.mend.specs.Rescue.{Rescues, lent};
 ghost use Rattle.mend.specs.Told.{Prints};
 ghost use Rattle.mend.specs.Inner.Steps.{Fronted, Ready, routers_over, Finishes, Mends};
-ghost use Rattle.plan.specs.File.{at as file_at};
+ghost use Rattle.plan.specs.Inner.Memory.{at as file_at};
 ghost use Rattle.plan.specs.Refusals.{count_in};
 ghost use Rattle.mend.specs.Rescue.{longest};
 

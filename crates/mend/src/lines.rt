@@ -1,7 +1,7 @@
 // The lines of the text: each block that was rebuilt, and behind it its ports that are connected back.
 ghost use Rattle.std.specs.Prelude.{ℕ, ◌+◌, ◌*◌, ◌≤◌, ◌<◌, length};
 ghost use Rattle.text.specs.Inner.Within.{Within};
-ghost use Rattle.plan.specs.File.{at as file_at};
+ghost use Rattle.plan.specs.Inner.Memory.{at as file_at};
 ghost use Rattle.mend.specs.Rescue.{longest};
 ghost use Rattle.mend.specs.Inner.Steps.{restored_in, restored_lines, marked_lines, lines_in, longest_line, longest_router};
 

@@ -15,7 +15,7 @@ use Rattle.plan.specs.Fields.{entry, nobody, peer_number}
 use Rattle.plan.specs.Refusals.{device_block, count_in, peer_of, verdict, accepts}
 use Rattle.plan.specs.Reading.{column, plan_of}
 use Rattle.plan.specs.Inner.Memory.{at, right}
-use Rattle.plan.specs.File.{file_of}
+use Rattle.plan.specs.Inner.File.{file_of}
 use Rattle.plan.proofs.Shape.{Numbers, Shaped}
 use Rattle.plan.proofs.Good.{Good, good}
 use Rattle.plan.proofs.Runs.{block-bytes}

@@ -22,7 +22,7 @@ use Rattle.plan.specs.declared.Verdict.{Verdict}
 use Rattle.plan.specs.declared.Plan.{Plan}
 use Rattle.plan.specs.declared.Read.{Read}
 use Rattle.plan.specs.Inner.Memory.{port_right, device_right, row_right, right}
-use Rattle.plan.specs.File.{file_of}
+use Rattle.plan.specs.Inner.File.{file_of}
 use Rattle.plan.proofs.Firsts.{fails}
 use Rattle.plan.proofs.Shape.{Shaped}
 use Rattle.plan.proofs.Shared.{one-source}

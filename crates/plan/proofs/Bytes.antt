@@ -9,7 +9,7 @@ use lib.ListN.{length, set, length-set, get_or-eq_default}
 use lib.Seq.{get_or-set_same, get_or-set_other}
 use Rattle.lists.specs.Table.{joined}
 use Rattle.plan.specs.Block.{byte, number_at}
-use Rattle.plan.specs.File.{put_number}
+use Rattle.plan.specs.Inner.File.{put_number}
 
 -- ---- bytes
 

@@ -11,7 +11,7 @@ use Rattle.lists.proofs.Tests.{or_cases, or_left, or_right}
 use Rattle.plan.specs.Block.{byte}
 use Rattle.plan.specs.Fields.{ports_in, entry, unconnected, connected, entry_fits, nobody, peer_number}
 use Rattle.plan.specs.Inner.Memory.{port_right}
-use Rattle.plan.specs.File.{entry_numbers}
+use Rattle.plan.specs.Inner.File.{entry_numbers}
 use Rattle.lists.proofs.Facts.{facts}
 
 -- port p of a device with so many ports, of n devices: the four bytes e of its entry, its peer and its permissions

@@ -14,7 +14,7 @@ use Rattle.lists.specs.Table.{joined}
 use Rattle.lists.proofs.Facts.{facts}
 use Rattle.lists.proofs.Tables.{length-table, get_d-table}
 use Rattle.plan.specs.Block.{byte, Field, number_in, lies, lies_in, rest_zero, weighted, check, check_field, checked}
-use Rattle.plan.specs.File.{put_number, Holding, filled, cleared, sealed, block_of}
+use Rattle.plan.specs.Inner.File.{put_number, Holding, filled, cleared, sealed, block_of}
 use Rattle.plan.proofs.Bytes.{Bytes, number_same, number_small, same_bytes, length-put, put-bytes, put-before, put-behind, put-read}
 
 -- ---- fields

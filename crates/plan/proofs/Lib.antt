@@ -10,7 +10,6 @@ pub mod Holdings
 pub mod Loads
 pub mod Match
 pub mod Owned
-pub mod Peers
 pub mod Rows
 pub mod Runs
 pub mod Shape

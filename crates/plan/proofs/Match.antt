@@ -9,7 +9,7 @@ use native.Mathlib.Omega.{arith}
 use lib.Dec.{ltb}
 use lib.ListN.{length, get_or}
 use borrow.Author.Tests.{lt-ltb, le-ltb}
-use Rattle.lists.specs.Table.{table, joined}
+use Rattle.lists.specs.Table.{table}
 use Rattle.lists.proofs.Tables.{get_d-table, is-table, same-joined}
 use Rattle.plan.specs.Block.{block}
 use Rattle.plan.specs.Fields.{role_in, ports_in, source_in, handler_in, entry, nobody, peer_number, bar_in, joins, sources_fit}
@@ -19,7 +19,7 @@ use Rattle.plan.specs.Reading.{column, plan_of}
 use Rattle.plan.specs.declared.Header.{Header}
 use Rattle.plan.specs.declared.Plan.{Plan}
 use Rattle.plan.specs.Inner.Memory.{at, peer_at, row_right, right}
-use Rattle.plan.specs.File.{file_of}
+use Rattle.plan.specs.Inner.File.{file_of}
 use Rattle.lists.proofs.Facts.{facts}
 use Rattle.plan.proofs.Shape.{Shaped}
 use Rattle.plan.proofs.Good.{Good, GoodDevice, devices-fit, header-says}

@@ -15,7 +15,7 @@ use Rattle.plan.specs.Header.{header_fields, header_in, header_of, pair_in, pair
 use Rattle.plan.specs.declared.Core.{Core}
 use Rattle.plan.specs.declared.Header.{Header}
 use Rattle.plan.specs.Inner.Memory.{at, peer_at, device_right, row_right}
-use Rattle.plan.specs.File.{Holding, holdings, block_of, common_holdings, pair_holdings, header_holdings, entry_numbers, own_holdings, bar_holdings, device_holdings}
+use Rattle.plan.specs.Inner.File.{Holding, holdings, block_of, common_holdings, pair_holdings, header_holdings, entry_numbers, own_holdings, bar_holdings, device_holdings}
 use Rattle.lists.proofs.Facts.{facts}
 use Rattle.lists.proofs.Tests.{or_right}
 use Rattle.plan.proofs.Shape.{Numbers}

@@ -19,7 +19,7 @@ use Rattle.plan.specs.Reading.{Accepted}
 use Rattle.plan.specs.declared.Header.{Header}
 use Rattle.plan.specs.declared.Plan.{Plan}
 use Rattle.plan.specs.Inner.Memory.{at, peer_at, row_right, right}
-use Rattle.plan.specs.File.{block_of, header_holdings, device_holdings, file_of}
+use Rattle.plan.specs.Inner.File.{block_of, header_holdings, device_holdings, file_of}
 use Rattle.lists.proofs.Facts.{facts}
 use Rattle.plan.proofs.Shape.{Shaped}
 use Rattle.plan.proofs.Good.{Good, GoodDevice, devices-fit, header-says, accepted}

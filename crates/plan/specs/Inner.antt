@@ -1,2 +1,3 @@
 -- No rules: what the contracts of private functions say. Nothing below has to be believed; public promises do not speak of it.
+pub mod File
 pub mod Memory

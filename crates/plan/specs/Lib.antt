@@ -4,5 +4,4 @@ pub mod Header
 pub mod Refusals
 pub mod Reading
 pub mod Writing
-pub mod File
 pub mod Inner

@@ -6,7 +6,7 @@ use native.Mathlib.Numerals.{add-one}
 use native.Mathlib.Omega.{arith}
 use lib.ListN.{length}
 use Rattle.lists.specs.Table.{joined}
-use Rattle.plan.specs.File.{Holding, filled}
+use Rattle.plan.specs.Inner.File.{Holding, filled}
 use Rattle.plan.proofs.Holdings.{length-filled, filled-append}
 
 pub record Entered (n : ℕ) (f : ℕ → List Holding) (before b : List ℕ) (i : ℕ) : Type 0 where

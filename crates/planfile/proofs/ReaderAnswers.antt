@@ -6,7 +6,7 @@ use mathlib.Core.Logic.{◌⊎◌, inl, inr}
 use Prim.Native.Nat.{ℕ, ◌+◌, ◌*◌, ◌≤◌, ◌<◌, min}
 use native.Mathlib.Omega.{arith}
 use lib.ListN.{length, get_or}
-use borrow.Author.Tests.{ne_eqb, eqb-true}
+use borrow.Author.Tests.{ne_eqb}
 use Rattle.lists.specs.Table.{joined}
 use Rattle.lists.proofs.Facts.{facts}
 use Rattle.plan.specs.Block.{block}
@@ -69,7 +69,7 @@ module _ (file : List ℕ) where
   -- ---- the scan does not
 
   scan-numbered : Numbered (scan_tests file)
-  unfolding scan_tests
+  unfolding scan_tests front_tests
   scan-numbered =
       numbered-append (front_tests file) (devices file) (front-numbered file)
       (numbered-joined (of_device file) (count_in file) (λ d. device-numbered (count_in file) (master_in file) d (device_block file d)))
@@ -81,7 +81,7 @@ module _ (file : List ℕ) where
 
   module _ (p : AllPass (scan_tests file)) where
     front : AllPass (front_tests file)
-    unfolding scan_tests
+    unfolding scan_tests front_tests
     front = all-front (front_tests file) (devices file) p
 
     pub counts : length file ≡ 512 * (1 + count_in file)
@@ -91,7 +91,7 @@ module _ (file : List ℕ) where
     count-few = front-few file front
 
     leads : (d q : ℕ) → d < count_in file → q < 8 → Leads (count_in file) (peer_of file d q)
-    unfolding scan_tests device_tests device_fits
+    unfolding scan_tests front_tests device_tests device_fits
     leads d q h l =
         let s = device_block file d in
         let n = count_in file in

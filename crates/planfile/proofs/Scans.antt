@@ -176,11 +176,11 @@ module _ (file : List ℕ) where
     -- ---- the scan
 
     pub devices-decide : device_scan file ≡ scanned file
-    unfolding device_scan scanned scan_tests
+    unfolding device_scan scanned scan_tests front_tests
     devices-decide = sym (first-behind (front_tests file) devices f)
 
   pub front-refuses : {v : Verdict} → v ≡ first (front_tests file) → (v.number ≡ 0 → ⊥) → v ≡ scanned file
-  unfolding scanned scan_tests
+  unfolding scanned scan_tests front_tests
   front-refuses {v} e z =
       elim (passes-or-stops (front_tests file)) [
         | inl p ↦ absurd (z (ap (λ (v : Verdict). v.number) (e ∙ first-accepts (front_tests file) p)))

@@ -8,7 +8,7 @@ use native.Mathlib.Omega.{arith}
 use lib.ListN.{length}
 use Rattle.answers.specs.Decides.{Decides}
 use Rattle.plan.specs.Reading.{Accepted, Held}
-use Rattle.plan.specs.File.{file_of}
+use Rattle.plan.specs.Inner.File.{file_of}
 use Rattle.plan.specs.Writing.{Writes}
 use Rattle.plan.specs.declared.Plan.{Plan}
 

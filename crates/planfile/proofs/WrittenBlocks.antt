@@ -8,7 +8,7 @@ use lib.ListN.{length, take, length-append}
 use lib.Seq.{take_at, take_all, length-take-le}
 use Rattle.lists.specs.Table.{joined}
 use Rattle.plan.specs.Header.{header_of}
-use Rattle.plan.specs.File.{Holding, filled, cleared, sealed, block_of, common_holdings, pair_holdings, header_holdings, own_holdings, entry_holdings, bar_holdings, device_holdings, file_of}
+use Rattle.plan.specs.Inner.File.{Holding, filled, cleared, sealed, block_of, common_holdings, pair_holdings, header_holdings, own_holdings, entry_holdings, bar_holdings, device_holdings, file_of}
 use Rattle.plan.specs.Inner.Memory.{at, peer_at}
 use Rattle.plan.specs.declared.Core.{Core}
 use Rattle.plan.specs.declared.Header.{Header}

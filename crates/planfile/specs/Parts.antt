@@ -1,11 +1,12 @@
 -- RULES, "Plan file": a file by its parts: what stands in front of the devices' blocks, each block by itself, and where a port leads; and the block of
 -- a device put into an area.
-use Rattle.std.specs.Prelude.{cond, ◌&&◌, List, [], ◌∷◌, ◌++◌, ℕ, zero, suc, ◌+◌, ◌*◌, ◌/◌, eqb, ltb, length}
+use Rattle.std.specs.Prelude.{cond, ◌&&◌, List, [], ◌∷◌, ◌++◌, ℕ, ◌+◌, ◌*◌, ◌/◌, eqb, ltb, length}
 use Rattle.plan.specs.Block.{block}
 use Rattle.plan.specs.Fields.{nobody}
-use Rattle.plan.specs.File.{block_of, device_holdings}
-use Rattle.plan.specs.Refusals.{test, Test, first, length_fits, header_tests, device_tests, count_in, master_in, device_block, peer_of}
+use Rattle.plan.specs.Inner.File.{block_of, device_holdings}
+use Rattle.plan.specs.Refusals.{test, Test, length_fits, header_tests, count_in, peer_of}
 use Rattle.plan.specs.declared.Core.{Core}
+unfoldable pub use Rattle.planfile.specs.Inner.Scan.{of_device, block_tests, refusal_in}
 
 -- the length, block 0, and the number of blocks
 unfoldable pub front_tests : List ℕ → List Test
@@ -13,18 +14,6 @@ front_tests file =
     (test 20 0 (length_fits file) ∷ [])
     ++ header_tests (block file 0)
     ++ (test 25 0 (eqb (length file) (512 * (1 + count_in file))) ∷ [])
-
--- the tests of a device's block by itself, and of block b
-abbrev pub of_device : List ℕ → ℕ → List Test
-of_device file d = device_tests (count_in file) (master_in file) d (device_block file d)
-
-unfoldable pub block_tests : List ℕ → ℕ → List Test
-block_tests file zero = header_tests (block file 0)
-block_tests file (suc d) = of_device file d
-
--- the number that block b is refused with, and 20 where the file has no such block
-unfoldable pub refusal_in : List ℕ → ℕ → ℕ
-refusal_in file b = cond (ltb b (length file / 512)) (first (block_tests file b)).number 20
 
 -- the peer of port p of device d, by its block, whatever else that holds; nobody where the file has no such block, and of no such port
 unfoldable pub peer_read : List ℕ → ℕ → ℕ → ℕ

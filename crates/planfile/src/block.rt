@@ -1,7 +1,7 @@
 // Any block of a plan file: its numbers, its check, its zeros, and how they are read and written.
 ghost use Rattle.std.specs.Prelude.{◌≡◌, ◌+◌, ◌*◌, ◌<◌, ◌≤◌, length};
 ghost use Rattle.plan.specs.Block.{number_at, check as block_check, checked as block_checked};
-ghost use Rattle.plan.specs.File.{put_number, cleared, sealed};
+ghost use Rattle.plan.specs.Inner.File.{put_number, cleared, sealed};
 ghost use Rattle.planfile.specs.Inner.Zeros.{zeros_in};
 
 // How long a block is, and where two of its fields stand: its kind, and its check, which is the last.

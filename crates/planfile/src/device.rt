@@ -4,7 +4,7 @@ ghost use Rattle.lists.specs.Table.{every, joined};
 ghost use Rattle.plan.specs.Block.{rest_zero};
 ghost use Rattle.plan.specs.Fields.{device_fields, role_in, ports_in, bar_in, unconnected as fields_unconnected, connected as fields_connected, entry_fits, bar_fits, device_fits};
 ghost use Rattle.plan.specs.Refusals.{first, device_tests};
-ghost use Rattle.plan.specs.File.{filled, block_of, own_holdings, entry_holdings, bar_holdings, device_holdings};
+ghost use Rattle.plan.specs.Inner.File.{filled, block_of, own_holdings, entry_holdings, bar_holdings, device_holdings};
 ghost use Rattle.plan.specs.Inner.Memory.{at, peer_at};
 ghost use Rattle.planfile.specs.Parts.{device_put};
 

@@ -4,7 +4,7 @@ ghost use Rattle.lists.specs.Table.{joined};
 ghost use Rattle.plan.specs.Block.{rest_zero};
 ghost use Rattle.plan.specs.Header.{header_fields, header_in, SameHeader, header_fits};
 ghost use Rattle.plan.specs.Refusals.{first, header_tests};
-ghost use Rattle.plan.specs.File.{filled, block_of, common_holdings, pair_holdings, header_holdings};
+ghost use Rattle.plan.specs.Inner.File.{filled, block_of, common_holdings, pair_holdings, header_holdings};
 
 use crate::block;
 use plan::{Header, Loads};

@@ -1,6 +1,6 @@
 // A plan written as the bytes of its file.
 ghost use Rattle.std.specs.Prelude.{◌≡◌, ◌+◌, ◌*◌, ◌≤◌, length};
-ghost use Rattle.plan.specs.File.{file_of};
+ghost use Rattle.plan.specs.Inner.File.{file_of};
 ghost use Rattle.plan.specs.Writing.{Writes};
 
 use crate::{block, device, header};

@@ -38,8 +38,7 @@ fn queued(port: Port, kind: u8, k: u32) -> Port
     }
 }
 
-// Where it stands. A lent record costs a proof by hand, so only this function and the next one name
-// one.
+// Where it stands.
 fn queue_at(port: &mut Port, kind: u8, k: u32)
     ensures { port.new ≡ queued_port kind k port.old }
 {

@@ -23,6 +23,7 @@ fn leads_out(far: &[u32; 32], near: usize, other: usize) -> bool
 
 // The first cause of a port that leads out, by whether it runs, may send, and its other end may receive and
 // does not bar. Where all is so, it can only be that its device does not forward.
+#[tactic(auto, unfolding(crate::specs::Inner::Causes::first_failing))]
 fn first_failing(runs: bool, sends: bool, takes: bool, admits: bool) -> u32
     ensures { result ≡ first_failing runs sends takes admits }
 {

@@ -1,5 +1,4 @@
 use mathlib.Core.Path.{refl}
-use Prim.Native.Nat.{◌-◌}
 use borrow.Author.Tests.{eq-eqb, ne_eqb}
 use Rattle.areas.specs.Put.{copied}
 use Rattle.areas.proofs.Written.{turn, done-copy}

@@ -1,6 +1,5 @@
 -- `calls::any_runs` meets its contract. The invariant: no port before port p runs. Assumes nothing.
 use mathlib.Core.Path.{sym, ◌∙◌}
-use Prim.Native.Nat.{◌-◌}
 use native.Mathlib.Omega.{arith}
 use borrow.Author.Count.{below_none, below_more}
 use Rattle.answers.proofs.Outcomes.{found, nowhere}

@@ -1,7 +1,6 @@
 -- `calls::any_sends` meets its contract. The invariant: no port before port p runs and may send. Assumes nothing.
 use mathlib.Core.Path.{sym, ◌∙◌}
-use mathlib.Core.Bool.{true, false≢true}
-use Prim.Native.Nat.{◌-◌}
+use mathlib.Core.Bool.{false≢true}
 use native.Mathlib.Omega.{arith}
 use borrow.Author.Count.{below_none, below_more}
 use Rattle.answers.proofs.Outcomes.{found, nowhere}

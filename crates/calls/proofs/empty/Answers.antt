@@ -1,6 +1,5 @@
 -- `calls::empty` meets its contract. The invariant: the ports before port p are emptied, and all else is as it was. Assumes nothing.
 use mathlib.Core.Path.{◌≡◌}
-use Prim.Native.Nat.{◌-◌}
 use native.Mathlib.Omega.{arith}
 use lib.ListN.{length-set}
 use borrow.Author.Rules.{rules}

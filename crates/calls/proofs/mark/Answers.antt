@@ -10,4 +10,4 @@ bounds-state-timer-2 c = simp length-set (omega arith)
 
 pub returns : goal.returns
 unfolding mark put word
-returns c = rw (c.marked.ensures, c.timer_load-load.ensures, c.load_for.ensures)
+returns c peers barred = rw (c.marked.ensures, c.timer_load-load.ensures, c.load_for.ensures)

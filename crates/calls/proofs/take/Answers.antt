@@ -8,20 +8,20 @@ use Rattle.calls.proofs.Asked.{called-in, called-not}
 use Rattle.calls.proofs.take.Goals as goal
 
 pub returns-then-state-ne-WORDS : goal.returns-then-state-ne-WORDS
-returns-then-state-ne-WORDS c = sym (called-not _ _ _ _ _ (λ long h l g. c.if-state-ne-WORDS.true long))
+returns-then-state-ne-WORDS c peers barred = sym (called-not _ _ _ _ _ (λ long h l g. c.if-state-ne-WORDS.true long))
 
 pub returns-then-d-gt31 : goal.returns-then-d-gt31
-returns-then-d-gt31 c = sym (called-not _ _ _ _ _ (λ long h l g. omega arith))
+returns-then-d-gt31 c peers barred = sym (called-not _ _ _ _ _ (λ long h l g. omega arith))
 
 pub returns-then-k-gt31 : goal.returns-then-k-gt31
-returns-then-k-gt31 c = sym (called-not _ _ _ _ _ (λ long h l g. omega arith))
+returns-then-k-gt31 c peers barred = sym (called-not _ _ _ _ _ (λ long h l g. omega arith))
 
 pub returns-then-kind-gt1 : goal.returns-then-kind-gt1
-returns-then-kind-gt1 c = sym (called-not _ _ _ _ _ (λ long h l g. omega arith))
+returns-then-kind-gt1 c peers barred = sym (called-not _ _ _ _ _ (λ long h l g. omega arith))
 
 pub returns : goal.returns
 unfolding called
-returns c =
+returns c peers barred =
     let m = c in
     c.queue_all.ensures
     ∙ queued-in _ _ _ _ _ _ (search rules) (omega arith) (omega arith)

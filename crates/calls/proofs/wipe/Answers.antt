@@ -1,6 +1,5 @@
 -- `calls::wipe` meets its contract. The invariant: the words from `from` up to word i are 0, and all else is as it was. Assumes nothing.
 use mathlib.Core.Path.{◌≡◌}
-use Prim.Native.Nat.{◌-◌}
 use native.Mathlib.Omega.{arith}
 use Rattle.state.specs.State.{put}
 use Rattle.calls.proofs.Zeros.{zeros-none, zeros-more}

@@ -1,5 +1,6 @@
 use mathlib.Core.Path.{◌≡◌, sym, ◌∙◌}
 use mathlib.Core.Bool.{true}
+use borrow.Author.Tests.{not-true, not-false}
 use Rattle.bits.specs.Set.{bit}
 use Rattle.device.specs.Permissions.{may_receive}
 use Rattle.device.specs.Reaction.{is_used, bars_of}
@@ -11,7 +12,7 @@ use Rattle.device.proofs.ruled.Goals as goal
 
 -- what is known behind each test
 runs : (c : lts.Else1 tie.the-claims reads.Pre reads.Post) → c.args.side.running ≡ true
-runs c = c.if-not-side.false
+runs c = not-false _ c.if-not-side.false
 
 may : (c : lts.Else2 tie.the-claims reads.Pre reads.Post) → let a = c.args in may_receive a.kind a.side.permissions ≡ true
 may c = sym c.may_receive.ensures ∙ c.if-not-may_receive.false
@@ -41,7 +42,7 @@ accepts c =
     }
 
 pub returns-then-not-side : goal.returns-then-not-side
-returns-then-not-side c = c.outcome.ensures ∙ stopped _ _ _ _ _ _ c.if-not-side.true
+returns-then-not-side c = c.outcome.ensures ∙ stopped _ _ _ _ _ _ (not-true _ c.if-not-side.true)
 
 pub returns-then-not-may_receive : goal.returns-then-not-may_receive
 returns-then-not-may_receive c = c.outcome-then-not-may_receive.ensures ∙ forbidden _ _ _ _ _ _ (runs c.before.before.before) (sym c.may_receive.ensures ∙ c.if-not-may_receive.true)

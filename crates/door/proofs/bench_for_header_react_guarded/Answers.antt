@@ -7,7 +7,7 @@ use Rattle.door.proofs.bench_for_header_react_guarded.Goals as goal
 pub returns : goal.returns
 returns c =
     let e = c.react-reaction.ensures in
-    let code = c.Code-in.ensures ∙ ap (λ (r : Reaction). code_in r.action) e in (
+    let code = c.code_in-code.ensures ∙ ap (λ (r : Reaction). code_in r.action) e in (
       c.action_of.ensures ∙ ap (λ (r : Reaction). action_of r.action) e,
       ap (λ (r : Reaction). r.register) e,
       ap (λ (r : Reaction). r.counter) e,

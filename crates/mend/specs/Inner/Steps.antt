@@ -1,11 +1,12 @@
 -- No rules: what private functions of the rescue compute on the way.
-use Rattle.std.specs.Prelude.{◌≡◌, Bool, cond, not, ◌&&◌, List, [], ◌∷◌, ◌++◌, ℕ, zero, suc, ◌+◌, ◌*◌, ◌/◌, ◌≤◌, min, eqb, ltb, length, take, drop, replicate}
+use Rattle.std.specs.Prelude.{◌≡◌, Bool, cond, not, ◌&&◌, List, [], ◌++◌, ℕ, zero, suc, ◌+◌, ◌*◌, ◌/◌, ◌≤◌, min, eqb, ltb, length, take, drop, replicate}
 use Rattle.lists.specs.Table.{table, joined}
 use Rattle.text.specs.Text.{ascii, headed, joint}
 use Rattle.text.specs.Inner.Within.{Within}
 use Rattle.plan.specs.Block.{block}
 use Rattle.plan.specs.Fields.{nobody}
-use Rattle.plan.specs.File.{at, block_of, device_holdings}
+use Rattle.plan.specs.Inner.File.{block_of, device_holdings}
+use Rattle.plan.specs.Inner.Memory.{at}
 use Rattle.plan.specs.Reading.{column}
 use Rattle.plan.specs.Refusals.{Test, first, count_in, verdict}
 use Rattle.plan.specs.declared.Core.{Core}

@@ -1,12 +1,18 @@
 -- No rule: what a right plan looks like in memory, as one computed test. Nothing here has to be believed; `BothWays` proves that it is true
 -- exactly of the plans that some accepted file holds.
-use Rattle.std.specs.Prelude.{Bool, cond, ◌&&◌, List, ℕ, ◌+◌, ◌*◌, min, eqb, ltb, leb}
+use Rattle.std.specs.Prelude.{Bool, cond, ◌&&◌, List, [], ℕ, ◌+◌, ◌*◌, min, eqb, ltb, leb, get_or}
 use Rattle.lists.specs.Table.{every}
 use Rattle.plan.specs.Fields.{ports_fit, masks_fit, master_is_node, bar_fits, nobody, joins, sources_fit}
 use Rattle.plan.specs.Header.{header_of, header_fits}
 use Rattle.plan.specs.declared.Core.{Core}
 use Rattle.plan.specs.declared.Plan.{Plan}
-pub use Rattle.plan.specs.File.{at, peer_at}
+
+-- what stands in the peers at a device and a port
+abbrev pub peer_at : List (List ℕ) → ℕ → ℕ → ℕ
+peer_at peers d p = get_or (get_or peers d []) p 0
+
+abbrev pub at : List ℕ → ℕ → ℕ
+at l d = get_or l d 0
 
 -- an existing port has a peer among n devices and permissions up to 15, or neither; an absent one neither
 unfoldable pub port_right : ℕ → ℕ → ℕ → ℕ → ℕ → Bool

@@ -1,19 +1,11 @@
 use native.Mathlib.Omega.{arith}
 use borrow.Author.Rules.{rules}
 use Rattle.areas.proofs.Puts.{same_size, next_place}
-use Rattle.plan.specs.Reading.{Held}
 use Rattle.plan.proofs.BothWays.{held-devices}
 use Rattle.planfile.proofs.WasRead.{plan-held}
 use Rattle.text.specs.Text.{ascii}
 use Rattle.report.proofs.Texts.{heading-short, was-found, network-text, refused-text}
-use Rattle.report.proofs.put_text.Reads as reads
-use Rattle.report.proofs.put_text.Tie as tie
-use Rattle.report.proofs.put_text.Lts as lts
 use Rattle.report.proofs.put_text.Goals as goal
-
--- the plan that was read is held
-held_then : (c : lts.Else1 tie.the-claims reads.Pre reads.Post) → Held c.read-read.result.plan
-held_then c = plan-held _ c.read-read.ensures c.if-read-ne0.false (λ i. omega (arith, c.shared_slice_known-1.given i))
 
 pub returns-then-read-ne0 : goal.returns-then-read-ne0
 returns-then-read-ne0 c =
@@ -22,12 +14,12 @@ returns-then-read-ne0 c =
 
 pub overflow_cast-core : goal.overflow_cast-core
 overflow_cast-core c =
-    omega (arith, (held-devices _ (held_then c.before.before.before.before.before.before.before.before.before.before.before.before.before.before.before)).1)
+    omega (arith, (held-devices _ (plan-held _ c.read-read.ensures c.if-read-ne0.false (λ i. omega (arith, c.shared_slice_known-1.given i)))).1)
 
 pub put_lines-requires : goal.put_lines-requires
 unfolding ascii
 put_lines-requires c =
-    let held = held_then c.before.before.before.before.before.before.before.before.before.before.before.before.before.before.before.before.before.before.before.before in
+    let held = plan-held _ c.read-read.ensures c.if-read-ne0.false (λ i. omega (arith, c.shared_slice_known-1.given i)) in
     let h = c.put_headed-at.ensures in
     let short = heading-short _ (held-devices _ held).1 in (
       held,
@@ -38,5 +30,4 @@ put_lines-requires c =
 pub returns : goal.returns
 unfolding ascii
 returns c =
-    let b = c in
-    network-text _ c.read-read.ensures b.if-read-ne0.false (held_then c.before.before.before.before.before.before.before.before.before.before.before.before.before.before.before.before.before.before.before.before.before.before.before) c.requires.1 c.put_headed-at.ensures c.put_lines.ensures
+    network-text _ c.read-read.ensures c.if-read-ne0.false (plan-held _ c.read-read.ensures c.if-read-ne0.false (λ i. omega (arith, c.shared_slice_known-1.given i))) c.requires.1 c.put_headed-at.ensures c.put_lines.ensures

@@ -7,9 +7,6 @@ use Rattle.areas.specs.Put.{put_at}
 use Rattle.areas.proofs.Puts.{puts_none, puts_whole}
 use Rattle.text.specs.Text.{decimal}
 use Rattle.text.proofs.Parts.{no_room, has_room}
-use Rattle.text.proofs.put_number.Reads as reads
-use Rattle.text.proofs.put_number.Tie as tie
-use Rattle.text.proofs.put_number.Lts as lts
 use Rattle.text.proofs.put_number.Goals as goal
 
 pub returns-then-not-has_room : goal.returns-then-not-has_room
@@ -17,23 +14,22 @@ returns-then-not-has_room c =
     let a = c.args in
     puts_none _ _ _ (omega (arith, no_room a.at c.places-size.result (length a.area.now) c.has_room.ensures (ap not c.if-not-has_room.true), c.places-size.ensures))
 
--- behind the test the number has room
-room : (c : lts.Else1 tie.the-claims reads.Pre reads.Post)
-    → c.args.at + c.places-size.result ≤ length c.args.area.now
-room c = has_room _ _ _ c.has_room.ensures (ap not c.if-not-has_room.false)
-
 pub overflow_add-end : goal.overflow_add-end
-overflow_add-end c = omega (arith, room c)
+overflow_add-end c =
+    let a = c.args in
+    omega (arith, has_room a.at c.places-size.result (length a.area.now) c.has_room.ensures (ap not c.if-not-has_room.false))
 
 pub spell-requires : goal.spell-requires
-spell-requires c = (omega (arith, c.places-size.ensures), omega (arith, room c.before))
+spell-requires c =
+    let a = c.args in
+    let h : a.at + c.places-size.result ≤ length a.area.now = has_room _ _ _ c.has_room.ensures (ap not c.if-not-has_room.false) in
+    record { n_len_bound = omega (arith, c.places-size.ensures); end_in_bounds = h }
 
 pub returns : goal.returns
 returns c =
-    let b = c in
-    let a = b.args in
-    let e : b.places-size.result ≡ length (decimal a.n) = b.places-size.ensures in
-    let h : a.at + b.places-size.result ≤ length a.area.now = room c.before.before.before.before in
-    let p : a.at + b.places-size.result - length (decimal a.n) ≡ a.at = omega arith in
+    let a = c.args in
+    let e : c.places-size.result ≡ length (decimal a.n) = c.places-size.ensures in
+    let h : a.at + c.places-size.result ≤ length a.area.now = has_room _ _ _ c.has_room.ensures (ap not c.if-not-has_room.false) in
+    let p : a.at + c.places-size.result - length (decimal a.n) ≡ a.at = omega arith in
     rw e
     (puts_whole (omega arith) (c.spell.ensures ∙ ap (λ k. put_at a.area.now k (decimal a.n)) p))

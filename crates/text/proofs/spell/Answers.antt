@@ -1,7 +1,4 @@
-use mathlib.Core.List.{[]}
-use Prim.Native.Nat.{◌-◌}
 use native.Mathlib.Omega.{arith}
-use Rattle.text.specs.Text.{digit}
 use Rattle.text.proofs.Decimal.{decimal-some}
 use Rattle.text.proofs.spell.Invariants.{done, turn}
 use Rattle.text.proofs.spell.Goals as goal

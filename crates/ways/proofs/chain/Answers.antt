@@ -25,9 +25,6 @@ use Rattle.ways.proofs.Steps.{ahead, back, chain-walk, walk-chain}
 use Rattle.ways.proofs.Shortest.{no-shorter, downhill, length-picked, picked-shown}
 use Rattle.ways.proofs.Counted.{few-crossings}
 use Rattle.ways.proofs.Answered.{Ready, ready, answer-refused, answer-done}
-use Rattle.ways.proofs.chain.Reads as reads
-use Rattle.ways.proofs.chain.Tie as tie
-use Rattle.ways.proofs.chain.Lts as lts
 use Rattle.ways.proofs.chain.Goals as goal
 
 -- what is behind n places of an area that was filled
@@ -80,44 +77,33 @@ module _ (plan : Plan) (s : State) (k d e : ℕ) (peers : List (List ℕ)) (to f
       omega (arith, no-shorter plan s k sound.size held e last far found d first short.0 short.2, short.1, w.1, l) in
       subst (λ (r : List ℕ). ChainTo plan s k d e (at far d) r) (sym a) (subst (λ (n : ℕ). ChainTo plan s k d e n (padded [])) (sym z) (not-reached out))
 
--- what the tests that are passed say
-passes : (c : lts.Else1 tie.the-claims reads.Pre reads.Post) → let a = c.args in Ready a.t1 a.state.now a.source a.k a.device 32 a.ports.now
-passes c = ready _ _ _ _ _ _ _ _ c.refusal-number.ensures c.if-number-ne0.false
-
 pub returns-then-number-ne0 : goal.returns-then-number-ne0
 returns-then-number-ne0 c =
-    let r = c in
-    answer-refused _ _ _ _ _ _ _ _ _ _ _ r.refusal-number.ensures c.if-number-ne0.true c.refused.ensures
+    answer-refused _ _ _ _ _ _ _ _ _ _ _ c.refusal-number.ensures c.if-number-ne0.true c.refused.ensures
 
 pub walk-requires : goal.walk-requires
-walk-requires c = (refl, (passes c.before.before.before.before.before.before.before.before.before.before.before.before.before).device-small)
+walk-requires c = (refl, (ready _ _ _ _ _ _ _ _ c.refusal-number.ensures c.if-number-ne0.false).device-small)
 
 pub offset_bounds-far-source : goal.offset_bounds-far-source
-offset_bounds-far-source c = record { fits = omega (arith, (passes c.before.before.before.before.before.before.before.before.before.before.before.before.before.before.before.before.before.before.before).source-small) }
+offset_bounds-far-source c = record { fits = omega (arith, (ready _ _ _ _ _ _ _ _ c.refusal-number.ensures c.if-number-ne0.false).source-small) }
 
 pub bounds-far-source : goal.bounds-far-source
-bounds-far-source c = (passes c.before.before.before.before.before.before.before.before.before.before.before.before.before.before.before.before.before.before.before).source-small
+bounds-far-source c = (ready _ _ _ _ _ _ _ _ c.refusal-number.ensures c.if-number-ne0.false).source-small
 
 pub follow-requires : goal.follow-requires
 follow-requires c =
-    let x = c in
-    let f = x in
-    let r = passes c.before.before.before.before.before.before.before.before.before.before.before.before.before.before.before.before.before.before.before.before.before.before.before.before in
-    (x.fill.auto.area ∙ r.fits, r.source-small, c.if-n-lt-UNREACHED.true, goes_down _ _ _ _ _ _ _ _ _ r.held r.sound r.source r.device x.peers_of-peers.ensures x.ahead_all-to.ensures x.behind_all-back.ensures x.walk.ensures, refl)
+    let r = ready _ _ _ _ _ _ _ _ c.refusal-number.ensures c.if-number-ne0.false in
+    (c.fill.auto.area ∙ r.fits, r.source-small, c.if-n-lt-UNREACHED.true, goes_down _ _ _ _ _ _ _ _ _ r.held r.sound r.source r.device c.peers_of-peers.ensures c.ahead_all-to.ensures c.behind_all-back.ensures c.walk.ensures, refl)
 
 pub returns-then-n-lt-UNREACHED : goal.returns-then-n-lt-UNREACHED
 returns-then-n-lt-UNREACHED c =
-    let x = c in
-    let f = x in
-    let r = passes c.before.before.before.before.before.before.before.before.before.before.before.before.before.before.before.before.before.before.before.before.before.before.before.before.before.before.before in
-    answer-done _ _ _ _ _ _ _ _ _ _ _ f.refusal-number.ensures f.if-number-ne0.false
-    (shows _ _ _ _ _ _ _ _ _ r.held r.sound r.source r.device x.peers_of-peers.ensures x.ahead_all-to.ensures x.behind_all-back.ensures x.walk.ensures _ _ c.if-n-lt-UNREACHED.true
-    c.follow.ensures (filled _ f.args.ports.now x.fill.ensures r.fits))
+    let r = ready _ _ _ _ _ _ _ _ c.refusal-number.ensures c.if-number-ne0.false in
+    answer-done _ _ _ _ _ _ _ _ _ _ _ c.refusal-number.ensures c.if-number-ne0.false
+    (shows _ _ _ _ _ _ _ _ _ r.held r.sound r.source r.device c.peers_of-peers.ensures c.ahead_all-to.ensures c.behind_all-back.ensures c.walk.ensures _ _ c.if-n-lt-UNREACHED.true
+    c.follow.ensures (filled _ c.args.ports.now c.fill.ensures r.fits))
 
 pub returns-else-n-lt-UNREACHED : goal.returns-else-n-lt-UNREACHED
 returns-else-n-lt-UNREACHED c =
-    let x = c in
-    let f = x in
-    let r = passes c.before.before.before.before.before.before.before.before.before.before.before.before.before.before.before.before.before.before.before.before in
-    answer-done _ _ _ _ _ _ _ _ _ _ _ f.refusal-number.ensures f.if-number-ne0.false
-    (hides _ _ _ _ _ _ _ _ _ r.held r.sound r.source r.device x.peers_of-peers.ensures x.ahead_all-to.ensures x.behind_all-back.ensures x.walk.ensures _ (λ l. omega (arith, l, c.if-n-lt-UNREACHED.false)) (filled _ f.args.ports.now x.fill.ensures r.fits))
+    let r = ready _ _ _ _ _ _ _ _ c.refusal-number.ensures c.if-number-ne0.false in
+    answer-done _ _ _ _ _ _ _ _ _ _ _ c.refusal-number.ensures c.if-number-ne0.false
+    (hides _ _ _ _ _ _ _ _ _ r.held r.sound r.source r.device c.peers_of-peers.ensures c.ahead_all-to.ensures c.behind_all-back.ensures c.walk.ensures _ (λ l. omega (arith, l, c.if-n-lt-UNREACHED.false)) (filled _ c.args.ports.now c.fill.ensures r.fits))

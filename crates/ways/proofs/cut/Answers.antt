@@ -15,9 +15,6 @@ use Rattle.ways.specs.Inner.Causes.{cause_at}
 use Rattle.ways.proofs.Counted.{walked}
 use Rattle.ways.proofs.Fails.{all-causes}
 use Rattle.ways.proofs.Answered.{Ready, ready, answer-refused, answer-done}
-use Rattle.ways.proofs.cut.Reads as reads
-use Rattle.ways.proofs.cut.Tie as tie
-use Rattle.ways.proofs.cut.Lts as lts
 use Rattle.ways.proofs.cut.Goals as goal
 
 -- by the layers of the plan's own table
@@ -28,28 +25,20 @@ fails : (plan : Plan) (s : State) (k d : ℕ) (peers : List (List ℕ)) (to far 
 fails plan s k d peers to far causes value held sound h p t f c =
     all-causes plan held s k d h sound.size far (walked plan held s k d h sound peers to far p t f) value causes (c.0 ∙ rw p) (c.1 ∙ rw p)
 
--- what the tests that are passed say
-passes : (c : lts.Else1 tie.the-claims reads.Pre reads.Post) → let a = c.args in Ready a.t1 a.state.now a.source a.k a.source 256 a.causes.now
-passes c = ready _ _ _ _ _ _ _ _ c.refusal-number.ensures c.if-number-ne0.false
-
 pub returns-then-number-ne0 : goal.returns-then-number-ne0
 returns-then-number-ne0 c =
-    let r = c in
-    answer-refused _ _ _ _ _ _ _ _ _ _ _ r.refusal-number.ensures c.if-number-ne0.true c.refused.ensures
+    answer-refused _ _ _ _ _ _ _ _ _ _ _ c.refusal-number.ensures c.if-number-ne0.true c.refused.ensures
 
 pub walk-requires : goal.walk-requires
-walk-requires c = (refl, (passes c.before.before.before.before.before.before.before.before.before.before).source-small)
+walk-requires c = (refl, (ready _ _ _ _ _ _ _ _ c.refusal-number.ensures c.if-number-ne0.false).source-small)
 
 pub put_causes-requires : goal.put_causes-requires
 put_causes-requires c =
-    let r = passes c.before.before.before.before.before.before.before.before.before.before.before.before.before.before.before.before.before in
+    let r = ready _ _ _ _ _ _ _ _ c.refusal-number.ensures c.if-number-ne0.false in
     (r.sound.size, r.fits)
 
 pub returns : goal.returns
 returns c =
-    let w = c in
-    let a = w in
-    let f = a in
-    let r = passes c.before.before.before.before.before.before.before.before.before.before.before.before.before.before.before.before.before.before.before.before in
-    answer-done _ _ _ _ _ _ _ _ _ _ _ f.refusal-number.ensures f.if-number-ne0.false
-    (fails _ _ _ _ _ _ _ _ _ r.held r.sound r.source a.peers_of-peers.ensures a.ahead_all-to.ensures w.walk.ensures c.put_causes.ensures)
+    let r = ready _ _ _ _ _ _ _ _ c.refusal-number.ensures c.if-number-ne0.false in
+    answer-done _ _ _ _ _ _ _ _ _ _ _ c.refusal-number.ensures c.if-number-ne0.false
+    (fails _ _ _ _ _ _ _ _ _ r.held r.sound r.source c.peers_of-peers.ensures c.ahead_all-to.ensures c.walk.ensures c.put_causes.ensures)

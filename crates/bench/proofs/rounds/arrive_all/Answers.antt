@@ -1,7 +1,6 @@
 use mathlib.Core.Path.{◌≡◌, refl, ap, ◌∙◌}
 use mathlib.Core.List.{List, []}
-use mathlib.Core.Logic.{⊎_elim}
-use Prim.Native.Nat.{ℕ, ◌-◌, ◌/◌, ◌%◌, ◌≤◌, ◌<◌}
+use Prim.Native.Nat.{ℕ, ◌/◌, ◌%◌, ◌≤◌, ◌<◌}
 use native.Mathlib.Omega.{arith}
 use lib.ListN.{length, get_or}
 use Rattle.plan.specs.declared.Plan.{Plan}
@@ -12,6 +11,7 @@ use Rattle.bench.proofs.Stepped.{arrives-nothing, arrives-byte}
 use Rattle.bench.proofs.Idles.{arrives-unused}
 use Rattle.bench.proofs.rounds.arrive_all.Invariants.{again, skip}
 use Rattle.bench.proofs.rounds.arrive_all.Goals as goal
+use Rattle.bench.proofs.rounds.arrive_all.Goals.{then-byte-lt-NOTHING, else-byte-lt-NOTHING}
 
 -- port q is one of device d
 module _ (plan : Plan) (sent : List ℕ) (q d byte : ℕ) (device : q / 8 ≡ d) (e : byte ≡ get_or sent (get_or (get_or plan.peers d []) (q % 8) 0) nothing) where
@@ -65,14 +65,18 @@ loop-q-preserved c =
     let device : l.loop-q.q / 8 ≡ o.loop-d.d = omega arith in
     let byte = c.heard-byte.ensures in (
       λ size x v. let u = l.loop-q.invariant.0 size x v in
-          ⊎_elim
-          (λ w. again u (omega (arith, l.loop-q.invariant.3))
-          (lands w.8 w.9 w.10 (leads (λ told. here-byte _ _ _ _ _ device byte w.0.taken _) w.3.ensures.0))
-          (omega (arith, w.10, w.3.ensures.1))
-          (ap length w.8 ∙ w.3.kept.1.1.1.1.1.1.1.0)
-          (ap length w.9 ∙ w.3.kept.1.1.1.1.1.1.1.1.0))
-          (λ w. again u (omega (arith, l.loop-q.invariant.3)) (lands w.1 w.2 w.3 (silent (λ told. here-nothing _ _ _ _ _ device byte w.0.left _))) (omega (arith, w.3)) (ap length w.1) (ap length w.2))
-          c.if-byte-lt-NOTHING.branch,
+          elim c.if-byte-lt-NOTHING.branch [
+            | then-byte-lt-NOTHING w ↦
+                again u (omega (arith, l.loop-q.invariant.3))
+                (lands w.state-is w.told-is w.count-is (leads (λ told. here-byte _ _ _ _ _ device byte w.if-byte-lt-NOTHING.true _) w.arrive_one-count.ensures.0))
+                (omega (arith, w.count-is, w.arrive_one-count.ensures.1))
+                (ap length w.state-is ∙ w.arrive_one-count.auto.state)
+                (ap length w.told-is ∙ w.arrive_one-count.auto.told)
+            | else-byte-lt-NOTHING w ↦
+                again u (omega (arith, l.loop-q.invariant.3))
+                (lands w.state-is w.told-is w.count-is (silent (λ told. here-nothing _ _ _ _ _ device byte w.if-byte-lt-NOTHING.false _)))
+                (omega (arith, w.count-is)) (ap length w.state-is) (ap length w.told-is)
+          ],
       omega arith,
       omega arith,
       l.loop-q.invariant.3,

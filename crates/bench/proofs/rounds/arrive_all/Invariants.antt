@@ -1,5 +1,5 @@
 use mathlib.Core.Path.{◌≡◌, ◌∙◌}
-use mathlib.Core.List.{List, []}
+use mathlib.Core.List.{List}
 use Prim.Native.Nat.{ℕ, ◌+◌, ◌-◌, ◌*◌, ◌≤◌, ◌<◌}
 use native.Mathlib.Omega.{arith}
 use lib.ListN.{length}
@@ -7,7 +7,7 @@ use Rattle.lists.specs.Loop.{up_to}
 use Rattle.plan.specs.declared.Plan.{Plan}
 use Rattle.state.specs.State.{words}
 use Rattle.state.specs.Network.{devices}
-use Rattle.bench.specs.Round.{World, arrived, arrives, nothing}
+use Rattle.bench.specs.Round.{World, arrives}
 use Rattle.bench.specs.Inner.Idle.{lent}
 use Rattle.bench.specs.Inner.Shown.{Seen, seen, Follows}
 use Rattle.bench.proofs.Following.{follows-more, follows-still}

@@ -4,7 +4,7 @@ use native.Mathlib.Omega.{arith}
 use Rattle.state.specs.State.{word}
 use Rattle.bench.proofs.Following.{follows-none}
 use borrow.Author.Rules.{rules}
-use Rattle.bench.proofs.rounds.fall_device.Invariants.{again, done, k, less, low}
+use Rattle.bench.proofs.rounds.fall_device.Invariants.{again, done, less, low}
 use Rattle.bench.proofs.rounds.fall_device.Goals as goal
 
 pub loop-rest-init : goal.loop-rest-init

@@ -1,6 +1,6 @@
 -- `bench::rounds::post_all` meets its contract. The invariant: the ports before port q have sent, and those that are lacking have sent nothing. Assumes nothing.
 use mathlib.Core.Path.{◌≡◌}
-use Prim.Native.Nat.{◌-◌, ◌/◌}
+use Prim.Native.Nat.{◌/◌}
 use native.Mathlib.Omega.{arith}
 use Rattle.lists.proofs.Loops.{done}
 use Rattle.bench.proofs.rounds.post_all.Invariants.{again, all-sent, begun, skip}

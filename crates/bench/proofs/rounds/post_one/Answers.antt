@@ -12,9 +12,6 @@ use Rattle.codes.specs.Codes.{byte_of}
 use Rattle.state.specs.State.{State, word, put, waiting, time_waits, lately}
 use Rattle.bench.specs.Round.{nothing, first_waits, goes, time_goes, chosen, sends, posts}
 use Rattle.bench.proofs.Stepped.{some-waits, first-chosen, chosen-place, post-time, post-stamps, post-nothing, post-same, post-interrupt, post-acknowledge, post-leaves}
-use Rattle.bench.proofs.rounds.post_one.Reads as reads
-use Rattle.bench.proofs.rounds.post_one.Tie as tie
-use Rattle.bench.proofs.rounds.post_one.Lts as lts
 use Rattle.bench.proofs.rounds.post_one.Goals as goal
 
 -- whether a Time-Code goes, by what was read and found
@@ -49,22 +46,19 @@ returns-then-time_goes c =
     let g = is-goes _ _ c.choice-found.ensures c.time_goes.ensures ∙ c.if-time_goes.true in
     (sym (post-time _ _ g), sym (post-stamps _ _ _ g))
 
--- no Time-Code goes
-stays : (c : lts.Else1 tie.the-claims reads.Pre reads.Post) → time_goes c.args.old.now c.args.q ≡ false
-unfolding word
-stays c = is-goes _ _ c.choice-found.ensures c.time_goes.ensures ∙ c.if-time_goes.false
-
 pub overflow_sub-result : goal.overflow_sub-result
 overflow_sub-result c = omega (arith, some-waits _ _ _ (sym c.time_goes.ensures ∙ c.if-time_goes.true))
 
 pub returns-in_default : goal.returns-in_default
+unfolding word
 returns-in_default c =
-    let g = stays c.before.before in
+    let g = is-goes _ _ c.choice-found.ensures c.time_goes.ensures ∙ c.if-time_goes.false in
     let e = c.choice-found.ensures in
     (none-sent _ _ _ e g c.in_default.is, none_left _ _ _ e g _ c.in_default.is)
 
-found : (c : lts.After-found tie.the-claims reads.Pre reads.Post) → chosen c.args.old.now c.args.q ≡ At c.in-At.k
-found c = first-chosen _ _ (stays c.before.before) ∙ sym c.choice-found.ensures ∙ c.in-At.is
+-- what is found is what was chosen, as no Time-Code goes
+found : (old : State) (q : ℕ) {k : ℕ} {r : Found} → time_goes old q ≡ false → r ≡ first_waits old q → r ≡ At k → chosen old q ≡ At k
+found old q g e h = first-chosen old q g ∙ sym e ∙ h
 
 pub bounds-next-at-3 : goal.bounds-next-at-3
 bounds-next-at-3 c = simp length-set (omega arith)
@@ -73,7 +67,8 @@ pub bounds-next-at-4 : goal.bounds-next-at-4
 bounds-next-at-4 c = simp length-set (omega arith)
 
 pub overflow_add-next-4 : goal.overflow_add-next-4
-overflow_add-next-4 c = omega (arith, chosen-place _ _ (found c.before.before.before.before.before))
+unfolding word
+overflow_add-next-4 c = omega (arith, chosen-place _ _ (found _ _ (is-goes _ _ c.choice-found.ensures c.time_goes.ensures ∙ c.if-time_goes.false) c.choice-found.ensures c.in-At.is))
 
 pub bounds-next-at-5 : goal.bounds-next-at-5
 bounds-next-at-5 c = simp length-set (omega arith)
@@ -88,7 +83,8 @@ pub overflow_sub-kind : goal.overflow_sub-kind
 overflow_sub-kind c = omega (arith, small _ _ c.get-kind.ensures)
 
 pub overflow_add-result-2 : goal.overflow_add-result-2
-overflow_add-result-2 c = omega (arith, chosen-place _ _ (found c.before.before.before.before.before.before.before.before))
+unfolding word
+overflow_add-result-2 c = omega (arith, chosen-place _ _ (found _ _ (is-goes _ _ c.choice-found.ensures c.time_goes.ensures ∙ c.if-time_goes.false) c.choice-found.ensures c.in-At.is))
 
 pub shape_of-next : goal.shape_of-next
 shape_of-next c = simp length-set
@@ -97,7 +93,7 @@ pub returns : goal.returns
 unfolding word put
 returns c =
     let a = c.args in
-    let k = found c.before.before.before.before.before.before.before.before in (
+    let k = found _ _ (is-goes _ _ c.choice-found.ensures c.time_goes.ensures ∙ c.if-time_goes.false) c.choice-found.ensures c.in-At.is in (
       byte-sent a.old.now a.q k c.get-kind.ensures,
       sym (post-leaves a.old.now a.q k a.next.now c.leave.result c.leave-2.result c.leave.ensures c.leave-2.ensures),
     )

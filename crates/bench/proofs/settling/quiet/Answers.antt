@@ -1,6 +1,5 @@
 -- `bench::settling::quiet` meets its contract. The invariant: nothing waits at the ports before port q. Assumes nothing.
 use mathlib.Core.Path.{refl}
-use Prim.Native.Nat.{◌-◌}
 use native.Mathlib.Omega.{arith}
 use borrow.Author.Count.{below_none, below_more}
 use Rattle.state.specs.State.{word}

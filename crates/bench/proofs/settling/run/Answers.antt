@@ -1,10 +1,11 @@
 -- `bench::settling::run` meets its contract: the two areas take turns. Assumes nothing.
-use mathlib.Core.Path.{sym, ◌∙◌}
-use Prim.Native.Nat.{◌-◌}
+use mathlib.Core.Path.{sym, ap, ◌∙◌}
+use mathlib.Core.Bool.{not}
 use native.Mathlib.Omega.{arith}
 use Rattle.answers.proofs.Outcomes.{granted, denied}
 use Rattle.bench.proofs.Idles.{held-laid, sound-idles, sound-blank, zeros-blank, silent-repeat}
 use Rattle.bench.proofs.SettlingLoop.{ran-none, settled, spent}
+use Rattle.bench.proofs.settling.run.Invariants.{in_use, other, known_more}
 use Rattle.bench.proofs.settling.run.Goals as goal
 
 pub loop-core-init : goal.loop-core-init
@@ -24,7 +25,7 @@ shape_of-second-then-n-allowance c = c.finish.auto.second ∙ c.loop-core.invari
 pub returns-then-n-allowance : goal.returns-then-n-allowance
 returns-then-n-allowance c =
     let f = c.finish.ensures in
-    spent c.loop-core.invariant.ran f.1 f.0 (denied c.quiet_in.ensures c.loop-core-test.true) c.if-n-allowance.true
+    spent c.loop-core.invariant.ran f.1 f.0 (denied c.quiet_in.ensures (ap not c.loop-core-test.true)) c.if-n-allowance.true
 
 pub advance-requires : goal.advance-requires
 advance-requires c =
@@ -37,7 +38,7 @@ loop-core-preserved c =
     let p = c.requires in
     let k = c.loop-core.invariant in
     let v = c.advance.ensures in
-    known_more p.0 p.1 k (denied c.quiet_in.ensures c.loop-core-test.true) (omega (arith, k.ran.within, c.if-n-allowance.false)) v.0 v.1 v.2
+    known_more p.0 p.1 k (denied c.quiet_in.ensures (ap not c.loop-core-test.true)) (omega (arith, k.ran.within, c.if-n-allowance.false)) v.0 v.1 v.2
 
 pub finish-requires-2 : goal.finish-requires-2
 finish-requires-2 c = let l = c.loop-core in (l.invariant.blank.size, l.invariant.blank-second.size)
@@ -48,4 +49,4 @@ shape_of-second c = c.finish-2.auto.second ∙ c.loop-core.invariant.blank-secon
 pub returns : goal.returns
 returns c =
     let f = c.finish-2.ensures in
-    settled c.loop-core.invariant.ran f.1 f.0 (granted c.quiet_in.ensures c.loop-core-test.false)
+    settled c.loop-core.invariant.ran f.1 f.0 (granted c.quiet_in.ensures (ap not c.loop-core-test.false))

@@ -28,14 +28,14 @@ module _ {plan : Plan} (held : Held plan) {s : State} (sound : Sound plan s) {al
     (k : Known plan s allowance n home state second sent)
   where
     -- the state in use is sound
-    in_use : Sound plan (cond home state second)
+    pub in_use : Sound plan (cond home state second)
     in_use = subst (Sound plan) (sym k.ran.is) (rounds-sound plan held s sound n)
 
-    other : Blank (devices plan) (cond home second state)
+    pub other : Blank (devices plan) (cond home second state)
     other = of_either (Blank (devices plan)) home k.blank-second k.blank
 
     -- a round leads to the other area, and leaves the one in use
-    known_more : {state' second' sent' : List ℕ} → (Quiet (cond home state second) → ⊥) → n < allowance
+    pub known_more : {state' second' sent' : List ℕ} → (Quiet (cond home state second) → ⊥) → n < allowance
         → cond home second' state' ≡ (round plan (cond home state second)).next
         → cond home state' second' ≡ cond home state second
         → Silent (devices plan) plan.core.ports sent'
@@ -52,7 +52,7 @@ module _ {plan : Plan} (held : Held plan) {s : State} (sound : Sound plan s) {al
         }
 
 abbrev pub invariant-loop-core : goal.invariant-loop-core
-invariant-loop-core l = Known (record { l.core = l.core; l.peers = l.peers; l.barred = l.barred }) l.initial.state l.allowance l.n l.home l.state l.second l.sent
+invariant-loop-core l = Known (record { core = l.core; peers = l.peers; barred = l.barred }) l.initial.state l.allowance l.n l.home l.state l.second l.sent
 
 abbrev pub decreases-loop-core : goal.decreases-loop-core
 decreases-loop-core l = l.allowance - l.n

@@ -2,33 +2,25 @@ use mathlib.Core.Bool.{not}
 use mathlib.Core.Path.{ap, ◌∙◌}
 use Rattle.answers.proofs.Outcomes.{granted, denied}
 use Rattle.lists.specs.Table.{table}
-use Rattle.plan.specs.Reading.{Held}
 use Rattle.bench.proofs.SettlingLoop.{held-parts}
 use Rattle.bench.proofs.Tried.{not-held, misfits, finds}
-use Rattle.bench.proofs.trial.trials.Reads as reads
-use Rattle.bench.proofs.trial.trials.Tie as tie
-use Rattle.bench.proofs.trial.trials.Lts as lts
 use Rattle.bench.proofs.trial.trials.Goals as goal
-
--- past the first check
-held : (c : lts.Else1 tie.the-claims reads.Pre reads.Post) → Held c.args.plan
-held c = granted c.is_held.ensures (ap not c.if-not-is_held.false)
 
 pub returns-then-not-is_held : goal.returns-then-not-is_held
 returns-then-not-is_held c = not-held _ _ _ _ (denied c.is_held.ensures (ap not c.if-not-is_held.true))
 
 pub returns-then-not-fits : goal.returns-then-not-fits
-returns-then-not-fits c = misfits _ _ _ _ (held c.before.before) (denied c.fits2.ensures (ap not c.if-not-fits.true))
+returns-then-not-fits c = misfits _ _ _ _ (granted c.is_held.ensures (ap not c.if-not-is_held.false)) (denied c.fits.ensures (ap not c.if-not-fits.true))
 
 pub try_all-requires : goal.try_all-requires
 try_all-requires c =
-    let f = granted c.fits2.ensures (ap not c.if-not-fits.false) in
-    (held-parts _ c.peers_of.ensures (held c.before.before.before.before.before.before.before.before.before.before.before.before), f.0.0, c.fill.ensures ∙ ap (λ n. table n (λ _. 0)) f.0.1, f.1)
+    let f = granted c.fits.ensures (ap not c.if-not-fits.false) in
+    (held-parts _ c.peers_of.ensures (granted c.is_held.ensures (ap not c.if-not-is_held.false)), f.0.0, c.fill.ensures ∙ ap (λ n. table n (λ _. 0)) f.0.1, f.1)
 
 pub returns : goal.returns
 returns c =
     let b = c in
-    let f = granted c.fits2.ensures (ap not c.if-not-fits.false) in
-    finds _ _ _ _ (held c.before.before.before.before.before.before.before.before.before.before.before.before.before.before.before.before.before.before.before.before.before.before.before) c.peers_of.ensures f b.try_all.ensures.0
+    let f = granted c.fits.ensures (ap not c.if-not-fits.false) in
+    finds _ _ _ _ (granted c.is_held.ensures (ap not c.if-not-is_held.false)) c.peers_of.ensures f b.try_all.ensures.0
     (c.fill-2.ensures ∙ ap (λ n. table n (λ i. 0)) (b.try_all.auto.state ∙ f.0.0))
     b.try_all.ensures.1

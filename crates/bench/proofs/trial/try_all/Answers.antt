@@ -1,7 +1,6 @@
 use mathlib.Core.Path.{◌≡◌, sym, ap, subst, ◌∙◌}
-use mathlib.Core.Logic.{⊎_elim}
 use mathlib.Core.List.{List}
-use Prim.Native.Nat.{ℕ, ◌-◌, ◌/◌, ◌%◌}
+use Prim.Native.Nat.{ℕ, ◌/◌, ◌%◌}
 use native.Mathlib.Omega.{arith}
 use lib.ListN.{length, get_or, length-set}
 use Rattle.answers.specs.Ordered.{Condition, Ordered}
@@ -12,6 +11,7 @@ use Rattle.bench.specs.declared.trial.Tried.{Tried}
 use Rattle.bench.proofs.Tried.{is-foreign, found_none, found_all}
 use Rattle.bench.proofs.trial.try_all.Invariants.{goes_on}
 use Rattle.bench.proofs.trial.try_all.Goals as goal
+use Rattle.bench.proofs.trial.try_all.Goals.{then-tried-eq0, else-tried-eq0}
 
 as-tried : {plan : Plan} {d k : ℕ} {t u : Tried} → t ≡ u → Tries plan d k u.number u.rounds u.held → Tries plan d k t.number t.rounds t.held
 as-tried {plan} {d} {k} e x = subst (λ (t : Tried). Tries plan d k t.number t.rounds t.held) (sym e) x
@@ -45,10 +45,10 @@ loop-i-preserved c =
     let f = c.foreign.ensures in
     let e = c.refused-tried.ensures in
     let h = c.requires.0 in
-    ⊎_elim
-    (λ w. goes_on l.invariant (omega arith) (as-tried w.10 w.3.ensures.0) (ap length w.8 ∙ w.3.kept.1.1.1.0) (w.9 ∙ w.3.ensures.1))
-    (λ w. goes_on l.invariant (omega arith) (as-tried (w.3 ∙ e) (is-foreign _ h _ _ _ f (λ z. w.0.left (ap (λ (t : Tried). t.number) e ∙ z)))) (ap length w.1) (w.2 ∙ l.invariant.cleared))
-    c.if-tried-eq0.branch
+    elim c.if-tried-eq0.branch [
+      | then-tried-eq0 w ↦ goes_on l.invariant (omega arith) (as-tried w.tried-is w.attempt-tried.ensures.0) (ap length w.state-is ∙ w.attempt-tried.auto.state) (w.second-is ∙ w.attempt-tried.ensures.1)
+      | else-tried-eq0 w ↦ goes_on l.invariant (omega arith) (as-tried (w.tried-is ∙ e) (is-foreign _ h _ _ _ f (λ z. w.if-tried-eq0.false (ap (λ (t : Tried). t.number) e ∙ z)))) (ap length w.state-is) (w.second-is ∙ l.invariant.cleared)
+    ]
 
 pub shape_of-second : goal.shape_of-second
 shape_of-second c = ap length (c.loop-i.invariant.cleared ∙ sym c.requires.2)

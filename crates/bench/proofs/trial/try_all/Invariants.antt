@@ -26,7 +26,7 @@ goes_on v l t p q =
     record { within = omega arith; so_far = found-more v.so_far l t; long = p ∙ v.long; cleared = q }
 
 abbrev pub invariant-loop-i : goal.invariant-loop-i
-invariant-loop-i l = Going (record { l.core = l.core; l.peers = l.peers; l.barred = l.barred }) l.i l.state l.second l.found
+invariant-loop-i l = Going (record { core = l.core; peers = l.peers; barred = l.barred }) l.i l.state l.second l.found
 
 abbrev pub decreases-loop-i : goal.decreases-loop-i
 decreases-loop-i l = 1024 - l.i

@@ -1,4 +1,3 @@
-use Prim.Native.Nat.{◌-◌}
 use Rattle.mend.proofs.Claimed.{claimed-none, claimed-more, claimed-all}
 use Rattle.mend.proofs.claims.claimants.Goals as goal
 

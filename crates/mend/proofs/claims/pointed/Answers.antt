@@ -1,4 +1,3 @@
-use Prim.Native.Nat.{◌-◌}
 use native.Mathlib.Omega.{arith}
 use Rattle.lists.proofs.Filled.{filled_none, filled_more, filled-whole}
 use Rattle.mend.specs.Inner.Steps.{pointed_all}

@@ -10,12 +10,13 @@ returns-then-mark-eq0 c = let a = c.args in looser (same_word (nothing _ _) (mar
 pub put_ports-requires : goal.put_ports-requires
 unfolding ascii
 put_ports-requires c =
-    let start = c in
-    ((start.requires.0.0, room-behind (within (block-short start.args.d start.requires.0.0) c.put_headed-ports.ensures) 80 start.requires.0.1), start.requires.1)
+    record {
+      d_bound = (c.requires.d_bound.0, room-behind (within (block-short c.args.d c.requires.d_bound.0) c.put_headed-ports.ensures) 80 c.requires.d_bound.1);
+      by_index = c.requires.by_index;
+    }
 
 pub returns : goal.returns
 unfolding ascii
 returns c =
-    let start = c in
-    let a = start.args in
-    same_word (both (within (block-short a.d start.requires.0.0) c.put_headed-ports.ensures) 80 start.requires.0.1 c.put_ports.ensures) (marked-some a.mark a.claimants.now a.d c.if-mark-eq0.false)
+    let a = c.args in
+    same_word (both (within (block-short a.d c.requires.d_bound.0) c.put_headed-ports.ensures) 80 c.requires.d_bound.1 c.put_ports.ensures) (marked-some a.mark a.claimants.now a.d c.if-mark-eq0.false)

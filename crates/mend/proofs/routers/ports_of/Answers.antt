@@ -1,8 +1,7 @@
 use mathlib.Core.Path.{◌≡◌, refl, ap}
-use mathlib.Core.Bool.{true}
-use Prim.Native.Nat.{ℕ, ◌+◌, ◌-◌}
+use Prim.Native.Nat.{ℕ, ◌+◌}
 use native.Mathlib.Omega.{arith}
-use Rattle.plan.specs.File.{at}
+use Rattle.plan.specs.Inner.Memory.{at}
 use Rattle.mend.specs.Claims.{last}
 use Rattle.mend.specs.Inner.Steps.{ports_in}
 use Rattle.mend.proofs.routers.ports_of.Invariants.{highest-more}

@@ -5,7 +5,7 @@ use native.Mathlib.Numerals.{add-one}
 use native.Mathlib.Omega.{arith}
 use lib.Dec.{eqb}
 use Rattle.plan.specs.Fields.{nobody}
-use Rattle.plan.specs.File.{at}
+use Rattle.plan.specs.Inner.Memory.{at}
 use Rattle.mend.specs.Claims.{last}
 use Rattle.mend.proofs.routers.ports_of.Given as goal
 

@@ -1,5 +1,5 @@
 use Prim.Native.Nat.{◌+◌, ◌*◌, ◌-◌}
-use Rattle.plan.specs.File.{at}
+use Rattle.plan.specs.Inner.Memory.{at}
 use Rattle.lists.proofs.Filled.{Filled}
 use Rattle.mend.proofs.routers.row.Given as goal
 

@@ -18,9 +18,6 @@ use Rattle.plan.proofs.Connections.{block, block-every}
 use Rattle.plan.proofs.Owned.{owned}
 use Rattle.plan.proofs.BothWays.{right-held, held-right}
 use Rattle.plan.proofs.Shape.{Shaped}
-use Rattle.plan.proofs.held.is_held.Reads as reads
-use Rattle.plan.proofs.held.is_held.Tie as tie
-use Rattle.plan.proofs.held.is_held.Lts as lts
 use Rattle.plan.proofs.held.is_held.Goals as goal
 
 module _ (plan : Plan) where
@@ -60,54 +57,40 @@ module _ (plan : Plan) where
       → found ≡ sources_fit plan.core.events (at plan.core.source) (min n 32) → all_sources ≡ found
   all-sources found f b = let m : min n 32 ≡ n = omega (arith, few f) in sym (b ∙ ap (sources_fit plan.core.events (at plan.core.source)) m)
 
--- what is known of the parameter, and what the first test says
-shape : (c : lts.Start tie.the-claims reads.Pre reads.Post) → Shaped c.args.plan
-shape c = owned c.args.plan _ c.well_formed.0
+-- what the first test says
+header : (plan : Plan) {b : Bool} → b ≡ header_fits (header_of plan.core) → {a : Bool} → b ≡ a → header_fits (header_of plan.core) ≡ a
+header plan e t = sym e ∙ t
 
-header : (c : lts.After-header_fits tie.the-claims reads.Pre reads.Post) {b : Bool} → c.header_fits.result ≡ b → header_fits (header_of c.args.plan.core) ≡ b
-header c e = sym (c.header_fits.ensures ∙ ap header_fits c.header_of.ensures) ∙ e
+-- what the second one says, of the peers that are looked at
+rows : (plan : Plan) (peers : List (List ℕ)) → peers ≡ plan.peers → {b a : Bool} → b ≡ every 32 (row_right plan.core peers plan.barred) → b ≡ a → rows_right plan ≡ a
+rows plan peers same e t = ap (λ (xs : List (List ℕ)). every 32 (row_right plan.core xs plan.barred)) (sym same) ∙ sym e ∙ t
 
 pub returns-then-not-header_fits : goal.returns-then-not-header_fits
-returns-then-not-header_fits c = decided _ (shape c.before.before.before.before) false _ _ _ (header c.before c.if-not-header_fits.true) refl refl refl
+returns-then-not-header_fits c =
+    let p = c.args.plan in
+    decided _ (owned p _ c.well_formed.0) false _ _ _ (header p (c.header_fits.ensures ∙ ap header_fits c.header_of.ensures) c.if-not-header_fits.true) refl refl refl
 
 pub rows_right-requires : goal.rows_right-requires
 rows_right-requires c =
-    let e = c in
-    let start = e in
-    (few start.args.plan (header c.before.before.before.before e.if-not-header_fits.false), (shape c.before.before.before.before.before.before.before).barred.long)
+    let p = c.args.plan in
+    (few p (header p (c.header_fits.ensures ∙ ap header_fits c.header_of.ensures) c.if-not-header_fits.false), (owned p _ c.well_formed.0).barred.long)
 
 pub returns-then-not-rows_right : goal.returns-then-not-rows_right
 returns-then-not-rows_right c =
-    let e = c in
-    let plan = e.args.plan in
-    let rows : rows_right plan ≡ false =
-    ap (λ peers. every 32 (row_right plan.core peers plan.barred)) (sym c.peers_of-peers.ensures) ∙ sym c.rows_right.ensures ∙ c.if-not-rows_right.true in
-    decided plan (shape c.before.before.before.before.before.before.before.before.before) true false _ _ (header c.before.before.before.before.before.before e.if-not-header_fits.false) rows refl refl
-
--- the first two tests were passed, and this is what the third one says
-module _ (c : lts.After-bad_block tie.the-claims reads.Pre reads.Post) where
-  abbrev start : lts.After-header_fits tie.the-claims reads.Pre reads.Post
-  start = c.before.before.before.before.before.before.before.before.before.before.before.before.before
-
-  abbrev whole : Plan
-  whole = start.before.before.before.args.plan
-
-  fits : header_fits (header_of whole.core) ≡ true
-  fits = header start c.if-not-header_fits.false
-
-  rows : rows_right whole ≡ true
-  rows = ap (λ peers. every 32 (row_right whole.core peers whole.barred)) (sym c.peers_of-peers.ensures) ∙ sym c.rows_right.ensures ∙ c.if-not-rows_right.false
-
-  joined : all_join whole ≡ eqb c.bad_block.result 0
-  joined = all_join_lem whole c _ c.peers_of-peers.ensures fits c.bad_block.ensures
+    let p = c.args.plan in
+    decided p (owned p _ c.well_formed.0) true false _ _ (header p (c.header_fits.ensures ∙ ap header_fits c.header_of.ensures) c.if-not-header_fits.false)
+    (rows p _ c.peers_of-peers.ensures c.rows_right.ensures c.if-not-rows_right.true) refl refl
 
 pub returns-then-bad_block-ne0 : goal.returns-then-bad_block-ne0
 returns-then-bad_block-ne0 c =
-    let b = c in
-    decided (whole c.before) (shape (start c.before).before.before.before) true true false _ (fits c.before) (rows c.before) (joined c.before ∙ ne_eqb _ _ c.if-bad_block-ne0.true) refl
+    let p = c.args.plan in
+    let fits = header p (c.header_fits.ensures ∙ ap header_fits c.header_of.ensures) c.if-not-header_fits.false in
+    decided p (owned p _ c.well_formed.0) true true false _ fits (rows p _ c.peers_of-peers.ensures c.rows_right.ensures c.if-not-rows_right.false)
+    (all_join_lem p _ _ c.peers_of-peers.ensures fits c.bad_block.ensures ∙ ne_eqb _ _ c.if-bad_block-ne0.true) refl
 
 pub returns : goal.returns
 returns c =
-    let b = c in
-    decided (whole c.before.before.before) (shape (start c.before.before.before).before.before.before) true true true _ (fits c.before.before.before) (rows c.before.before.before) (joined c.before.before.before ∙ eq-eqb _ _ c.if-bad_block-ne0.false)
-    (all-sources (whole c.before.before.before) _ (fits c.before.before.before) c.sources_fit.ensures)
+    let p = c.args.plan in
+    let fits = header p (c.header_fits.ensures ∙ ap header_fits c.header_of.ensures) c.if-not-header_fits.false in
+    decided p (owned p _ c.well_formed.0) true true true _ fits (rows p _ c.peers_of-peers.ensures c.rows_right.ensures c.if-not-rows_right.false)
+    (all_join_lem p _ _ c.peers_of-peers.ensures fits c.bad_block.ensures ∙ eq-eqb _ _ c.if-bad_block-ne0.false) (all-sources p _ fits c.sources_fit.ensures)

@@ -1,12 +1,8 @@
 -- `plan::held::ports_right` meets its contract. The invariant: the ports before p are right. Assumes nothing.
 use mathlib.Core.Path.{sym, ◌∙◌}
-use mathlib.Core.Bool.{true}
-use mathlib.Core.List.{[]}
-use Prim.Native.Nat.{◌-◌}
 use native.Mathlib.Omega.{arith}
 use borrow.Author.Count.{below_none, below_more}
 use Rattle.lists.proofs.Tests.{every-all, every-not}
-use Rattle.plan.specs.Inner.Memory.{port_right}
 use Rattle.plan.proofs.held.ports_right.Goals as goal
 
 pub loop-p-init : goal.loop-p-init

@@ -1,12 +1,8 @@
 -- `plan::joins::bad_block` meets its contract. The outer invariant: the connections of the devices before d point back; the inner one:
 -- those of the ports before p do. Assumes nothing.
 use mathlib.Core.Path.{sym, ◌∙◌}
-use mathlib.Core.Bool.{true}
-use mathlib.Core.List.{[]}
-use Prim.Native.Nat.{◌-◌}
 use native.Mathlib.Omega.{arith}
 use borrow.Author.Count.{below_none, below_more}
-use Rattle.plan.specs.Fields.{joins}
 use Rattle.plan.proofs.Connections.{passed-next, block_none, block-bad}
 use Rattle.plan.proofs.joins.bad_block.Goals as goal
 

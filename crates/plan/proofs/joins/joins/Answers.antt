@@ -5,7 +5,6 @@ use Prim.Native.Nat.{ℕ, ◌+◌, ◌*◌, ◌/◌, ◌%◌, ◌<◌}
 use native.Mathlib.Omega.{arith}
 use lib.Dec.{eqb}
 use lib.ListN.{get_or, get_or-eq_default}
-use borrow.Author.Rules.{zero≤}
 use borrow.Author.Tests.{eq-eqb, ne_eqb, lt-ltb, le-ltb}
 use Rattle.plan.specs.Fields.{joins as fields_joins}
 use Rattle.plan.proofs.joins.joins.Goals as goal
@@ -26,7 +25,7 @@ returns-then-q-gt256 c =
     let w = c.wide16-q in
     let all = c.args.ports.now in
     let none : get_or all (w.result / 8) 0 ≡ 0 = get_or-eq_default all 0 (omega arith) in
-    simp (← w.ensures.0, ne_eqb _ _ c.if-q-eq256.false, none, le-ltb (w.result % 8) 0 zero≤)
+    simp (← w.ensures.0, ne_eqb _ _ c.if-q-eq256.false, none, le-ltb (w.result % 8) 0 (omega arith))
 
 pub returns-then-wide-far : goal.returns-then-wide-far
 unfolding fields_joins

@@ -2,7 +2,7 @@
 -- with a mask exactly where each of theirs does. Assumes nothing.
 use mathlib.Core.Path.{◌≡◌, sym}
 use mathlib.Core.Bool.{true, false}
-use Prim.Native.Nat.{ℕ, ◌-◌}
+use Prim.Native.Nat.{ℕ}
 use native.Mathlib.Omega.{arith}
 use lib.Bits.{bit_and}
 use borrow.Author.Tests.{eq-eqb, ne_eqb}

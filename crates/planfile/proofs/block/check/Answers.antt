@@ -4,6 +4,7 @@ use Prim.Native.Nat.{ℕ, suc, ◌+◌, ◌-◌, ◌%◌}
 use native.Mathlib.Omega.{arith}
 use Rattle.plan.specs.Block.{check}
 use Rattle.planfile.proofs.Running.{running, running-weighted}
+use Rattle.planfile.proofs.block.check.Invariants.{down}
 use Rattle.planfile.proofs.block.check.Goals as goal
 
 pub loop-i-init : goal.loop-i-init

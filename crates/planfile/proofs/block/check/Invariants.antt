@@ -18,7 +18,7 @@ pub record Runs (block : List ℕ) (i sum sums own : ℕ) : Type 0 where
   pub own-fits : own ≤ 765 * (510 - i)
 
 -- a pair more
-down :
+pub down :
     {s : List ℕ} {i sum sums own high low : ℕ} → Runs s (suc (suc i)) sum sums own → high ≡ byte s (suc i) → high < 256 → low ≡ byte s i → low < 256 →
     Runs s i (sum + (high + low)) (sums + sum) (own + (high + (high + low)))
 unfolding running

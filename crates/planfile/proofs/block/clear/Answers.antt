@@ -1,7 +1,6 @@
 use native.Mathlib.Omega.{arith}
-use Prim.Native.Nat.{◌-◌}
 use Rattle.areas.proofs.Written.{none, turn, done}
-use Rattle.plan.specs.File.{cleared}
+use Rattle.plan.specs.Inner.File.{cleared}
 use Rattle.planfile.proofs.block.clear.Goals as goal
 
 pub loop-i-init : goal.loop-i-init

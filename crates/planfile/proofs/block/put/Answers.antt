@@ -4,7 +4,7 @@ use mathlib.Core.List.{List}
 use Prim.Native.Nat.{ℕ, ◌-◌, ◌≤◌}
 use native.Mathlib.Nat.{add-zero}
 use native.Mathlib.Omega.{arith}
-use Rattle.plan.specs.File.{put_number}
+use Rattle.plan.specs.Inner.File.{put_number}
 use Rattle.planfile.proofs.block.put.Invariants.{Putting, turn}
 use Rattle.planfile.proofs.block.put.Goals as goal
 

@@ -5,7 +5,7 @@ use Prim.Native.Nat.{ℕ, suc, ◌+◌, ◌-◌, ◌%◌, ◌/◌, ◌≤◌, �
 use native.Mathlib.Nat.{add_assoc}
 use native.Mathlib.Omega.{arith}
 use lib.ListN.{length, set, length-set}
-use Rattle.plan.specs.File.{put_number}
+use Rattle.plan.specs.Inner.File.{put_number}
 use Rattle.planfile.proofs.block.put.Given as goal
 
 pub record Putting (before : List ℕ) (i width n : ℕ) (b : List ℕ) (left j : ℕ) : Type 0 where

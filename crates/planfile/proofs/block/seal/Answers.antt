@@ -1,4 +1,4 @@
-use Rattle.plan.specs.File.{sealed}
+use Rattle.plan.specs.Inner.File.{sealed}
 use Rattle.planfile.proofs.block.seal.Goals as goal
 
 pub returns : goal.returns

@@ -1,42 +1,39 @@
 use mathlib.Core.Path.{◌≡◌, ap}
+use mathlib.Core.List.{List}
+use Prim.Native.Nat.{ℕ}
 use native.Mathlib.Omega.{arith}
+use lib.ListN.{take}
 use Rattle.plan.specs.Block.{block}
 use Rattle.plan.specs.Refusals.{count_in}
-use Rattle.plan.specs.Header.{header_in, same-header}
+use Rattle.plan.specs.Header.{header_in, SameHeader, same-header}
 use Rattle.plan.specs.declared.Header.{Header}
 use Rattle.planfile.proofs.Plans.{core-of}
-use Rattle.planfile.proofs.build.core_of.Reads as reads
-use Rattle.planfile.proofs.build.core_of.Tie as tie
-use Rattle.planfile.proofs.build.core_of.Lts as lts
 use Rattle.planfile.proofs.build.core_of.Goals as goal
 
 -- what was read of block 0
-header : (c : lts.After-read tie.the-claims reads.Pre reads.Post) → c.read-header.result ≡ header_in (block c.args.file.now 0)
+header : (file : List ℕ) {h : Header} → SameHeader h (header_in (take 512 file)) → h ≡ header_in (block file 0)
 unfolding block
-header c = same-header c.read-header.ensures
+header file h = same-header h
 
-counted : (c : lts.After-read tie.the-claims reads.Pre reads.Post) → c.read-header.result.devices ≡ count_in c.args.file.now
-counted c = ap (λ (h : Header). h.devices) (header c)
+counted : (file : List ℕ) {h : Header} → SameHeader h (header_in (take 512 file)) → h.devices ≡ count_in file
+counted file h = ap (λ (h : Header). h.devices) (header file h)
 
 pub column-role-requires : goal.column-role-requires
-column-role-requires c = let e = counted c in (omega arith, omega arith, omega arith)
+column-role-requires c = let e = counted c.args.file.now c.read-header.ensures in (omega arith, omega arith, omega arith)
 
 pub column-ports-requires : goal.column-ports-requires
-column-ports-requires c = let e = counted c.before in (omega arith, omega arith, omega arith)
+column-ports-requires c = let e = counted c.args.file.now c.read-header.ensures in (omega arith, omega arith, omega arith)
 
 pub masks-source-requires : goal.masks-source-requires
-masks-source-requires c = let e = counted c.before.before in (omega arith, omega arith, omega arith)
+masks-source-requires c = let e = counted c.args.file.now c.read-header.ensures in (omega arith, omega arith, omega arith)
 
 pub masks-handler-requires : goal.masks-handler-requires
-masks-handler-requires c = let e = counted c.before.before.before in (omega arith, omega arith, omega arith)
+masks-handler-requires c = let e = counted c.args.file.now c.read-header.ensures in (omega arith, omega arith, omega arith)
 
 pub permissions-permissions-requires : goal.permissions-permissions-requires
-permissions-permissions-requires c = let e = counted c.before.before.before.before in (omega arith, omega arith, e)
+permissions-permissions-requires c = let e = counted c.args.file.now c.read-header.ensures in (omega arith, omega arith, e)
 
 pub returns : goal.returns
 returns c =
-    let p = c in
-    let m = p in
-    let r = m in
-    core-of _ (header c.before.before.before.before.before.before) r.column-role.ensures m.column-ports.ensures m.masks-source.ensures m.masks-handler.ensures p.permissions-permissions.ensures
+    core-of _ (header _ c.read-header.ensures) c.column-role.ensures c.column-ports.ensures c.masks-source.ensures c.masks-handler.ensures c.permissions-permissions.ensures
     c.core_with.ensures

@@ -1,10 +1,8 @@
 use mathlib.Core.Path.{ap}
 use mathlib.Core.Bool.{not}
 use mathlib.Core.Path.{sym}
-use Prim.Native.Nat.{◌-◌}
 use native.Mathlib.Omega.{arith}
 use Rattle.lists.proofs.Tests.{every-not}
-use Rattle.plan.specs.Fields.{entry_fits}
 use Rattle.lists.proofs.Turns.{passed_none, passed-more, passed-all, failed, passed}
 use Rattle.planfile.proofs.device.entries_fit.Goals as goal
 

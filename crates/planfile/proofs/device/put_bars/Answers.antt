@@ -1,5 +1,4 @@
 -- `planfile::device::put_bars` meets its contract. The invariant: the first j masks are put. Assumes nothing.
-use Prim.Native.Nat.{◌-◌}
 use native.Mathlib.Omega.{arith}
 use Rattle.planfile.proofs.Entered.{none, turn, done}
 use Rattle.planfile.proofs.device.put_bars.Goals as goal

@@ -1,6 +1,6 @@
 -- `planfile::device::put_bars` meets its contract. The invariant: the first j masks are put. Assumes nothing.
 use Prim.Native.Nat.{◌+◌, ◌-◌, ◌*◌}
-use Rattle.plan.specs.File.{bar_holdings}
+use Rattle.plan.specs.Inner.File.{bar_holdings}
 use Rattle.plan.specs.Inner.Memory.{at}
 use Rattle.planfile.proofs.Entered.{Entered}
 use Rattle.planfile.proofs.device.put_bars.Given as goal

@@ -6,7 +6,7 @@ use native.Mathlib.Omega.{arith}
 use lib.Dec.{ltb}
 use lib.ListN.{length}
 use borrow.Author.Tests.{lt-ltb, le-ltb, eq-eqb, ne_eqb}
-use Rattle.plan.specs.File.{block_of, device_holdings}
+use Rattle.plan.specs.Inner.File.{block_of, device_holdings}
 use Rattle.plan.specs.declared.Core.{Core}
 use Rattle.planfile.specs.Parts.{device_put}
 use Rattle.planfile.proofs.device.put_device.Goals as goal

@@ -1,5 +1,4 @@
 -- `planfile::device::put_entries` meets its contract. The invariant: the entries of the first p ports are put. Assumes nothing.
-use Prim.Native.Nat.{◌-◌}
 use native.Mathlib.Omega.{arith}
 use Rattle.planfile.proofs.Entered.{none, turn, done}
 use Rattle.planfile.proofs.device.put_entries.Goals as goal

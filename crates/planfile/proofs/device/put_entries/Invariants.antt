@@ -1,7 +1,7 @@
 -- `planfile::device::put_entries` meets its contract. The invariant: the entries of the first p ports are put. Assumes nothing.
 use mathlib.Core.List.{List}
 use Prim.Native.Nat.{ℕ, ◌+◌, ◌-◌, ◌*◌}
-use Rattle.plan.specs.File.{Holding, entry_holdings}
+use Rattle.plan.specs.Inner.File.{Holding, entry_holdings}
 use Rattle.plan.specs.Inner.Memory.{at, peer_at}
 use Rattle.planfile.proofs.Entered.{Entered}
 use Rattle.planfile.proofs.device.put_entries.Given as goal

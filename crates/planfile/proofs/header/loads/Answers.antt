@@ -1,7 +1,7 @@
 -- `planfile::header::loads` meets its contract. The invariant: the common loads and the first k pairs stand where they have to. Assumes nothing.
 use mathlib.Core.Path.{◌≡◌, refl, sym, ◌∙◌}
 use mathlib.Core.List.{List}
-use Prim.Native.Nat.{ℕ, ◌+◌, ◌-◌, ◌*◌, ◌<◌}
+use Prim.Native.Nat.{ℕ, ◌+◌, ◌*◌, ◌<◌}
 use native.Mathlib.Omega.{arith}
 use Rattle.lists.proofs.Filled.{filled_none, filled_more, filled-whole}
 use Rattle.lists.proofs.Tables.{is-table}

@@ -2,7 +2,7 @@ use mathlib.Core.Path.{◌≡◌, ap, ap₂, ◌∙◌}
 use mathlib.Core.List.{List, [], ◌∷◌}
 use Prim.Native.Nat.{ℕ, ◌+◌, ◌*◌}
 use Rattle.plan.specs.Header.{pair_fields}
-use Rattle.plan.specs.File.{put_number, holdings, filled, pair_holdings}
+use Rattle.plan.specs.Inner.File.{put_number, holdings, filled, pair_holdings}
 use Rattle.plan.specs.Inner.Memory.{at}
 use Rattle.plan.proofs.Loads.{node_at, router-at}
 use Rattle.planfile.proofs.header.put_pair.Goals as goal

@@ -1,5 +1,4 @@
 -- `planfile::header::put_pairs` meets its contract. The invariant: the first k pairs are put. Assumes nothing.
-use Prim.Native.Nat.{◌-◌}
 use native.Mathlib.Omega.{arith}
 use Rattle.planfile.proofs.Entered.{none, turn, done}
 use Rattle.planfile.proofs.header.put_pairs.Goals as goal

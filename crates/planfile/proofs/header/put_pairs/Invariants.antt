@@ -1,6 +1,6 @@
 -- `planfile::header::put_pairs` meets its contract. The invariant: the first k pairs are put. Assumes nothing.
 use Prim.Native.Nat.{◌-◌}
-use Rattle.plan.specs.File.{pair_holdings}
+use Rattle.plan.specs.Inner.File.{pair_holdings}
 use Rattle.planfile.proofs.Entered.{Entered}
 use Rattle.planfile.proofs.header.put_pairs.Given as goal
 

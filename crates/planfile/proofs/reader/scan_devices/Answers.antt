@@ -1,4 +1,3 @@
-use Prim.Native.Nat.{◌-◌}
 use native.Mathlib.Omega.{arith}
 use Rattle.planfile.proofs.Scans.{stops-device, scanned-more, scanned-all}
 use Rattle.planfile.proofs.reader.scan_devices.Goals as goal

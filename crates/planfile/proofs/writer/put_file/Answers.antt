@@ -1,9 +1,8 @@
 use mathlib.Core.Path.{refl, ap, ◌∙◌}
-use Prim.Native.Nat.{◌-◌}
 use native.Mathlib.Omega.{arith}
 use lib.ListN.{length-take, length-drop}
 use borrow.Author.Rules.{rules}
-use Rattle.plan.specs.File.{block_of, header_holdings}
+use Rattle.plan.specs.Inner.File.{block_of, header_holdings}
 use Rattle.plan.specs.declared.Header.{Header}
 use Rattle.planfile.proofs.WrittenBlocks.{first_block, next-block, whole-file}
 use Rattle.planfile.proofs.writer.put_file.Goals as goal

@@ -2,7 +2,7 @@ use mathlib.Core.Path.{ap, ◌∙◌}
 use mathlib.Core.List.{List}
 use Prim.Native.Nat.{ℕ}
 use native.Mathlib.Omega.{arith}
-use Rattle.plan.specs.File.{file_of}
+use Rattle.plan.specs.Inner.File.{file_of}
 use Rattle.plan.proofs.BothWays.{written-and-read, held-devices}
 use Rattle.planfile.proofs.WriterAnswers.{refused, misfit, done}
 use Rattle.planfile.proofs.writer.write.Goals as goal

@@ -12,9 +12,6 @@ use Rattle.plan.specs.Fields.{nobody}
 use Rattle.state.specs.State.{State, word, running}
 use Rattle.state.specs.Network.{peer_in}
 use Rattle.reach.specs.Visits.{ahead}
-use Rattle.reach.proofs.visits.ahead.Reads as reads
-use Rattle.reach.proofs.visits.ahead.Tie as tie
-use Rattle.reach.proofs.visits.ahead.Lts as lts
 use Rattle.reach.proofs.visits.ahead.Goals as goal
 
 -- by the answers to the five tests; those after one that fails do not matter
@@ -28,58 +25,35 @@ answered permissions peers barred s k q far e a b c d f runs may joined takes ad
 is : {test answer b : Bool} → answer ≡ test → answer ≡ b → test ≡ b
 is e t = sym e ∙ t
 
--- what is known behind each test that is passed
-runs : (c : lts.Else1 tie.the-claims reads.Pre reads.Post) → let a = c.args in eqb (running a.state.now a.q) 1 ≡ true
-unfolding word
-runs c = is c.runs.ensures c.if-not-runs.false
-
-sends : (c : lts.Else2 tie.the-claims reads.Pre reads.Post) → let a = c.args in may_send 0 (get_or a.permissions.now a.q 0) ≡ true
-sends c = is c.may_send.ensures c.if-not-may_send.false
-
-joined : (c : lts.Else3 tie.the-claims reads.Pre reads.Post) → ltb c.wide16-far.result nobody ≡ true
-joined c = lt-ltb _ _ c.if-far-ge-NOBODY.false
-
-takes : (c : lts.Else4 tie.the-claims reads.Pre reads.Post) → let g = c in
-    may_receive 0 (get_or g.args.permissions.now g.wide16-far.result 0) ≡ true
-takes c = is c.may_receive.ensures c.if-not-may_receive.false
-
 pub returns-then-not-runs : goal.returns-then-not-runs
 unfolding word
 returns-then-not-runs c = answered _ _ _ _ _ _ _ refl false _ _ _ _ (is c.runs.ensures c.if-not-runs.true) refl refl refl refl
 
 pub returns-then-not-may_send : goal.returns-then-not-may_send
+unfolding word
 returns-then-not-may_send c =
-    let e = c in
-    answered _ _ _ _ _ _ _ refl true false _ _ _ (runs c.before.before.before.before) (is c.may_send.ensures c.if-not-may_send.true) refl refl refl
+    answered _ _ _ _ _ _ _ refl true false _ _ _ (is c.runs.ensures c.if-not-runs.false) (is c.may_send.ensures c.if-not-may_send.true) refl refl refl
 
 pub returns-then-far-ge-NOBODY : goal.returns-then-far-ge-NOBODY
+unfolding word
 returns-then-far-ge-NOBODY c =
-    let f = c in
-    let e = f in
-    answered _ _ _ _ _ _ _ c.wide16-far.ensures.0 true true false _ _ (runs c.before.before.before.before.before.before.before) (sends c.before.before.before) (le-ltb _ _ c.if-far-ge-NOBODY.true) refl refl
+    answered _ _ _ _ _ _ _ c.wide16-far.ensures.0 true true false _ _ (is c.runs.ensures c.if-not-runs.false) (is c.may_send.ensures c.if-not-may_send.false)
+    (le-ltb _ _ c.if-far-ge-NOBODY.true) refl refl
 
 pub returns-then-not-may_receive : goal.returns-then-not-may_receive
+unfolding word
 returns-then-not-may_receive c =
-    let g = c in
-    let f = g in
-    let e = f in
-    answered _ _ _ _ _ _ _ g.wide16-far.ensures.0 true true true false _ (runs c.before.before.before.before.before.before.before.before.before.before) (sends c.before.before.before.before.before.before) (joined c.before.before.before)
-    (is c.may_receive.ensures c.if-not-may_receive.true) refl
+    answered _ _ _ _ _ _ _ c.wide16-far.ensures.0 true true true false _ (is c.runs.ensures c.if-not-runs.false) (is c.may_send.ensures c.if-not-may_send.false)
+    (lt-ltb _ _ c.if-far-ge-NOBODY.false) (is c.may_receive.ensures c.if-not-may_receive.true) refl
 
 pub returns-then-get-ne0 : goal.returns-then-get-ne0
+unfolding word
 returns-then-get-ne0 c =
-    let h = c in
-    let g = h in
-    let f = g in
-    let e = f in
-    answered _ _ _ _ _ _ _ g.wide16-far.ensures.0 true true true true false (runs c.before.before.before.before.before.before.before.before.before.before.before.before.before.before) (sends c.before.before.before.before.before.before.before.before.before.before) (joined c.before.before.before.before.before.before.before) (takes c.before.before.before.before)
-    (ne_eqb _ 0 (λ z. c.if-get-ne0.true (c.get.ensures ∙ z)))
+    answered _ _ _ _ _ _ _ c.wide16-far.ensures.0 true true true true false (is c.runs.ensures c.if-not-runs.false) (is c.may_send.ensures c.if-not-may_send.false)
+    (lt-ltb _ _ c.if-far-ge-NOBODY.false) (is c.may_receive.ensures c.if-not-may_receive.false) (ne_eqb _ 0 (λ z. c.if-get-ne0.true (c.get.ensures ∙ z)))
 
 pub returns : goal.returns
+unfolding word
 returns c =
-    let h = c in
-    let g = h in
-    let f = g in
-    let e = f in
-    answered _ _ _ _ _ _ _ g.wide16-far.ensures.0 true true true true true (runs c.before.before.before.before.before.before.before.before.before.before.before.before.before.before) (sends c.before.before.before.before.before.before.before.before.before.before) (joined c.before.before.before.before.before.before.before) (takes c.before.before.before.before)
-    (eq-eqb _ 0 (sym c.get.ensures ∙ c.if-get-ne0.false))
+    answered _ _ _ _ _ _ _ c.wide16-far.ensures.0 true true true true true (is c.runs.ensures c.if-not-runs.false) (is c.may_send.ensures c.if-not-may_send.false)
+    (lt-ltb _ _ c.if-far-ge-NOBODY.false) (is c.may_receive.ensures c.if-not-may_receive.false) (eq-eqb _ 0 (sym c.get.ensures ∙ c.if-get-ne0.false))

@@ -44,8 +44,3 @@ shape_of-text c = same_size c.loop-i.invariant.within.put
 
 pub returns : goal.returns
 returns c = lined-all c.loop-i.invariant (omega arith)
-
--- LOST
--- index-1-wide16 : tie.Need-bounds-1-wide16 invariant-loop decreases-loop
--- index-1-wide16 c = omega (arith, c.before.before.before.before.before.requires.1 c.before.before.loop.i (omega arith))
--- 

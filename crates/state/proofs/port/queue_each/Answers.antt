@@ -1,7 +1,7 @@
 use mathlib.Core.Path.{◌≡◌, ap, ◌∙◌}
 use mathlib.Core.List.{List}
 use mathlib.Core.Logic.{◌⊎◌, inl, inr, ⊎_elim}
-use Prim.Native.Nat.{ℕ, ◌+◌, ◌-◌, ◌*◌, ◌<◌}
+use Prim.Native.Nat.{ℕ, ◌+◌, ◌*◌, ◌<◌}
 use native.Mathlib.Omega.{arith}
 use lib.ListN.{length, get_or}
 use borrow.Author.Tests.{eq-eqb, ne_eqb}
@@ -10,6 +10,7 @@ use Rattle.state.specs.Queue.{queue_at, queue_but, queue_all_at}
 use Rattle.state.proofs.Queues.{length-but}
 use Rattle.state.proofs.port.queue_each.Invariants.{Queued}
 use Rattle.state.proofs.port.queue_each.Goals as goal
+use Rattle.state.proofs.port.queue_each.Goals.{then-q-but, else-q-but}
 
 -- the port was queued at, or is the one left out
 again : (permissions : List ℕ) (kind k d but p : ℕ) (s₀ s t : List ℕ) → Queued permissions kind k d but s₀ s p → p < 8
@@ -27,7 +28,7 @@ loop-p-preserved c =
     let a = c.args in
     let l = c.loop-p in
     again a.permissions.now a.kind a.k a.d a.but l.p a.state.now l.state c.if-q-but.state l.invariant c.loop-p-test.true
-    (⊎_elim (λ w. inl (w.0.taken, w.6 ∙ w.3.ensures)) (λ w. inr (w.0.left, w.1)) c.if-q-but.branch)
+    (elim c.if-q-but.branch [ then-q-but w ↦ inl (w.if-q-but.true, w.state-is ∙ w.queue.ensures) | else-q-but w ↦ inr (w.if-q-but.false, w.state-is) ])
 
 pub returns : goal.returns
 unfolding queue_all_at

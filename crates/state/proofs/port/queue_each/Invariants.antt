@@ -2,7 +2,7 @@ use mathlib.Core.Path.{◌≡◌}
 use mathlib.Core.List.{List}
 use Prim.Native.Nat.{ℕ, ◌-◌}
 use lib.ListN.{length}
-use Rattle.lists.proofs.Loops.{After, turn}
+use Rattle.lists.proofs.Loops.{After}
 use Rattle.state.specs.State.{words}
 use Rattle.state.specs.Queue.{queue_but}
 use Rattle.state.proofs.port.queue_each.Given as goal

@@ -2,7 +2,7 @@
 use mathlib.Core.Path.{◌≡◌, sym, ap, ◌∙◌}
 use mathlib.Core.List.{List}
 use mathlib.Core.Logic.{◌⊎◌, inl, inr, ⊎_elim}
-use Prim.Native.Nat.{ℕ, ◌+◌, ◌-◌, ◌*◌, ◌<◌}
+use Prim.Native.Nat.{ℕ, ◌+◌, ◌*◌, ◌<◌}
 use native.Mathlib.Omega.{arith}
 use lib.ListN.{length}
 use borrow.Author.Rules.{rules}
@@ -12,6 +12,7 @@ use Rattle.state.specs.Queue.{queue_time, queue_time_but, queue_time_all}
 use Rattle.state.proofs.Times.{length-time-but, timed-in, timed-not}
 use Rattle.state.proofs.port.queue_time.Invariants.{Queued}
 use Rattle.state.proofs.port.queue_time.Goals as goal
+use Rattle.state.proofs.port.queue_time.Goals.{then-q-but, else-q-but}
 
 -- the Time-Code waits at the port, or the port is the one left out
 again : (v d but p : ℕ) (s₀ s t : List ℕ) → Queued v d but s₀ s p → p < 8
@@ -34,7 +35,7 @@ loop-p-preserved c =
     let a = c.args in
     let l = c.loop-p in
     again a.v a.d a.but l.p a.state.now l.state c.if-q-but.state l.invariant c.loop-p-test.true
-    (⊎_elim (λ w. inl (w.0.taken, w.5 ∙ w.2.ensures)) (λ w. inr (w.0.left, w.1)) c.if-q-but.branch)
+    (elim c.if-q-but.branch [ then-q-but w ↦ inl (w.if-q-but.true, w.state-is ∙ w.wait_time.ensures) | else-q-but w ↦ inr (w.if-q-but.false, w.state-is) ])
 
 pub returns : goal.returns
 unfolding queue_time_all

@@ -1,11 +1,9 @@
 -- `state::all_timed` meets its contract. The invariant: the timers of the devices before d are sound. Assumes nothing.
 use mathlib.Core.Path.{sym, ◌∙◌}
-use mathlib.Core.Bool.{true}
-use Prim.Native.Nat.{◌-◌}
 use native.Mathlib.Omega.{arith}
 use borrow.Author.Count.{below_none, below_more}
 use Rattle.lists.proofs.Tests.{every-all, every-not}
-use Rattle.state.specs.Inner.Tests.{device_timed, all_timed}
+use Rattle.state.specs.Inner.Tests.{all_timed}
 use Rattle.state.proofs.sound.all_timed.Goals as goal
 
 pub loop-d-init : goal.loop-d-init

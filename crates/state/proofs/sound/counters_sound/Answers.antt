@@ -1,11 +1,9 @@
 -- `state::counters_sound` meets its contract. The invariant: the counters before that of d are sound. Assumes nothing.
 use mathlib.Core.Path.{sym, ◌∙◌}
-use mathlib.Core.Bool.{true}
-use Prim.Native.Nat.{◌-◌}
 use native.Mathlib.Omega.{arith}
 use borrow.Author.Count.{below_none, below_more}
 use Rattle.lists.proofs.Tests.{every-all, every-not}
-use Rattle.state.specs.Inner.Tests.{counter_sound, counters_sound}
+use Rattle.state.specs.Inner.Tests.{counters_sound}
 use Rattle.state.proofs.sound.counters_sound.Goals as goal
 
 pub loop-d-init : goal.loop-d-init

@@ -1,12 +1,9 @@
 -- `state::device_ports` meets its contract. The invariant: the ports before port p are sound. Assumes nothing.
 use mathlib.Core.Path.{sym, ap, ◌∙◌}
-use mathlib.Core.Bool.{true}
-use mathlib.Core.List.{[]}
-use Prim.Native.Nat.{◌-◌}
 use native.Mathlib.Omega.{arith}
 use borrow.Author.Count.{below_none, below_more}
 use Rattle.lists.proofs.Tests.{every-all, every-not}
-use Rattle.state.specs.Inner.Tests.{port_sound, device_ports}
+use Rattle.state.specs.Inner.Tests.{device_ports}
 use Rattle.state.proofs.sound.device_ports.Invariants.{no-ports}
 use Rattle.state.proofs.sound.device_ports.Goals as goal
 

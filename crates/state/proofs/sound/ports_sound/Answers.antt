@@ -1,11 +1,8 @@
 -- `state::ports_sound` meets its contract. The invariant: the ports of the devices before device d are sound. Assumes nothing.
 use mathlib.Core.Path.{sym, ◌∙◌}
-use mathlib.Core.Bool.{true}
-use Prim.Native.Nat.{◌-◌}
 use native.Mathlib.Omega.{arith}
 use borrow.Author.Count.{below_none, below_more}
 use Rattle.lists.proofs.Tests.{every-all, every-not}
-use Rattle.state.specs.Inner.Tests.{device_ports}
 use Rattle.state.proofs.sound.ports_sound.Invariants.{by-device}
 use Rattle.state.proofs.sound.ports_sound.Goals as goal
 

@@ -1,11 +1,9 @@
 -- `state::times_sound` meets its contract. The invariant: the words before that of port q are sound. Assumes nothing.
 use mathlib.Core.Path.{sym, ◌∙◌}
-use mathlib.Core.Bool.{true}
-use Prim.Native.Nat.{◌-◌}
 use native.Mathlib.Omega.{arith}
 use borrow.Author.Count.{below_none, below_more}
 use Rattle.lists.proofs.Tests.{every-all, every-not}
-use Rattle.state.specs.Inner.Tests.{time_sound, times_sound}
+use Rattle.state.specs.Inner.Tests.{times_sound}
 use Rattle.state.proofs.sound.times_sound.Goals as goal
 
 pub loop-q-init : goal.loop-q-init

@@ -1,5 +1,4 @@
 -- `ways::layers::behind_all` meets its contract. The invariant: the ports before port q are filled in. Assumes nothing.
-use Prim.Native.Nat.{◌-◌}
 use native.Mathlib.Omega.{arith}
 use Rattle.lists.proofs.Filled.{filled_none, filled_more, filled-whole}
 use Rattle.ways.proofs.layers.behind_all.Goals as goal

@@ -2,13 +2,14 @@
 use mathlib.Core.Path.{◌≡◌, refl, sym, ap, ◌∙◌}
 use mathlib.Core.Bool.{Bool, true, false, false≢true}
 use mathlib.Core.List.{List}
-use mathlib.Core.Logic.{◌⊎◌, inl, inr, ⊎_elim}
-use Prim.Native.Nat.{ℕ, ◌+◌, ◌-◌, ◌<◌}
+use mathlib.Core.Logic.{◌⊎◌, inl, inr}
+use Prim.Native.Nat.{ℕ, ◌+◌, ◌<◌}
 use lib.ListN.{length}
 use borrow.Author.Rules.{rules}
 use Rattle.lists.proofs.Loops.{none, turn, done}
 use Rattle.ways.specs.Inner.Layers.{goes_on, spread, layer}
 use Rattle.ways.proofs.layers.layer.Invariants.{Turned}
+use Rattle.ways.proofs.layers.layer.Goals.{then-goes_on, else-goes_on}
 use Rattle.ways.proofs.layers.layer.Goals as goal
 
 -- the device passes on, or nothing changes
@@ -23,9 +24,10 @@ loop-d-init c = (none, search rules, λ _. refl)
 
 pub loop-d-preserved : goal.loop-d-preserved
 loop-d-preserved c =
-    let t = c in
-    again _ _ _ _ _ _ _ _ _ c.goes_on.ensures t.loop-d.invariant t.loop-d-test.true
-    (⊎_elim (λ w. inl (w.0.taken, w.5 ∙ w.2.ensures, ap length w.5 ∙ w.2.kept.1.1.1.0, w.6)) (λ w. inr (w.0.left, w.1, w.2)) c.if-goes_on.branch)
+    again _ _ _ _ _ _ _ _ _ c.goes_on.ensures c.loop-d.invariant c.loop-d-test.true (elim c.if-goes_on.branch [
+      | then-goes_on w ↦ inl (w.if-goes_on.true, w.far-is ∙ w.spread.ensures, ap length w.far-is ∙ w.spread.auto.far, w.any-is)
+      | else-goes_on w ↦ inr (w.if-goes_on.false, w.far-is, w.any-is)
+    ])
 
 pub returns : goal.returns
 unfolding layer

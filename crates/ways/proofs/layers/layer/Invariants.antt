@@ -4,7 +4,7 @@ use mathlib.Core.Bool.{Bool, false}
 use mathlib.Core.List.{List}
 use Prim.Native.Nat.{ℕ, ◌-◌}
 use lib.ListN.{length}
-use Rattle.lists.proofs.Loops.{After, turn}
+use Rattle.lists.proofs.Loops.{After}
 use Rattle.ways.specs.Inner.Layers.{turn_of}
 use Rattle.ways.proofs.layers.layer.Given as goal
 

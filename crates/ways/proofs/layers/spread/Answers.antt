@@ -1,9 +1,8 @@
 -- `ways::layers::spread` meets its contract: a turn for each port. Assumes nothing.
 use mathlib.Core.Path.{◌∙◌}
-use Prim.Native.Nat.{◌-◌}
 use borrow.Author.Rules.{rules}
 use Rattle.lists.proofs.Loops.{none, turn, done}
-use Rattle.ways.specs.Inner.Layers.{meet, spread}
+use Rattle.ways.specs.Inner.Layers.{spread}
 use Rattle.ways.proofs.layers.spread.Goals as goal
 
 pub loop-p-init : goal.loop-p-init

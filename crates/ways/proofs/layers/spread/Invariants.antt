@@ -2,7 +2,7 @@
 use mathlib.Core.Path.{◌≡◌}
 use Prim.Native.Nat.{◌+◌, ◌-◌, ◌*◌}
 use lib.ListN.{length, get_or}
-use Rattle.lists.proofs.Loops.{After, turn}
+use Rattle.lists.proofs.Loops.{After}
 use Rattle.ways.specs.Inner.Layers.{meet}
 use Rattle.ways.proofs.layers.spread.Given as goal
 

@@ -4,7 +4,7 @@ use mathlib.Core.List.{List}
 use Prim.Native.Nat.{ℕ, ◌-◌}
 use lib.ListN.{length, set}
 use Rattle.lists.specs.Table.{table}
-use Rattle.lists.proofs.Loops.{After, turn}
+use Rattle.lists.proofs.Loops.{After}
 use Rattle.ways.specs.Inner.Layers.{layer}
 use Rattle.ways.proofs.layers.walk.Given as goal
 

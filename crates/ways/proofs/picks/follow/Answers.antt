@@ -1,8 +1,6 @@
 -- `ways::picks::follow` meets its contract. The invariant: what is written, and then what is picked from here on, is what is picked in
 -- all. Assumes nothing.
 use mathlib.Core.Path.{refl, sym}
-use mathlib.Core.Bool.{true}
-use Prim.Native.Nat.{◌-◌}
 use native.Mathlib.Nat.{sub-zero}
 use native.Mathlib.Omega.{arith}
 use borrow.Author.Rules.{rules}

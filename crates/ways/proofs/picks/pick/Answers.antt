@@ -1,9 +1,6 @@
 -- `ways::picks::pick` meets its contract. The invariant: none of the ports before port p is one, so that the others decide. Assumes nothing.
 use mathlib.Core.Path.{refl}
-use mathlib.Core.Bool.{true, false}
-use Prim.Native.Nat.{◌-◌}
 use borrow.Author.Rules.{rules}
-use Rattle.ways.specs.Inner.Picked.{nearer}
 use Rattle.ways.proofs.picks.pick.Invariants.{first, found, last, passed}
 use Rattle.ways.proofs.picks.pick.Goals as goal
 

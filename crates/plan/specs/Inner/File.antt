@@ -1,5 +1,5 @@
--- RULES, "Plan file": a block that is made of numbers, and the file of a plan, number by number. `BothWays` proves that it is the one accepted file
--- of the plan.
+-- No rule: the file of a plan as the writer writes it, number by number. Nothing here has to be believed; `BothWays` proves that it is the one
+-- accepted file of the plan.
 use Rattle.std.specs.Prelude.{cond, List, [], ◌∷◌, ◌++◌, ℕ, zero, suc, ◌+◌, ◌*◌, ◌/◌, ◌%◌, eqb, get_or, set}
 use Rattle.lists.specs.Table.{table, joined}
 use Rattle.plan.specs.Block.{Field, check, check_field}
@@ -8,13 +8,7 @@ use Rattle.plan.specs.Header.{common_fields, pair_fields, header_of, common_numb
 use Rattle.plan.specs.declared.Core.{Core}
 use Rattle.plan.specs.declared.Header.{Header}
 use Rattle.plan.specs.declared.Plan.{Plan}
-
--- what stands in a list at a place, and in the peers at a device and a port
-abbrev pub at : List ℕ → ℕ → ℕ
-at l d = get_or l d 0
-
-abbrev pub peer_at : List (List ℕ) → ℕ → ℕ → ℕ
-peer_at peers d p = get_or (get_or peers d []) p 0
+use Rattle.plan.specs.Inner.Memory.{at, peer_at}
 
 -- ---- numbers in a block
 
