@@ -16,7 +16,7 @@ use Rattle.text.specs.Inner.Within.{Within}
 use Rattle.text.specs.Text.{bad}
 use Rattle.text.proofs.Parts.{in-front, bad-short}
 use Rattle.plan.specs.Block.{block}
-use Rattle.plan.specs.Inner.File.{block_of, entry_holdings}
+use Rattle.plan.specs.Inner.File.{entry_holdings}
 use Rattle.plan.specs.Inner.Memory.{at}
 use Rattle.plan.specs.Reading.{reads}
 use Rattle.plan.specs.Refusals.{Test, test, first, device_block, count_in, verdict}

@@ -14,7 +14,7 @@ use Rattle.lists.proofs.Facts.{facts}
 use Rattle.lists.proofs.Tables.{get_d-table, length-table, same-joined}
 use Rattle.lists.proofs.Tests.{or_right}
 use Rattle.plan.specs.Block.{number_in, kind_field}
-use Rattle.plan.specs.Fields.{number_field, role_in, ports_in, source_in, handler_in, entry, bar_in, peer_number, nobody, ports_fit, masks_fit, master_is_node, device_fits}
+use Rattle.plan.specs.Fields.{number_field, role_in, nobody, ports_fit, masks_fit, master_is_node, device_fits}
 use Rattle.plan.specs.Inner.File.{block_of, entry_holdings, bar_holdings, device_holdings}
 use Rattle.plan.specs.Inner.Memory.{at, peer_at}
 use Rattle.plan.specs.Header.{core_with}

@@ -1,4 +1,4 @@
-use Rattle.std.proofs.Common.{◌≡◌, refl, sym, ap, ◌∙◌, subst, le_refl, List, [], ℕ, ◌≤◌, arith, length, take, take_all}
+use Rattle.std.proofs.Common.{◌≡◌, refl, ap, ◌∙◌, subst, le_refl, List, [], ℕ, arith, length, take, take_all}
 use Rattle.std.proofs.KnownBytes.{Consumes-kept, Consumes-nil}
 use Rattle.std.proofs.Math.Seq.{take-append_seam}
 use Rattle.std.specs.Io.KnownBytes.{Appends}

@@ -24,7 +24,7 @@ use Rattle.ways.proofs.LayerLaws.{Found, layers-found}
 use Rattle.ways.proofs.Steps.{ahead, back, chain-walk, walk-chain}
 use Rattle.ways.proofs.Shortest.{no-shorter, downhill, length-picked, picked-shown}
 use Rattle.ways.proofs.Counted.{few-crossings}
-use Rattle.ways.proofs.Answered.{Ready, ready, answer-refused, answer-done}
+use Rattle.ways.proofs.Answered.{ready, answer-refused, answer-done}
 use Rattle.ways.proofs.chain.Goals as goal
 
 -- what is behind n places of an area that was filled

@@ -1,7 +1,7 @@
 -- `ways::crossings` meets its contract: the numbers of the layers are those of crossings. Assumes nothing.
 use mathlib.Core.Path.{◌∙◌}
 use Rattle.ways.proofs.Counted.{walked, all-crossings}
-use Rattle.ways.proofs.Answered.{Ready, ready, answer-refused, answer-done}
+use Rattle.ways.proofs.Answered.{ready, answer-refused, answer-done}
 use Rattle.ways.proofs.crossings.Goals as goal
 
 pub returns-then-number-ne0 : goal.returns-then-number-ne0

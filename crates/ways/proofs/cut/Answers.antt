@@ -14,7 +14,7 @@ use Rattle.ways.specs.Inner.Layers.{layers}
 use Rattle.ways.specs.Inner.Causes.{cause_at}
 use Rattle.ways.proofs.Counted.{walked}
 use Rattle.ways.proofs.Fails.{all-causes}
-use Rattle.ways.proofs.Answered.{Ready, ready, answer-refused, answer-done}
+use Rattle.ways.proofs.Answered.{ready, answer-refused, answer-done}
 use Rattle.ways.proofs.cut.Goals as goal
 
 -- by the layers of the plan's own table

@@ -1,7 +1,6 @@
 use mathlib.Core.Path.{◌≡◌, refl, ap}
 use Prim.Native.Nat.{ℕ, ◌+◌}
 use native.Mathlib.Omega.{arith}
-use Rattle.plan.specs.Inner.Memory.{at}
 use Rattle.mend.specs.Claims.{last}
 use Rattle.mend.specs.Inner.Steps.{ports_in}
 use Rattle.mend.proofs.routers.ports_of.Invariants.{highest-more}

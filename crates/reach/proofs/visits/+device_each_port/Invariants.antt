@@ -1,6 +1,6 @@
 -- `reach::visits::device` and `reach::visits::each_port`: the measure of the calls, 10 for each device that is not in the set, and 9 more at the
 -- ports of one; and what the turns of the loop keep.
-use Rattle.std.proofs.Common.{◌≡◌, ℕ, ◌+◌}
+use Rattle.std.proofs.Common.{◌+◌}
 use Rattle.reach.specs.Inner.Depth.{left}
 use Rattle.reach.specs.Visits.{ahead}
 use Rattle.reach.proofs.Returns.{Turned}

@@ -1,6 +1,6 @@
 use mathlib.Core.Path.{◌∙◌, sym}
 use mathlib.Core.Bool.{false≢true}
-use Prim.Native.Nat.{◌-◌, ◌*◌}
+use Prim.Native.Nat.{◌*◌}
 use native.Mathlib.Omega.{arith}
 use Rattle.areas.proofs.Written.{none, turn, done}
 use Rattle.planfile.proofs.Numbers.{four_bytes}

@@ -1,4 +1,3 @@
-use Prim.Native.Nat.{◌-◌}
 use native.Mathlib.Omega.{arith}
 use Rattle.areas.proofs.Puts.{same_size}
 use Rattle.reasons.proofs.Parts.{listed-none, listed-room, listed_more, listed-all}
