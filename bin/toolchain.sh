@@ -6,23 +6,18 @@ while [ -L "$rt" ]; do
     case $link in /*) rt=$link ;; *) rt=$(dirname "$rt")/$link ;; esac
 done
 kit=${RATTLE_HOME:-$(cd "$(dirname "$rt")/.." && pwd -P)}
-tools=$kit/on/$(uname -m)/toolchain
+tools=$kit/toolchain
 lib=$tools/lib
 
-# Programs are x86-64; on another machine the kit's emulator runs them.
-emulator=$tools/bin/qemu-x86_64
-[ -x "$emulator" ] || emulator=
-
-# Runs an x86-64 program.
+# Runs a program.
 run() {
-    ${emulator:+"$emulator"} "$lib/ld-linux-x86-64.so.2" --library-path "$lib" "$@"
+    "$lib/ld-linux-x86-64.so.2" --library-path "$lib" "$@"
 }
 
 # Proves and builds a crate: build check NAME for a program, build staticlib NAME for an archive. It does nothing where that
 # has been done since the sources last changed.
 build() {
-    case $1 in check) made=$here/target/bin/$2 ;; *) made=$here/target/staticlib/lib$2.a ;; esac
-    stamp=$here/target/built/$1-$2
+    named "$@"
     ! is_built || return 0
     mkdir -p "$here/target/built" 2>/dev/null && [ -w "$here/target/built" ] || {
         echo "$2: it has to be built first, and $here cannot be written: copy the repository to where it can, and start it there" >&2
@@ -33,9 +28,28 @@ build() {
     exec 9>&-
 }
 
-# Is it there, and newer than every source?
+# What a crate is built as, where rt leaves it and by which command, and when that began: named KIND NAME.
+named() {
+    case $1 in
+    check) made=$here/target/bin/$2 left=$here/crates/$2/out/$2 verb=run ;;
+    *) made=$here/target/staticlib/lib$2.a left=$here/crates/$2/out/lib$2.a verb=lib ;;
+    esac
+    stamp=$here/target/built/$1-$2
+}
+
+# Is it there, and newer than every source? What rt keeps is no source, and stands in the folders out.
 is_built() {
-    [ -e "$made" ] && [ -e "$stamp" ] && [ -z "$(find "$here/crates" "$here/crates.txt" -newer "$stamp" -print -quit)" ]
+    [ -e "$made" ] && [ -e "$stamp" ] &&
+        [ -z "$(find "$here/crates.txt" "$here"/crates/*/* -name out -prune -o -newer "$stamp" -print -quit 2>/dev/null)" ]
+}
+
+# Takes what rt has left, under a name of its own, since rt ci and rt's other builds remove theirs meanwhile: take TIME, with the
+# file that bears the time at which that began.
+take() {
+    mkdir -p "${made%/*}"
+    cp "$left" "$made.new"
+    mv "$made.new" "$made"
+    mv "$1" "$stamp"
 }
 
 # One build at a time: two would write the same files. The lock goes with the process that has it. Without flock nobody waits.
@@ -59,40 +73,39 @@ crates_of() {
             for (i = 1; i <= n; i++) visit(need[i])
         }
         { sub(/#.*/, "") }
-        /:/ { name = $0; sub(/:.*/, "", name); sub(/[^:]*:/, ""); needs[name] = $0 }
+        /:/ { name = $0; sub(/[ :].*/, "", name); sub(/[^:]*:/, ""); needs[name] = $0 }
         END { visit(want); print count }' "$here/crates.txt"
 }
 
-# Says of each crate that it is proved, when rt does: proved NAME COUNT.
+# Says of each crate that it is proved, when rt does: proved NAME COUNT. Of one that was proved before rt says nothing.
 proved() {
     done=0
     while IFS= read -r line; do
         case $line in
-        'rt: '*' proved ('*) crate=${line#rt: } ;;
-        'rt: target/staticlib/'*) crate=$1 ;;
-        *) continue ;;
+        'rt: chose --jobs '*' for '*) crate=${line##* for } ;;
+        'logic=proved '*)
+            done=$((done + 1))
+            echo "$1: $crate is proved, $done of $2" >&2
+            ;;
         esac
-        done=$((done + 1))
-        echo "$1: ${crate%% *} is proved, $done of $2" >&2
     done
 }
 
-# Proves and builds it, and says what is proved as it goes. The stamp bears the time at which that began. A stamp of rt's own for a
-# program that is gone would have rt build nothing.
+# Proves and builds it, and says what is proved as it goes. The stamp bears the time at which that began. rt builds a program only
+# to run it, which this one is here without input.
 prove() {
     count=$(crates_of "$2")
     echo "$2: its $count crates are proved first, once; that can take minutes" >&2
     touch "$stamp.new"
-    [ -e "$made" ] || rm -f "$here/target/stamp/$2"
     {
-        if (cd "$here" && rt "$1" "$2" </dev/null 2>&1); then echo 0 >"$stamp.ended"; else echo 1 >"$stamp.ended"; fi
+        if (cd "$here/crates/$2" && rt $verb </dev/null 2>&1); then echo 0 >"$stamp.ended"; else echo 1 >"$stamp.ended"; fi
     } | tee "$stamp.log" | proved "$2" "$count"
-    if [ "$(cat "$stamp.ended")" != 0 ] || [ ! -e "$made" ]; then
+    if [ "$(cat "$stamp.ended")" != 0 ] || [ ! -e "$left" ]; then
         cat "$stamp.log" >&2
         echo "$2: it is not proved, so it is not run" >&2
         exit 2
     fi
-    mv "$stamp.new" "$stamp"
+    take "$stamp.new"
 }
 
 # Compiles a source: object SOURCE OBJECT. The kit has no headers of C's library.

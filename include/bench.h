@@ -1,5 +1,5 @@
-/* The SpaceWire interrupt bench, for C99 and C++ (x86-64 Linux). Include this and link target/staticlib/libdoor.a, which
- * `rt staticlib door` makes; it needs memcpy, memmove and memset, and nothing else.
+/* The SpaceWire interrupt bench, for C99 and C++ (x86-64 Linux). Include this and link crates/door/out/libdoor.a, which
+ * `rt lib` makes in crates/door; it needs memcpy, memmove and memset, and nothing else.
  *
  * Every call takes any input, ends, and touches nothing but what it is lent. It returns a number: 0 for done, or that of
  * the first refusal, in the order given at the call. (bench_code_read returns a kind, and bench_react and bench_react_guarded what

@@ -7,7 +7,7 @@ trap 'rm -rf "$work"' EXIT
 
 # Where a user types them: what is written there is not in the repository.
 mkdir "$work/user"
-for part in bin include examples target; do ln -s "$PWD/$part" "$work/user/$part"; done
+for part in bin include examples crates; do ln -s "$PWD/$part" "$work/user/$part"; done
 user() {
     (cd "$work/user" && sh -c "$1")
 }

@@ -36,13 +36,12 @@ refused --cases 00
 refused --long --case 1
 refused --seed 1 --wrong
 
-# Under the emulator all networks take half an hour, so that the gate tries a tenth of them there. JUDGE_TENTH=1 does
-# the same on any machine.
+# With JUDGE_TENTH=1 a tenth of the networks is tried.
 cases=2400
-if [ -n "$emulator" ] || [ "${JUDGE_TENTH-}" = 1 ]; then
+if [ "${JUDGE_TENTH-}" = 1 ]; then
     cases=240
     set -- --cases $cases
-    echo "judge: only a tenth of the networks is tried here, $cases; on x86-64 it is all of them"
+    echo "judge: only a tenth of the networks is tried here, $cases; without JUDGE_TENTH it is all of them"
 fi
 # What is said while the archive is built would stand among what the command says.
 build staticlib door

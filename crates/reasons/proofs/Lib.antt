@@ -1,3 +1,4 @@
+pub mod Within
 pub mod Parts
 pub mod Words
 pub mod Told

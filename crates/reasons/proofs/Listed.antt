@@ -5,9 +5,9 @@ use mathlib.Core.List.{List, [], ◌∷◌, ◌++◌, append_assoc, append-nil}
 use Prim.Native.Nat.{ℕ, zero, suc}
 use lib.Dec.{eqb}
 use Rattle.lists.specs.Table.{joined}
-use Rattle.text.specs.Text.{ascii, port}
+use Rattle.text.specs.Text.{ascii}
 use Rattle.ways.proofs.Listed.{outs}
-use Rattle.reasons.specs.Why.{called, outward}
+use Rattle.reasons.specs.Why.{port, called, outward}
 
 module _ (f : ℕ → ℕ) where
   -- the line of a port, by what f has for its cause

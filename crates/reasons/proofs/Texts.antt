@@ -3,7 +3,7 @@ use mathlib.Core.Path.{◌≡◌, refl, sym, subst, ◌∙◌}
 use mathlib.Core.Bool.{Bool}
 use mathlib.Core.Logic.{inl, inr}
 use mathlib.Core.List.{List, [], ◌∷◌, ◌++◌}
-use Prim.Native.Nat.{ℕ, ◌+◌, ◌^◌, ◌≤◌, ◌<◌}
+use Prim.Native.Nat.{ℕ, suc, ◌+◌, ◌^◌, ◌≤◌, ◌<◌}
 use native.Mathlib.Omega.{arith}
 use lib.ListN.{length, take}
 use lib.Seq.{length-take-le}
@@ -11,8 +11,8 @@ use Rattle.answers.specs.Ordered.{ask, Ordered}
 use Rattle.answers.proofs.Unique.{ordered-once}
 use Rattle.areas.specs.Put.{Puts}
 use Rattle.text.specs.Text.{ascii, headed, bad}
-use Rattle.text.specs.Inner.Within.{Within}
-use Rattle.text.proofs.Parts.{headed-short, bad-short, in-front, over-room}
+use Rattle.text.proofs.Decimal.{decimal-short}
+use Rattle.text.proofs.Parts.{length-headed, bad-short, in-front, over-room}
 use Rattle.plan.specs.Reading.{plan_of, Held, reads}
 use Rattle.plan.specs.declared.Plan.{Plan}
 use Rattle.plan.specs.declared.Read.{Read}
@@ -21,23 +21,26 @@ use Rattle.state.specs.State.{State, words}
 use Rattle.ways.specs.Chain.{Chain, Shown}
 use Rattle.ways.specs.Cut.{AllCauses}
 use Rattle.reasons.specs.Why.{crossings_of, Explains, reached, cut, why_asks, state_for, Prints, bad-file, refused, explained, longest, TellsWhy}
-use Rattle.reasons.specs.Inner.Pieces.{longest_reached, longest_cut, Answers, refused as answer-refused, explained as answer-explained, CutText, cut-text, outwards, Writes}
-use Rattle.text.proofs.Within.{looser, both, within}
+use Rattle.reasons.specs.Inner.Pieces.{Within, longest_reached, longest_cut, Answers, refused as answer-refused, explained as answer-explained, CutText, cut-text, outwards, Writes}
+use Rattle.reasons.proofs.Within.{looser, both, within}
 
 -- ---- the first lines
+
+head-short : (word : List ℕ) (j n : ℕ) → n < 10 ^ suc j → length (headed word n) ≤ length word + suc j + 1
+head-short word j n h = omega (arith, length-headed word n, decimal-short j n h)
 
 module _ {t : List ℕ} {t₁ : List ℕ} {p₁ : ℕ} where
   pub reached-head : (n : ℕ) → n < 32 → Puts t 0 (headed (ascii "reached ") n) t₁ p₁ → Within longest_reached t 0 (headed (ascii "reached ") n) t₁ p₁
   unfolding ascii
-  reached-head n h p = within (headed-short (ascii "reached ") 1 n (omega (arith, h))) p
+  reached-head n h p = within (head-short (ascii "reached ") 1 n (omega (arith, h))) p
 
   pub cut-head : (n : ℕ) → n ≤ 256 → Puts t 0 (headed (ascii "cut ") n) t₁ p₁ → Within longest_cut t 0 (headed (ascii "cut ") n) t₁ p₁
   unfolding ascii
-  cut-head n h p = within (headed-short (ascii "cut ") 2 n (omega (arith, h))) p
+  cut-head n h p = within (head-short (ascii "cut ") 2 n (omega (arith, h))) p
 
   refused-head : (n : ℕ) → n < 2 ^ 32 → Puts t 0 (headed (ascii "r") n) t₁ p₁ → Within longest t 0 (headed (ascii "r") n) t₁ p₁
   unfolding ascii
-  refused-head n h p = looser (within (headed-short (ascii "r") 9 n (omega (arith, h))) p) (omega arith)
+  refused-head n h p = looser (within (head-short (ascii "r") 9 n (omega (arith, h))) p) (omega arith)
 
   -- and the others behind it
   pub behind : {m k : ℕ} {w v t₂ : List ℕ} {p₂ : ℕ} → m + k ≤ longest → longest ≤ length t → Within m t 0 w t₁ p₁ → Within k t₁ p₁ v t₂ p₂ → Within longest t 0 (w ++ v) t₂ p₂

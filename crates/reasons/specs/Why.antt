@@ -3,7 +3,7 @@ use Rattle.std.specs.Prelude.{◌≡◌, Bool, cond, List, [], ◌∷◌, ◌++�
 use Rattle.answers.specs.Ordered.{Condition, ask, Ordered, Tells}
 use Rattle.areas.specs.Put.{over}
 use Rattle.lists.specs.Table.{table, joined}
-use Rattle.text.specs.Text.{ascii, headed, bad, port, joint}
+use Rattle.text.specs.Text.{ascii, decimal, headed, bad}
 use Rattle.plan.specs.Block.{number_at}
 use Rattle.plan.specs.Refusals.{verdict}
 use Rattle.plan.specs.Reading.{plan_of}
@@ -18,9 +18,13 @@ use Rattle.ways.specs.Cut.{AllCauses}
 
 -- ---- lines
 
+-- port q, as its device and its number there
+unfoldable pub port : ℕ → List ℕ
+port q = decimal (q / 8) ++ ascii " " ++ decimal (q % 8)
+
 -- a crossing: the port, and the one at its other end
 unfoldable pub crossing : Plan → ℕ → List ℕ
-crossing plan q = joint q (peer plan q)
+crossing plan q = port q ++ ascii " " ++ port (peer plan q) ++ ascii "\n"
 
 unfoldable pub crossings_of : Plan → List ℕ → List ℕ
 crossings_of plan [] = []

@@ -4,8 +4,7 @@ ghost use Rattle.answers.specs.Ordered.{Ordered};
 ghost use Rattle.plan.specs.Reading.{Held};
 ghost use Rattle.text.specs.Text.{ascii, headed};
 ghost use Rattle.reasons.specs.Why.{why_asks, crossings_of, longest};
-ghost use Rattle.text.specs.Inner.Within.{Within};
-ghost use Rattle.reasons.specs.Inner.Pieces.{Joined, Answers, CutText, Writes};
+ghost use Rattle.reasons.specs.Inner.Pieces.{Within, Joined, Answers, CutText, Writes};
 
 use crate::lines;
 use plan::Plan;

@@ -1,16 +1,24 @@
 // The lines of the text, each put behind the one before it.
 ghost use Rattle.std.specs.Prelude.{◌≡◌, ◌++◌, ℕ, ◌+◌, ◌*◌, ◌≤◌, ◌<◌, length, take, get_or};
-ghost use Rattle.text.specs.Text.{ascii, port, joint};
-ghost use Rattle.text.specs.Inner.Within.{Within};
-ghost use Rattle.reasons.specs.Why.{called, outward};
-ghost use Rattle.reasons.specs.Inner.Pieces.{joints, Joined, outwards, longest_crossing, longest_outward};
+ghost use Rattle.reasons.specs.Why.{port, called, outward};
+ghost use Rattle.reasons.specs.Inner.Pieces.{Within, joint, joints, Joined, outwards, longest_crossing, longest_outward};
+
+// A port, as its device and its number there, and a word behind it.
+fn put_port(text: &mut [u8], at: usize, q: u32, word: &[u8]) -> usize
+    requires { (q < 256) × (at + (4 + length word.now) ≤ length text.old) }
+    ensures { Within (4 + length word.now) text.old at (port q ++ word.now) text.new result }
+{
+    let number = text::put_then(text, at, q / 8, b" ");
+    text::put_then(text, number, q % 8, word)
+}
 
 // The line of a crossing from port q to port p.
 fn put_crossing(text: &mut [u8], at: usize, q: u32, p: u32) -> usize
     requires { (q < 256) × (p < 256) × (at + longest_crossing ≤ length text.old) }
     ensures { Within longest_crossing text.old at (joint q p) text.new result }
 {
-    text::put_joint(text, at, q, p)
+    let other = put_port(text, at, q, b" ");
+    put_port(text, other, p, b"\n")
 }
 
 // The lines of the first n ports, each with the port at its other end.
@@ -53,15 +61,6 @@ fn put_called(text: &mut [u8], at: usize, c: u32) -> usize
     areas::put(text, at, b"does-not-forward")
 }
 
-// A port, as its device and its number there, and a blank.
-fn put_port(text: &mut [u8], at: usize, q: u32) -> usize
-    requires { (q < 256) × (at + 5 ≤ length text.old) }
-    ensures { Within 5 text.old at (port q ++ ascii " ") text.new result }
-{
-    let number = text::put_then(text, at, q / 8, b" ");
-    text::put_then(text, number, q % 8, b" ")
-}
-
 // The line of a port that leads out, with its cause; a port that has none has no line.
 fn put_outward(text: &mut [u8], at: usize, q: u32, c: u32) -> usize
     requires { (q < 256) × (at + longest_outward ≤ length text.old) }
@@ -70,7 +69,7 @@ fn put_outward(text: &mut [u8], at: usize, q: u32, c: u32) -> usize
     if c == 0 {
         return at;
     }
-    let cause = put_port(text, at, q);
+    let cause = put_port(text, at, q, b" ");
     let end = put_called(text, cause, c);
     areas::put(text, end, b"\n")
 }

@@ -1,16 +1,25 @@
 -- No rules: what private functions promise. Nothing here has to be believed.
-use Rattle.std.specs.Prelude.{◌≡◌, Bool, true, false, List, [], ◌∷◌, ◌++◌, ℕ, ◌<◌, length, get_or}
+use Rattle.std.specs.Prelude.{◌≡◌, Bool, true, false, List, [], ◌∷◌, ◌++◌, ℕ, ◌<◌, ◌≤◌, length, get_or}
 use Rattle.answers.specs.Ordered.{Ordered}
+use Rattle.areas.specs.Put.{Puts}
 use Rattle.lists.specs.Table.{joined}
-use Rattle.text.specs.Text.{ascii, headed, joint}
-use Rattle.text.specs.Inner.Within.{Within}
+use Rattle.text.specs.Text.{ascii, headed}
 use Rattle.plan.specs.declared.Plan.{Plan}
 use Rattle.state.specs.State.{State, words}
 use Rattle.state.specs.Network.{peer_in}
 use Rattle.ways.specs.Cut.{AllCauses}
-use Rattle.reasons.specs.Why.{outward, Explains, why_asks, longest}
+use Rattle.reasons.specs.Why.{port, outward, Explains, why_asks, longest}
+
+-- a word was put, and is no longer than so many bytes
+pub record Within (most : ℕ) (before : List ℕ) (at : ℕ) (word after : List ℕ) (place : ℕ) : Type 0 where
+  pub short : length word ≤ most
+  pub put : Puts before at word after place
 
 -- ---- lines
+
+-- two ports that a crossing joins
+unfoldable pub joint : ℕ → ℕ → List ℕ
+joint q p = port q ++ ascii " " ++ port p ++ ascii "\n"
 
 -- the lines of some ports, by the peers of a plan
 unfoldable pub joints : List (List ℕ) → List ℕ → List ℕ

@@ -3,7 +3,7 @@ use native.Mathlib.Omega.{arith}
 use borrow.Author.Rules.{rules}
 use Rattle.text.specs.Text.{ascii}
 use Rattle.reasons.specs.Inner.Pieces.{longest_outward}
-use Rattle.text.proofs.Within.{room-behind}
+use Rattle.reasons.proofs.Within.{room-behind}
 use Rattle.reasons.proofs.Told.{is_cut, few-lead-out}
 use Rattle.reasons.proofs.Texts.{cut-head, behind, writes-causes}
 use Rattle.reasons.proofs.answer.put_cut.Goals as goal

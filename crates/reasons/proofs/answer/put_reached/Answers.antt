@@ -5,7 +5,7 @@ use native.Mathlib.Omega.{arith}
 use lib.ListN.{take}
 use Rattle.text.specs.Text.{ascii, headed}
 use Rattle.reasons.specs.Inner.Pieces.{joints, longest_crossing}
-use Rattle.text.proofs.Within.{same_word, room-behind}
+use Rattle.reasons.proofs.Within.{same_word, room-behind}
 use Rattle.reasons.proofs.Parts.{joints-crossings}
 use Rattle.reasons.proofs.Texts.{reached-head, behind}
 use Rattle.reasons.proofs.answer.put_reached.Goals as goal

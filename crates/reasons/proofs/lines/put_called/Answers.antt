@@ -1,6 +1,6 @@
 use native.Mathlib.Omega.{arith}
 use Rattle.text.specs.Text.{ascii}
-use Rattle.text.proofs.Within.{same_word, within}
+use Rattle.reasons.proofs.Within.{same_word, within}
 use Rattle.reasons.proofs.Parts.{called-1, called-2, called-3, called-4, called-5}
 use Rattle.reasons.proofs.lines.put_called.Goals as goal
 

@@ -3,13 +3,13 @@ use Prim.Native.Nat.{◌-◌}
 use native.Mathlib.Omega.{arith}
 use lib.ListN.{get_or}
 use Rattle.areas.proofs.Puts.{same_size}
-use Rattle.text.specs.Text.{joint}
-use Rattle.text.proofs.Within.{same_word, lined-none, lined-room, lined-more, lined-all}
-use Rattle.reasons.proofs.Parts.{none_first, one-first}
+use Rattle.reasons.specs.Inner.Pieces.{joint}
+use Rattle.reasons.proofs.Within.{same_word}
+use Rattle.reasons.proofs.Parts.{crossed-none, crossed-room, crossed-more, crossed-all}
 use Rattle.reasons.proofs.lines.put_crossings.Goals as goal
 
 pub loop-i-init : goal.loop-i-init
-loop-i-init c = let a = c.args in lined-none (none_first a.peers.now a.ports.now)
+loop-i-init c = crossed-none _ _ _ _ _
 
 pub overflow_cast-q : goal.overflow_cast-q
 overflow_cast-q c = omega (arith, c.requires.1 c.loop-i.i (omega arith))
@@ -28,19 +28,16 @@ put_crossing-end-requires c =
     let small = c.requires.1 c.loop-i.i (omega arith) in (
       omega (arith, small, c.wide16-p.ensures.0),
       omega (arith, small, c.wide16-p.ensures.0),
-      lined-room c.loop-i.invariant (omega arith) c.requires.2,
+      crossed-room c.loop-i.invariant (omega arith) c.requires.2,
     )
 
 pub loop-i-preserved : goal.loop-i-preserved
 loop-i-preserved c =
-    let start = c in
-    let ports = start.args.ports.now in
-    let i = c.loop-i.i in
-    lined-more c.loop-i.invariant (omega arith) start.requires.2 (one-first start.args.peers.now ports i (omega (arith, start.requires.0)))
-    (same_word c.put_crossing-end.ensures (ap (joint (get_or ports i 0)) c.wide16-p.ensures.0))
+    crossed-more c.loop-i.invariant (omega arith) c.requires.0 c.requires.2
+    (same_word c.put_crossing-end.ensures (ap (joint (get_or c.args.ports.now c.loop-i.i 0)) c.wide16-p.ensures.0))
 
 pub shape_of-text : goal.shape_of-text
-shape_of-text c = same_size c.loop-i.invariant.within.put
+shape_of-text c = same_size c.loop-i.invariant.lines.put
 
 pub returns : goal.returns
-returns c = lined-all c.loop-i.invariant (omega arith)
+returns c = crossed-all c.loop-i.invariant (omega arith)

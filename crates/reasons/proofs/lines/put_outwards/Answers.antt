@@ -1,22 +1,22 @@
 use Prim.Native.Nat.{◌-◌}
 use native.Mathlib.Omega.{arith}
 use Rattle.areas.proofs.Puts.{same_size}
-use Rattle.text.proofs.Within.{lined-none, lined-room, lined-more, lined-all, none-joined, one-joined}
+use Rattle.reasons.proofs.Parts.{listed-none, listed-room, listed_more, listed-all}
 use Rattle.reasons.proofs.lines.put_outwards.Goals as goal
 
 pub loop-q-init : goal.loop-q-init
-loop-q-init c = lined-none (none-joined _)
+loop-q-init c = listed-none _ _ _
 
 pub put_outward-end-requires : goal.put_outward-end-requires
 put_outward-end-requires c =
-    (omega arith, lined-room c.loop-q.invariant (omega arith) c.requires.1)
+    (omega arith, listed-room c.loop-q.invariant (omega arith) c.requires.1)
 
 pub loop-q-preserved : goal.loop-q-preserved
 loop-q-preserved c =
-    lined-more c.loop-q.invariant (omega arith) c.requires.1 (one-joined _ _) c.put_outward-end.ensures
+    listed_more c.loop-q.invariant (omega arith) c.requires.1 c.put_outward-end.ensures
 
 pub shape_of-text : goal.shape_of-text
-shape_of-text c = same_size c.loop-q.invariant.within.put
+shape_of-text c = same_size c.loop-q.invariant.lines.put
 
 pub returns : goal.returns
-returns c = lined-all c.loop-q.invariant (omega arith)
+returns c = listed-all c.loop-q.invariant (omega arith)

@@ -4,4 +4,5 @@ use Rattle.reasons.proofs.lines.put_port.Goals as goal
 
 pub returns : goal.returns
 unfolding ascii
-returns c = let start = c in port-put start.args.q start.requires.0 start.requires.1 c.put_then-number.ensures c.put_then.ensures
+returns c =
+    port-put c.args.q c.args.word.now c.requires.0 c.requires.1 c.put_then-number.ensures c.put_then.ensures
