@@ -1,4 +1,4 @@
-use Rattle.std.proofs.Common.{arith, rules, take}
+use Rattle.std.proofs.Common.{arith, take}
 use Rattle.settle.proofs.run.Goals as goal
 
 pub slice_bounds-file-end : goal.slice_bounds-file-end
