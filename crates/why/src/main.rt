@@ -131,7 +131,9 @@ fn read_question<V: Env>(rt: &V, words: usize) -> Question {
     }
 }
 
-// The number that argument i says. One that is missing is none.
+// The number that argument i says. One that is missing is none. Its room on the stack, and that for a text, are
+// not had at once.
+#[inline(never)]
 fn number_at<V: Env>(rt: &V, i: usize) -> Number {
     let mut word = [0u8; ARGUMENT];
     match rt.arg(i, &mut word) {
@@ -165,6 +167,7 @@ fn read_state<V: Env + Files>(rt: &V, given: bool, state: &mut [u8]) -> Input
 }
 
 // Writes the text, or says that it could not.
+#[inline(never)]
 fn say<W: Write, E: Write>(
     plan: &[u8],
     given: bool,
