@@ -52,6 +52,8 @@ grep "$lines" examples/snapshot.c | cmp - "$work/shown"
 # So does the program that the README's line for a C compiler makes, where there is one for x86-64.
 if [ "$(uname -m)" = x86_64 ] && command -v cc >/dev/null 2>&1; then
     line=$(sed -n 's/^    \(cc .*\)$/\1/p' README.md)
+    # The line before it makes the archive where it is not there.
+    [ -e crates/door/out/libdoor.a ] || (cd crates/door && rt lib >/dev/null 2>&1)
     user "$line && ./incident <examples/incident.plan" | cmp - tests/expected/incident.txt
 fi
 

@@ -55,5 +55,5 @@ same state WORDS STATE
 same report LONGEST TEXT
 for name in CROSSINGS CHAIN CUT UNREACHED NOBODY; do same ways $name $name; done
 same reasons LONGEST WHY
-same mending LONGEST RESCUE
+same mend LONGEST RESCUE
 echo "header: ok"

@@ -22,7 +22,7 @@ enum { STACK = 1 << 18, PAINT = 0xA5 };
 static _Alignas(16) bench_u8 stack[STACK];
 
 /* What the calls are given. */
-static bench_u8 file[BENCH_FILE + 1], text[BENCH_TEXT];
+static bench_u8 file[BENCH_FILE + 1], damaged[BENCH_FILE + 1], mended[BENCH_FILE + 1], text[BENCH_TEXT];
 static bench_size length, device, handler;
 static bench_u32 k, value, set, examined, bits, counter, kind, top, answer;
 static bench_u32 before[BENCH_STATE], state[BENCH_STATE], next[BENCH_STATE], sent[BENCH_SENT], told[BENCH_TOLD];
@@ -120,6 +120,14 @@ static void why_at_start(void) {
     answer = bench_why(file, length, 0, 0, 0, device, k, file[1] - 1, text, BENCH_TEXT, &value);
 }
 
+static void rescue(void) {
+    answer = bench_rescue(damaged, length, mended, length, text, BENCH_TEXT, &value, &set);
+}
+
+static void rescue_whole(void) {
+    answer = bench_rescue(file, length, mended, length, text, BENCH_TEXT, &value, &set);
+}
+
 static struct call {
     const char *name;
     void (*make)(void);
@@ -148,6 +156,8 @@ static struct call {
     {"bench_cut", cut, BENCH_STACK_CUT, 0, 0, 0, 0},
     {"bench_why,0", why_at_start, BENCH_STACK_WHY, 0, 0, 0, 0},
     {"bench_why,1", why, BENCH_STACK_WHY, 0, 0, 0, 0},
+    {"bench_rescue,0", rescue_whole, BENCH_STACK_RESCUE, 0, 0, 0, 0},
+    {"bench_rescue,1", rescue, BENCH_STACK_RESCUE, 0, 0, 0, 0},
 };
 enum { CALLS = sizeof calls / sizeof *calls };
 
@@ -260,6 +270,12 @@ static void lengthen(void) {
     block[511] = sum % 65521 / 256;
 }
 
+/* A copy in which the check of every second device's block fails: by a loop alone, as C's functions may not be bound yet. */
+static void damage(void) {
+    for (bench_size i = 0; i < length; i++)
+        ((volatile bench_u8 *)damaged)[i] = file[i] ^ (i % 1024 == 509 && i > 512);
+}
+
 static void load(const char *name) {
     int from = open(name, 0);
     long got;
@@ -267,6 +283,7 @@ static void load(const char *name) {
     while ((got = read(from, file + length, sizeof file - length)) > 0)
         length += got;
     close(from);
+    damage();
 }
 
 /* ---- a call that is the first of its process

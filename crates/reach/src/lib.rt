@@ -20,21 +20,16 @@ pub fn reach(plan: Plan, state: &[u32], device: usize, k: u32) -> Reach
     if number != 0 {
         return answer::refused(number);
     }
-    let core = plan.core;
-    let source = core.source;
-    let asked = source_refusal(core.devices, &source, device, k);
+    let asked = source_refusal(plan.core.devices, &plan.core.source, device, k);
     if asked != 0 {
         return answer::refused(asked);
     }
-    let role = core.role;
-    let ports = core.ports;
-    let peers = plan::peers_of(plan);
     let alone = bits::join(0, device as u32);
     let seen = visits::each_port(
-        &role,
-        &ports,
-        &core.permissions,
-        &peers,
+        &plan.core.role,
+        &plan.core.ports,
+        &plan.core.permissions,
+        &plan.peers,
         &plan.barred,
         state,
         k,

@@ -1,4 +1,4 @@
--- No rules: what private functions of the reader compute on the way.
+-- No rules: what private functions of the reader compute on the way, and the refusal of one block, which a public one answers.
 use Rattle.std.specs.Prelude.{cond, List, [], ◌∷◌, ◌++◌, ℕ, zero, suc, ◌+◌, ◌*◌, ◌/◌, eqb, ltb, length}
 use Rattle.lists.specs.Table.{joined}
 use Rattle.plan.specs.Block.{block}

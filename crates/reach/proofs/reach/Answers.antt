@@ -54,7 +54,7 @@ each_port-seen-requires c =
 pub returns : goal.returns
 returns c =
     let plain = ready _ _ _ c.refusal-number.ensures c.if-number-ne0.false in
-    let seen = walked _ _ _ _ _ _ _ plain.0 (small _ _ _ _ plain.0 c.source_refusal-asked.ensures c.if-asked-ne0.false) c.peers_of-peers.ensures c.join-alone.ensures c.each_port-seen.ensures in
+    let seen = walked _ _ _ _ _ _ _ plain.0 (small _ _ _ _ plain.0 c.source_refusal-asked.ensures c.if-asked-ne0.false) refl c.join-alone.ensures c.each_port-seen.ensures in
     record {
       answers = subst (Ordered (reach_asks _ _ _ _)) c.if-asked-ne0.false (behind _ _ _ _ _ plain c.source_refusal-asked.ensures);
       made = λ _. (seen.0, c.count.ensures, seen.1);
