@@ -72,8 +72,7 @@ pub struct Read {
     pub plan: Plan,
 }
 
-// A plan of its three parts. An array of arrays as a field costs a proof by hand, so only this
-// function and the next one name it.
+// A plan of its three parts.
 pub fn whole(core: Core, peers: [[u16; 8]; 32], barred: [u32; 512]) -> Plan
     ensures { (result.core ≡ core) × (result.peers ≡ peers) × (result.barred ≡ barred) }
 {

@@ -9,8 +9,6 @@ returns-then-number-ne0 c = outcome-refused c.call_refusal-number.ensures c.if-n
 
 pub returns : goal.returns
 returns c =
-    let e = c in
-    let a = e in
-    let r = call-ready _ _ _ _ _ e.call_refusal-number.ensures e.if-number-ne0.false in
-    outcome-done e.call_refusal-number.ensures e.if-number-ne0.false
-    (c.take.ensures a.args.plan.peers a.args.plan.barred ∙ called-in _ _ _ _ _ r.0 r.1 r.2 a.requires)
+    let r = call-ready _ _ _ _ _ c.call_refusal-number.ensures c.if-number-ne0.false in
+    outcome-done c.call_refusal-number.ensures c.if-number-ne0.false
+    (c.take.ensures c.args.plan.peers c.args.plan.barred ∙ called-in _ _ _ _ _ r.0 r.1 r.2 c.requires)

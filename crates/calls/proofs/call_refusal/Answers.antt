@@ -36,12 +36,9 @@ returns-then-own-ne0 c = call-foreign _ _ _ _ _ (first c.before.before.before.be
 
 pub returns-then-not-is_used : goal.returns-then-not-is_used
 returns-then-not-is_used c =
-    let o = c in
-    call-unused _ _ _ _ _ (first c.before.before.before.before.before.before.before.before.before) o.owned.ensures o.own_refusal-own.ensures c.if-own-ne0.false (sym c.is_used.ensures ∙ c.if-not-is_used.true)
+    call-unused _ _ _ _ _ (first c.before.before.before.before.before.before.before.before.before) c.owned.ensures c.own_refusal-own.ensures c.if-own-ne0.false (sym c.is_used.ensures ∙ c.if-not-is_used.true)
 
 pub returns : goal.returns
 returns c =
-    let u = c in
-    let o = u in
-    call-answered _ _ _ _ _ (first c.before.before.before.before.before.before.before.before.before.before.before) o.owned.ensures o.own_refusal-own.ensures u.if-own-ne0.false
-    (sym u.is_used.ensures ∙ u.if-not-is_used.false) c.send_refusal.ensures
+    call-answered _ _ _ _ _ (first c.before.before.before.before.before.before.before.before.before.before.before) c.owned.ensures c.own_refusal-own.ensures c.if-own-ne0.false
+    (sym c.is_used.ensures ∙ c.if-not-is_used.false) c.send_refusal.ensures

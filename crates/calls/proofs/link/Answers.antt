@@ -18,5 +18,4 @@ switch-requires c = link-ready _ _ _ _ _ c.link_refusal-number.ensures c.if-numb
 
 pub returns : goal.returns
 returns c =
-    let e = c in
-    outcome-done e.link_refusal-number.ensures e.if-number-ne0.false c.switch.ensures
+    outcome-done c.link_refusal-number.ensures c.if-number-ne0.false c.switch.ensures

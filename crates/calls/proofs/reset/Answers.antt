@@ -15,23 +15,19 @@ clear-requires c = ready _ _ _ (asked _ _ _ c.refusal-number.ensures c.if-number
 
 pub empty-requires : goal.empty-requires
 empty-requires c =
-    let e = c in
-    let r = ready _ _ _ (asked _ _ _ e.refusal-number.ensures e.if-number-ne0.false) in search rules
+    let r = ready _ _ _ (asked _ _ _ c.refusal-number.ensures c.if-number-ne0.false) in search rules
 
 pub unclock-requires : goal.unclock-requires
 unclock-requires c =
-    let e = c in
-    let r = ready _ _ _ (asked _ _ _ e.refusal-number.ensures e.if-number-ne0.false) in search rules
+    let r = ready _ _ _ (asked _ _ _ c.refusal-number.ensures c.if-number-ne0.false) in search rules
 
 pub uncount-requires : goal.uncount-requires
 uncount-requires c =
-    let e = c in
-    let r = ready _ _ _ (asked _ _ _ e.refusal-number.ensures e.if-number-ne0.false) in search rules
+    let r = ready _ _ _ (asked _ _ _ c.refusal-number.ensures c.if-number-ne0.false) in search rules
 
 pub returns : goal.returns
 returns c =
-    let e = c in
-    outcome-done e.refusal-number.ensures e.if-number-ne0.false
+    outcome-done c.refusal-number.ensures c.if-number-ne0.false
     (c.uncount.ensures
     ∙ ap (uncounted _)
     (c.unclock.ensures ∙ ap (untimed _) (c.empty.ensures ∙ ap (emptied _) c.clear.ensures))

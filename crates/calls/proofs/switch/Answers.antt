@@ -19,12 +19,8 @@ module _ (plan : Plan) (q far : ℕ) (end : far ≡ peer plan q) where
 
 pub returns-then-running : goal.returns-then-running
 returns-then-running c =
-    let e = c in
-    to-run _ _ _ e.far_end-far.ensures e.args.running _ _ e.if-running.true c.flag.ensures
+    to-run _ _ _ c.far_end-far.ensures c.args.running _ _ c.if-running.true c.flag.ensures
 
 pub returns : goal.returns
 returns c =
-    let g = c in
-    let f = g in
-    let e = f in
-    to-stop _ _ _ e.far_end-far.ensures e.args.running _ _ _ _ e.if-running.false f.drain.ensures g.drain-2.ensures c.flag-2.ensures
+    to-stop _ _ _ c.far_end-far.ensures c.args.running _ _ _ _ c.if-running.false c.drain.ensures c.drain-2.ensures c.flag-2.ensures

@@ -22,8 +22,7 @@ returns-then-kind-gt1 c peers barred = sym (called-not _ _ _ _ _ (λ long h l g.
 pub returns : goal.returns
 unfolding called
 returns c peers barred =
-    let m = c in
     c.queue_all.ensures
     ∙ queued-in _ _ _ _ _ _ (search rules) (omega arith) (omega arith)
-    ∙ ap (queue_all_at _ _ _ _ _) (m.mark.ensures peers barred)
+    ∙ ap (queue_all_at _ _ _ _ _) (c.mark.ensures peers barred)
     ∙ sym (called-in _ _ _ _ _ (search rules) (omega arith) (omega arith) (omega arith))

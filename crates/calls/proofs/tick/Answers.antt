@@ -11,5 +11,4 @@ advance-requires c = tick-ready _ _ _ c.tick_refusal-number.ensures c.if-number-
 
 pub returns : goal.returns
 returns c =
-    let e = c in
-    outcome-done e.tick_refusal-number.ensures e.if-number-ne0.false c.advance.ensures
+    outcome-done c.tick_refusal-number.ensures c.if-number-ne0.false c.advance.ensures

@@ -19,24 +19,20 @@ none side register counter (Acknowledge k) p q r = absurd (q k refl)
 pub returns-in_default-code-2 : goal.returns-in_default-code-2
 unfolding reacts
 returns-in_default-code-2 c =
-    let m = c in
-    c.outcome.ensures ∙ none _ _ _ m.read-code.result m.in_default.not-Interrupt m.in_default-code.not-Acknowledge m.in_default-code-2.not-Time
-    ∙ ap (reacts_to _ _ _) m.read-code.ensures
+    c.outcome.ensures ∙ none _ _ _ c.read-code.result c.in_default.not-Interrupt c.in_default-code.not-Acknowledge c.in_default-code-2.not-Time
+    ∙ ap (reacts_to _ _ _) c.read-code.ensures
 
 pub returns-in_default-code : goal.returns-in_default-code
 unfolding reacts reacts_to
 returns-in_default-code c =
-    let m = c in
-    c.counted.ensures ∙ ap (reacts_to _ _ _) (sym m.in-Time.is ∙ m.read-code.ensures)
+    c.counted.ensures ∙ ap (reacts_to _ _ _) (sym c.in-Time.is ∙ c.read-code.ensures)
 
 pub returns-in_default : goal.returns-in_default
 unfolding reacts reacts_to
 returns-in_default c =
-    let m = c in
-    c.ruled.ensures ∙ ap (reacts_to _ _ _) (sym m.in-Acknowledge.is ∙ m.read-code.ensures)
+    c.ruled.ensures ∙ ap (reacts_to _ _ _) (sym c.in-Acknowledge.is ∙ c.read-code.ensures)
 
 pub returns : goal.returns
 unfolding reacts reacts_to
 returns c =
-    let m = c in
-    c.ruled-2.ensures ∙ ap (reacts_to _ _ _) (sym m.in-Interrupt.is ∙ m.read-code.ensures)
+    c.ruled-2.ensures ∙ ap (reacts_to _ _ _) (sym c.in-Interrupt.is ∙ c.read-code.ensures)

@@ -30,9 +30,6 @@ used c = sym c.is_used.ensures ∙ c.if-not-is_used.false
 -- all five tests were passed
 accepts : (c : lts.Else5 tie.the-claims reads.Pre reads.Post) → let a = c.args in Accepts a.side a.register a.kind a.k
 accepts c =
-    let u = c in
-    let b = u in
-    let m = b in
     record {
       runs = runs c.before.before.before.before.before.before.before.before.before;
       may = may c.before.before.before.before.before.before.before;
@@ -49,20 +46,14 @@ returns-then-not-may_receive c = c.outcome-then-not-may_receive.ensures ∙ forb
 
 pub returns-then-get-ne0 : goal.returns-then-get-ne0
 returns-then-get-ne0 c =
-    let m = c in
     c.outcome-then-get-ne0.ensures ∙ barred _ _ _ _ _ _ (runs c.before.before.before.before.before.before) (may c.before.before.before.before) (λ e. c.if-get-ne0.true (bars c.before.before ∙ e))
 
 pub returns-then-not-is_used : goal.returns-then-not-is_used
 returns-then-not-is_used c =
-    let b = c in
-    let m = b in
     c.outcome-then-not-is_used.ensures ∙ unused _ _ _ _ _ _ (runs c.before.before.before.before.before.before.before.before) (may c.before.before.before.before.before.before) (unbarred c.before.before.before) (sym c.is_used.ensures ∙ c.if-not-is_used.true)
 
 pub returns-then-get-kind : goal.returns-then-get-kind
 returns-then-get-kind c =
-    let u = c in
-    let b = u in
-    let m = b in
     c.outcome-then-get-kind.ensures ∙ opposite _ _ _ _ _ _ (runs c.before.before.before.before.before.before.before.before.before.before) (may c.before.before.before.before.before.before.before.before) (unbarred c.before.before.before.before.before) (used c.before.before.before) (λ e. c.if-get-kind.true (c.get-2.ensures ∙ e))
 
 pub returns : goal.returns

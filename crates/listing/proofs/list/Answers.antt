@@ -23,9 +23,8 @@ put_line-at-requires c =
 
 pub loop-taken-preserved : goal.loop-taken-preserved
 loop-taken-preserved c =
-    let b = c in
-    let v = b.loop-taken in
-    turn v.invariant (omega arith) (line-short _ (omega (arith, b.shared_slice_known-in-loop-taken-1.given v.taken))) (omega arith)
+    let v = c.loop-taken in
+    turn v.invariant (omega arith) (line-short _ (omega (arith, c.shared_slice_known-in-loop-taken-1.given v.taken))) (omega arith)
     c.put_line-at.ensures
 
 pub returns-after-loop-taken : goal.returns-after-loop-taken

@@ -38,16 +38,10 @@ module _
 pub put_name-end-requires : goal.put_name-end-requires
 unfolding ascii
 put_name-end-requires c =
-    let b = c in
-    let a = b in
-    name-room a.args.byte b.put_number-space.ensures c.put-word.ensures c.read.ensures a.requires
+    name-room c.args.byte c.put_number-space.ensures c.put-word.ensures c.read.ensures c.requires
 
 pub returns : goal.returns
 unfolding ascii
 returns c =
-    let d = c in
-    let e = d in
-    let b = e in
-    let a = b in
-    whole a.args.byte b.put_number-space.ensures e.put-word.ensures d.read.ensures a.requires d.put_name-end.ensures
+    whole c.args.byte c.put_number-space.ensures c.put-word.ensures c.read.ensures c.requires c.put_name-end.ensures
     c.put.ensures

@@ -30,18 +30,14 @@ module _ (top low : ℕ) where
 
 pub put_valued-after-requires : goal.put_valued-after-requires
 unfolding ascii
-put_valued-after-requires c = let a = c in omega (arith, size a.args.top a.args.low, a.requires)
+put_valued-after-requires c = omega (arith, size c.args.top c.args.low, c.requires)
 
 pub put_valued-requires : goal.put_valued-requires
 unfolding ascii
 put_valued-requires c =
-    let b = c in
-    let a = b in
-    second-room a.args.top a.args.low b.put_valued-after.ensures a.requires
+    second-room c.args.top c.args.low c.put_valued-after.ensures c.requires
 
 pub returns : goal.returns
 unfolding ascii
 returns c =
-    let b = c in
-    let a = b in
-    whole a.args.top a.args.low b.put_valued-after.ensures a.requires c.put_valued.ensures
+    whole c.args.top c.args.low c.put_valued-after.ensures c.requires c.put_valued.ensures

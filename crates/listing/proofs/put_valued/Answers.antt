@@ -3,5 +3,4 @@ use Rattle.listing.proofs.put_valued.Goals as goal
 
 pub returns : goal.returns
 returns c =
-    let b = c in
-    joined b.put-after.ensures b.requires c.put_number.ensures
+    joined c.put-after.ensures c.requires c.put_number.ensures

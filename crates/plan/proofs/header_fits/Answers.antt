@@ -24,12 +24,9 @@ returns-then-not-loads_fit c = simp (few c.before.before.before.before, failed c
 pub returns-then-header : goal.returns-then-header
 unfolding master_fits
 returns-then-header c =
-    let l = c in
-    simp (few c.before.before.before.before.before, passed l.loads_fit.ensures (ap not l.if-not-loads_fit.false), lt-leb _ _ c.if-header.true)
+    simp (few c.before.before.before.before.before, passed c.loads_fit.ensures (ap not c.if-not-loads_fit.false), lt-leb _ _ c.if-header.true)
 
 pub returns : goal.returns
 unfolding master_fits
 returns c =
-    let m = c in
-    let l = m in
-    simp (few c.before.before.before.before.before.before.before, passed l.loads_fit.ensures (ap not l.if-not-loads_fit.false), le-leb _ _ m.if-header.false) c.pairs_fit.ensures
+    simp (few c.before.before.before.before.before.before.before, passed c.loads_fit.ensures (ap not c.if-not-loads_fit.false), le-leb _ _ c.if-header.false) c.pairs_fit.ensures

@@ -23,8 +23,7 @@ module _ (plan : Plan) (sent : List ℕ) (q d byte : ℕ) (device : q / 8 ≡ d)
 
 pub loop-d-init : goal.loop-d-init
 loop-d-init c =
-    let s = c in
-    record { within = omega arith; few = s.requires.0.few; count = omega arith; state = s.requires.2; area = refl; follows = follows-none _ }
+    record { within = omega arith; few = c.requires.0.few; count = omega arith; state = c.requires.2; area = refl; follows = follows-none _ }
 
 pub bounds-roles-d : goal.bounds-roles-d
 bounds-roles-d c = omega (arith, c.requires.0.few)
@@ -37,59 +36,50 @@ bounds-ports-d c = omega (arith, c.requires.0.few)
 
 pub overflow_cast-past : goal.overflow_cast-past
 overflow_cast-past c =
-    let s = c in
-    omega (arith, s.requires.0.most c.loop-d.d (omega arith))
+    omega (arith, c.requires.0.most c.loop-d.d (omega arith))
 
 pub overflow_add-past : goal.overflow_add-past
 overflow_add-past c =
-    let s = c in
-    omega (arith, s.requires.0.most c.loop-d.d (omega arith), s.requires.0.few)
+    omega (arith, c.requires.0.most c.loop-d.d (omega arith), c.requires.0.few)
 
 pub loop-q-init : goal.loop-q-init
 loop-q-init c =
-    let s = c in
-    let most = s.requires.0.most c.loop-d.d (omega arith) in
+    let most = c.requires.0.most c.loop-d.d (omega arith) in
     (λ size x v. v, omega arith, omega arith, omega (arith, most))
 
 pub arrive_one-count-requires : goal.arrive_one-count-requires
 arrive_one-count-requires c =
-    let l = c in
-    let v = l.loop-q.invariant.0 _ _ l.loop-d.invariant in
-    (v.state, omega (arith, v.few, l.loop-q.invariant.3), omega (arith, v.count, v.few, l.loop-q.invariant.3))
+    let v = c.loop-q.invariant.0 _ _ c.loop-d.invariant in
+    (v.state, omega (arith, v.few, c.loop-q.invariant.3), omega (arith, v.count, v.few, c.loop-q.invariant.3))
 
 pub loop-q-preserved : goal.loop-q-preserved
 loop-q-preserved c =
-    let l = c in
-    let o = l in
-    let most = o.requires.0.most o.loop-d.d (omega arith) in
-    let device : l.loop-q.q / 8 ≡ o.loop-d.d = omega arith in
+    let most = c.requires.0.most c.loop-d.d (omega arith) in
+    let device : c.loop-q.q / 8 ≡ c.loop-d.d = omega arith in
     let byte = c.heard-byte.ensures in (
-      λ size x v. let u = l.loop-q.invariant.0 size x v in
+      λ size x v. let u = c.loop-q.invariant.0 size x v in
           elim c.if-byte-lt-NOTHING.branch [
             | then-byte-lt-NOTHING w ↦
-                again u (omega (arith, l.loop-q.invariant.3))
+                again u (omega (arith, c.loop-q.invariant.3))
                 (lands w.state-is w.told-is w.count-is (leads (λ told. here-byte _ _ _ _ _ device byte w.if-byte-lt-NOTHING.true _) w.arrive_one-count.ensures.0))
                 (omega (arith, w.count-is, w.arrive_one-count.ensures.1))
                 (ap length w.state-is ∙ w.arrive_one-count.auto.state)
                 (ap length w.told-is ∙ w.arrive_one-count.auto.told)
             | else-byte-lt-NOTHING w ↦
-                again u (omega (arith, l.loop-q.invariant.3))
+                again u (omega (arith, c.loop-q.invariant.3))
                 (lands w.state-is w.told-is w.count-is (silent (λ told. here-nothing _ _ _ _ _ device byte w.if-byte-lt-NOTHING.false _)))
                 (omega (arith, w.count-is)) (ap length w.state-is) (ap length w.told-is)
           ],
       omega arith,
       omega arith,
-      l.loop-q.invariant.3,
+      c.loop-q.invariant.3,
     )
 
 pub loop-d-preserved : goal.loop-d-preserved
 loop-d-preserved c =
-    let l = c in
-    let o = l in
-    let s = o in
-    let most = s.requires.0.most o.loop-d.d (omega arith) in
-    skip (l.loop-q.invariant.0 _ _ o.loop-d.invariant) (omega arith) (omega arith)
-    (λ j a b. arrives-unused _ s.requires.0 _ s.requires.1 o.loop-d.d j (omega arith) (omega arith) (omega arith))
+    let most = c.requires.0.most c.loop-d.d (omega arith) in
+    skip (c.loop-q.invariant.0 _ _ c.loop-d.invariant) (omega arith) (omega arith)
+    (λ j a b. arrives-unused _ c.requires.0 _ c.requires.1 c.loop-d.d j (omega arith) (omega arith) (omega arith))
 
 pub returns : goal.returns
 unfolding reached

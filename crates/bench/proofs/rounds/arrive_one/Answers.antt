@@ -16,10 +16,9 @@ shape_of-state c = c.act.auto.state ∙ simp length-set
 pub returns : goal.returns
 unfolding word put
 returns c =
-    let b = c in
     let a = c.args in (
-      leads (λ told. arrived-acts _ a.permissions.now a.q a.state.now a.barred.now (eqb a.role 1) a.events a.byte b.react-reaction.result told
-          (rw c.word.ensures.0 at b.react-reaction.ensures)) c.act.ensures.0,
+      leads (λ told. arrived-acts _ a.permissions.now a.q a.state.now a.barred.now (eqb a.role 1) a.events a.byte c.react-reaction.result told
+          (rw c.word.ensures.0 at c.react-reaction.ensures)) c.act.ensures.0,
       c.act.ensures.1,
     )
 

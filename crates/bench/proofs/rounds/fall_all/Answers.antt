@@ -14,22 +14,20 @@ loop-d-init c = record { within = omega arith; count = omega arith; state = sear
 pub fall_device-count-requires : goal.fall_device-count-requires
 fall_device-count-requires c =
     let l = c.loop-d in
-    let b = c in
-    (l.invariant.state, omega arith, omega arith, rests-yet (router b.args.role.now) l.d (b.requires.2 l.d (omega arith)) l.invariant.follows)
+    (l.invariant.state, omega arith, omega arith, rests-yet (router c.args.role.now) l.d (c.requires.2 l.d (omega arith)) l.invariant.follows)
 
 pub loop-d-preserved : goal.loop-d-preserved
 loop-d-preserved c =
-    let b = c in
-    let l = b.loop-d in
-    let is_router = router b.args.role.now in
+    let l = c.loop-d in
+    let is_router = router c.args.role.now in
     record {
       within = omega arith;
-      count = omega (arith, b.fall_device-count.ensures.1);
-      state = b.fall_device-count.auto.state ∙ l.invariant.state;
-      area = b.fall_device-count.auto.told ∙ l.invariant.area;
+      count = omega (arith, c.fall_device-count.ensures.1);
+      state = c.fall_device-count.auto.state ∙ l.invariant.state;
+      area = c.fall_device-count.auto.told ∙ l.invariant.area;
       follows =
           follows-done _
-          (follows-block _ (fall (is_router l.d) l.d) (32 * l.d) 32 l.invariant.follows b.fall_device-count.ensures.0 (falls_of is_router l.d))
+          (follows-block _ (fall (is_router l.d) l.d) (32 * l.d) 32 l.invariant.follows c.fall_device-count.ensures.0 (falls_of is_router l.d))
           (omega arith);
     }
 

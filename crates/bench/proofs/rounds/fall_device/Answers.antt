@@ -10,15 +10,14 @@ use Rattle.bench.proofs.rounds.fall_device.Goals as goal
 pub loop-rest-init : goal.loop-rest-init
 unfolding word
 loop-rest-init c =
-    let b = c in
     record {
       at = 0;
       within = omega arith;
-      fits = omega (arith, c.slice_known-3-1.given (33 * b.args.d));
+      fits = omega (arith, c.slice_known-3-1.given (33 * c.args.d));
       past = λ k h. absurd (omega arith);
-      idle = λ k h l z. b.requires.3.rests k l z;
+      idle = λ k h l z. c.requires.3.rests k l z;
       count = omega arith;
-      state = b.requires.0;
+      state = c.requires.0;
       area = refl;
       follows = follows-none _;
     }
@@ -36,9 +35,8 @@ loop-rest-smaller c =
 
 pub loop-rest-preserved : goal.loop-rest-preserved
 loop-rest-preserved c =
-    let b = c in
-    let l = b.loop-rest in
-    rw c.leave-rest.ensures (again l.invariant (omega arith) b.fall_one-count.ensures.0 b.fall_one-count.ensures.1 b.fall_one-count.auto.state b.fall_one-count.auto.told)
+    let l = c.loop-rest in
+    rw c.leave-rest.ensures (again l.invariant (omega arith) c.fall_one-count.ensures.0 c.fall_one-count.ensures.1 c.fall_one-count.auto.state c.fall_one-count.auto.told)
 
 pub returns : goal.returns
 returns c =

@@ -8,16 +8,14 @@ use Rattle.bench.proofs.trial.attempt.Goals as goal
 
 pub returns-then-number-ne0 : goal.returns-then-number-ne0
 returns-then-number-ne0 c =
-    let s = c in
-    let p = s.requires in
+    let p = c.requires in
     let fresh = is-begun _ _ p.1 c.begin.ensures in
     let answer = c.send_refusal-number.ensures in
     (rw c.refused.ensures (is-refused _ p.0 _ _ p.4 fresh answer c.if-number-ne0.true), p.2)
 
 pub run-answer-requires : goal.run-answer-requires
 run-answer-requires c =
-    let s = c in
-    let p = s.requires in
+    let p = c.requires in
     let fresh = is-begun _ _ p.1 c.begin.ensures in
     let answer = c.send_refusal-number.ensures in
     let z = c.if-number-ne0.false in
@@ -29,8 +27,7 @@ holders-held-requires c = ((held-devices _ c.requires.0).1, search rules)
 
 pub returns : goal.returns
 returns c =
-    let s = c in
-    let p = s.requires in
+    let p = c.requires in
     let fresh = is-begun _ _ p.1 c.begin.ensures in
     let answer = c.send_refusal-number.ensures in
     let z = c.if-number-ne0.false in

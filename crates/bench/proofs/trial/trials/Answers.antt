@@ -19,8 +19,7 @@ try_all-requires c =
 
 pub returns : goal.returns
 returns c =
-    let b = c in
     let f = granted c.fits.ensures (ap not c.if-not-fits.false) in
-    finds _ _ _ _ (granted c.is_held.ensures (ap not c.if-not-is_held.false)) c.peers_of.ensures f b.try_all.ensures.0
-    (c.fill-2.ensures ∙ ap (λ n. table n (λ i. 0)) (b.try_all.auto.state ∙ f.0.0))
-    b.try_all.ensures.1
+    finds _ _ _ _ (granted c.is_held.ensures (ap not c.if-not-is_held.false)) c.peers_of.ensures f c.try_all.ensures.0
+    (c.fill-2.ensures ∙ ap (λ n. table n (λ i. 0)) (c.try_all.auto.state ∙ f.0.0))
+    c.try_all.ensures.1

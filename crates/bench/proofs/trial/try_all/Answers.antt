@@ -28,10 +28,9 @@ loop-i-init c =
 pub attempt-tried-requires : goal.attempt-tried-requires
 attempt-tried-requires c =
     let l = c.loop-i in
-    let s = c in
-    let core = s.args.core in
+    let core = c.args.core in
     let asks = place_asks core.devices (l.i / 32) (get_or core.source (l.i / 32) 0) (l.i % 32) in
-    (s.requires.0, l.invariant.long, l.invariant.cleared, omega arith, answered-none asks c.refused-tried.ensures c.if-tried-eq0.true c.foreign.ensures)
+    (c.requires.0, l.invariant.long, l.invariant.cleared, omega arith, answered-none asks c.refused-tried.ensures c.if-tried-eq0.true c.foreign.ensures)
 
 pub bounds-found-i-in-loop-i : goal.bounds-found-i-in-loop-i
 bounds-found-i-in-loop-i c = simp length-set (omega (arith, c.loop-i.invariant.so_far.size))

@@ -9,6 +9,5 @@ returns-then-claimant-eq-NOBODY c = looser (same_word (nothing _ _) (restored-no
 
 pub returns : goal.returns
 returns c =
-    let start = c in
-    let a = start.args in
-    same_word (within (joint-short a.t a.claimant start.requires.0 (omega arith)) c.put_joint.ensures) (restored-some a.t a.claimant c.if-claimant-eq-NOBODY.false)
+    let a = c.args in
+    same_word (within (joint-short a.t a.claimant c.requires.0 (omega arith)) c.put_joint.ensures) (restored-some a.t a.claimant c.if-claimant-eq-NOBODY.false)

@@ -35,6 +35,4 @@ returns-then-mark-eq0 c = kept _ _ _ _ _ c.if-mark-eq0.true
 
 pub returns : goal.returns
 returns c =
-    let p = c in
-    let l = p in
-    made _ _ _ _ _ l.if-mark-eq0.false l.requires.0 l.requires.1 p.put_device.ensures
+    made _ _ _ _ _ c.if-mark-eq0.false c.requires.0 c.requires.1 c.put_device.ensures

@@ -11,9 +11,7 @@ put_block-requires c = (omega arith, omega arith)
 
 pub loop-d-preserved : goal.loop-d-preserved
 loop-d-preserved c =
-    let p = c in
-    let l = p in
-    over-more l.loop-d.invariant l.loop-d-test.true (omega arith) l.core-core.ensures l.peers-peers.ensures p.put_block.ensures
+    over-more c.loop-d.invariant c.loop-d-test.true (omega arith) c.core-core.ensures c.peers-peers.ensures c.put_block.ensures
     (search rules)
 
 pub returns : goal.returns

@@ -24,11 +24,9 @@ loop-k-init c = (refl, omega arith)
 
 pub loop-k-preserved : goal.loop-k-preserved
 loop-k-preserved c =
-    let l = c in
-    (turn l.args.loads.now l.loop-k.k l.loop-k.invariant.0 c.pair_fits.ensures c.both-all.ensures, omega arith)
+    (turn c.args.loads.now c.loop-k.k c.loop-k.invariant.0 c.pair_fits.ensures c.both-all.ensures, omega arith)
 
 pub returns : goal.returns
 returns c =
-    let l = c in
-    let end : l.loop-k.k ≡ 32 = omega (arith, l.loop-k.invariant.1) in
-    l.loop-k.invariant.0 ∙ ap (λ n. every n (fits l.args.loads.now)) end
+    let end : c.loop-k.k ≡ 32 = omega (arith, c.loop-k.invariant.1) in
+    c.loop-k.invariant.0 ∙ ap (λ n. every n (fits c.args.loads.now)) end

@@ -34,14 +34,12 @@ returns-then-wide-far c =
 
 pub returns-then-wide16-d : goal.returns-then-wide16-d
 returns-then-wide16-d c =
-    let e = c in
-    let w = e.wide16-q in
-    let some = e.if-q-eq256.false in
-    sym (leads _ _ _ _ w.result false w.ensures.0 some (rw (← e.wide.ensures.0) e.if-wide-far.false) (rw (← c.wide16.ensures.0) (ne_eqb _ _ c.if-wide16-d.true)))
+    let w = c.wide16-q in
+    let some = c.if-q-eq256.false in
+    sym (leads _ _ _ _ w.result false w.ensures.0 some (rw (← c.wide.ensures.0) c.if-wide-far.false) (rw (← c.wide16.ensures.0) (ne_eqb _ _ c.if-wide16-d.true)))
 
 pub returns : goal.returns
 returns c =
-    let e = c in
-    let w = e.wide16-q in
-    let some = e.if-q-eq256.false in
-    sym (leads _ _ _ _ w.result true w.ensures.0 some (rw (← e.wide.ensures.0) e.if-wide-far.false) (rw (← c.wide16.ensures.0) (eq-eqb _ _ c.if-wide16-d.false)))
+    let w = c.wide16-q in
+    let some = c.if-q-eq256.false in
+    sym (leads _ _ _ _ w.result true w.ensures.0 some (rw (← c.wide.ensures.0) c.if-wide-far.false) (rw (← c.wide16.ensures.0) (eq-eqb _ _ c.if-wide16-d.false)))

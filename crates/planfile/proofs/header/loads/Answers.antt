@@ -23,12 +23,10 @@ loop-k-init c = filled_more (filled_more (filled_none (omega arith)) (omega arit
 
 pub loop-k-preserved : goal.loop-k-preserved
 loop-k-preserved c =
-    let n = c in
-    let l = n in
-    let s = l.args.block.now in
-    let k = l.loop-k.k in
+    let s = c.args.block.now in
+    let k = c.loop-k.k in
     let next : 2 + 2 * k + 1 + 1 ≡ 2 + 2 * (k + 1) = omega arith in
-    rw next at (filled_more (filled_more l.loop-k.invariant (omega arith) (node s k _ (omega arith) n.two-in-loop-k.ensures.0)) (omega arith) (router s k _ (omega arith) c.two-in-loop-k-2.ensures.0))
+    rw next at (filled_more (filled_more c.loop-k.invariant (omega arith) (node s k _ (omega arith) c.two-in-loop-k.ensures.0)) (omega arith) (router s k _ (omega arith) c.two-in-loop-k-2.ensures.0))
 
 pub returns : goal.returns
 returns c =

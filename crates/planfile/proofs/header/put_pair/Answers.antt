@@ -16,9 +16,5 @@ pair_put loads s k node router n r p q =
 
 pub returns : goal.returns
 returns c =
-    let p = c in
-    let f = p in
-    let r = f in
-    let n = r in
-    let a = n.args in
-    pair_put a.loads.now a.block.now a.k _ _ n.wide16-node.ensures.0 r.wide16-router.ensures.0 f.put.ensures p.put-2.ensures
+    let a = c.args in
+    pair_put a.loads.now a.block.now a.k _ _ c.wide16-node.ensures.0 c.wide16-router.ensures.0 c.put.ensures c.put-2.ensures

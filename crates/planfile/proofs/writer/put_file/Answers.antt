@@ -12,8 +12,7 @@ put-requires c = let e = ap (λ (h : Header). h.devices) c.header_of.ensures in 
 
 pub loop-d-init : goal.loop-d-init
 loop-d-init c =
-    let p = c in
-    first_block _ _ (search rules) (p.put.ensures ∙ ap (λ (h : Header). block_of (header_holdings h)) p.header_of.ensures) refl
+    first_block _ _ (search rules) (c.put.ensures ∙ ap (λ (h : Header). block_of (header_holdings h)) c.header_of.ensures) refl
 
 pub put-requires-in-loop-d : goal.put-requires-in-loop-d
 put-requires-in-loop-d c =
@@ -21,9 +20,7 @@ put-requires-in-loop-d c =
 
 pub loop-d-preserved : goal.loop-d-preserved
 loop-d-preserved c =
-    let p = c in
-    let l = p in
-    next-block _ _ l.loop-d.invariant (omega arith) p.put-in-loop-d.ensures (search rules) refl
+    next-block _ _ c.loop-d.invariant (omega arith) c.put-in-loop-d.ensures (search rules) refl
 
 pub returns : goal.returns
 returns c = whole-file c.loop-d.invariant (omega arith)

@@ -17,7 +17,6 @@ returns-then-state-ne-WORDS c =
 
 pub returns : goal.returns
 returns c =
-    let e = c in
-    let held = granted e.is_held.ensures (ap not e.if-not-is_held.false) in
-    outcome-done (inr (held, inr (e.if-state-ne-WORDS.false, refl))) refl
+    let held = granted c.is_held.ensures (ap not c.if-not-is_held.false) in
+    outcome-done (inr (held, inr (c.if-state-ne-WORDS.false, refl))) refl
     (c.write_first.ensures ∙ ap start_of c.peers_of-peers.ensures)

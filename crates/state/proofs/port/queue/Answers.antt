@@ -14,7 +14,6 @@ bounds-state-at-6 c = simp length-set (omega arith)
 pub returns : goal.returns
 unfolding word put
 returns c =
-    let b = c in
-    let a = b.args in
+    let a = c.args in
     queue-stored a.permissions a.kind a.k a.q a.state.now c.queued_by-after.result (omega arith)
-    (sym b.may_send.ensures ∙ b.if-not-may_send.false) c.queued_by-after.ensures
+    (sym c.may_send.ensures ∙ c.if-not-may_send.false) c.queued_by-after.ensures

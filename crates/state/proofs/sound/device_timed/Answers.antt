@@ -43,9 +43,7 @@ returns-then-register-eq0 c =
 pub returns-then-not-timer_sound : goal.returns-then-not-timer_sound
 unfolding device_timed
 returns-then-not-timer_sound c =
-    let n = c in
-    let w = n in
-    let e = tested _ _ _ _ _ w.inside-register.ensures w.get.ensures w.inside.ensures n.load_for.ensures c.timer_sound.ensures in
+    let e = tested _ _ _ _ _ c.inside-register.ensures c.get.ensures c.inside.ensures c.load_for.ensures c.timer_sound.ensures in
     sym (every-not 32 _ _ (omega arith) (e ∙ c.if-not-timer_sound.true))
 
 pub loop-k-smaller : goal.loop-k-smaller
@@ -53,10 +51,8 @@ loop-k-smaller c = omega arith
 
 pub loop-k-preserved : goal.loop-k-preserved
 loop-k-preserved c =
-    let n = c in
-    let w = n in
-    let e = tested _ _ _ _ _ w.inside-register.ensures w.get.ensures w.inside.ensures n.load_for.ensures c.timer_sound.ensures in
-    (omega arith, below_more _ _ w.loop-k.invariant.1 (e ∙ c.if-not-timer_sound.false))
+    let e = tested _ _ _ _ _ c.inside-register.ensures c.get.ensures c.inside.ensures c.load_for.ensures c.timer_sound.ensures in
+    (omega arith, below_more _ _ c.loop-k.invariant.1 (e ∙ c.if-not-timer_sound.false))
 
 pub returns : goal.returns
 unfolding device_timed

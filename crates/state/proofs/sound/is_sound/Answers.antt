@@ -54,16 +54,14 @@ returns-then-state-ne-WORDS c = decided _ _ (fit c.before.before) false _ _ _ _ 
 
 pub returns-then-not-all_timed : goal.returns-then-not-all_timed
 returns-then-not-all_timed c =
-    let e = c in
     let timed = sym c.all_timed.ensures ∙ c.if-not-all_timed.true in
-    decided _ _ (fit c.before.before.before.before.before.before.before) true false _ _ _ _ _ (eq-eqb _ _ e.if-state-ne-WORDS.false) timed refl refl refl refl refl
+    decided _ _ (fit c.before.before.before.before.before.before.before) true false _ _ _ _ _ (eq-eqb _ _ c.if-state-ne-WORDS.false) timed refl refl refl refl refl
 
 pub returns-then-not-rest_zero : goal.returns-then-not-rest_zero
 returns-then-not-rest_zero c =
-    let e = c in
     let timed = sym c.all_timed.ensures ∙ c.if-not-all_timed.false in
     let rest = sym c.rest_zero.ensures ∙ c.if-not-rest_zero.true in
-    decided _ _ (fit c.before.before.before.before.before.before.before.before.before) true true false _ _ _ _ (eq-eqb _ _ e.if-state-ne-WORDS.false) timed rest refl refl refl refl
+    decided _ _ (fit c.before.before.before.before.before.before.before.before.before) true true false _ _ _ _ (eq-eqb _ _ c.if-state-ne-WORDS.false) timed rest refl refl refl refl
 
 -- the first three tests are passed, when the ports are looked at: the answer is that of the last four
 looked : (c : lts.After-ports_sound tie.the-claims reads.Pre reads.Post) → let e = c in
@@ -72,15 +70,13 @@ looked : (c : lts.After-ports_sound tie.the-claims reads.Pre reads.Post) → let
     → all_drops e.args.plan e.args.state.now ≡ k → (c.ports_sound.result && g && h && k) ≡ r)
     → Decides (Sound e.args.plan e.args.state.now) r
 looked c r last =
-    let t = c in
-    let e = t in
-    let plan = e.args.plan in
-    let s = e.args.state.now in
-    let timed = sym t.all_timed.ensures ∙ t.if-not-all_timed.false in
-    let rest = sym t.rest_zero.ensures ∙ t.if-not-rest_zero.false in
+    let plan = c.args.plan in
+    let s = c.args.state.now in
+    let timed = sym c.all_timed.ensures ∙ c.if-not-all_timed.false in
+    let rest = sym c.rest_zero.ensures ∙ c.if-not-rest_zero.false in
     let ports = all-ports plan s _ _ c.peers_of-peers.ensures c.ports_sound.ensures in
     subst (Decides (Sound plan s)) (last (all_counters plan s) (all_times plan s) (all_drops plan s) refl refl refl)
-    (decided plan s (fit c.before.before.before.before.before.before.before.before.before.before.before.before.before.before) true true true c.ports_sound.result (all_counters plan s) (all_times plan s) (all_drops plan s) (eq-eqb _ _ e.if-state-ne-WORDS.false) timed rest ports refl refl refl)
+    (decided plan s (fit c.before.before.before.before.before.before.before.before.before.before.before.before.before.before) true true true c.ports_sound.result (all_counters plan s) (all_times plan s) (all_drops plan s) (eq-eqb _ _ c.if-state-ne-WORDS.false) timed rest ports refl refl refl)
 
 pub returns-then-not-ports_sound : goal.returns-then-not-ports_sound
 returns-then-not-ports_sound c = looked c.before.before false (λ g h k u v w. rw c.if-not-ports_sound.true)
@@ -104,5 +100,4 @@ returns-then-not-times_sound c = counted c.before.before false (λ h k v w. rw (
 
 pub returns : goal.returns
 returns c =
-    let t = c in
-    counted c.before.before.before.before.before c.drops_sound.result (λ h k v w. rw (← v, ← t.times_sound.ensures, c.if-not-times_sound.false) (sym w ∙ sym c.drops_sound.ensures))
+    counted c.before.before.before.before.before c.drops_sound.result (λ h k v w. rw (← v, ← c.times_sound.ensures, c.if-not-times_sound.false) (sym w ∙ sym c.drops_sound.ensures))

@@ -36,16 +36,11 @@ returns-then-other-ge-NO_PEER c = alone _ _ _ _ _ _ _ _ c.wide16-other.ensures.0
 
 pub returns-then-not-leads_out : goal.returns-then-not-leads_out
 returns-then-not-leads_out c =
-    let o = c in
-    answered _ _ _ _ _ _ _ _ o.wide16-other.ensures.0 o.if-other-ge-NO_PEER.false false (failed c.leads_out.ensures (ap not c.if-not-leads_out.true))
+    answered _ _ _ _ _ _ _ _ c.wide16-other.ensures.0 c.if-other-ge-NO_PEER.false false (failed c.leads_out.ensures (ap not c.if-not-leads_out.true))
 
 pub returns : goal.returns
 unfolding word
 returns c =
-    let t = c in
-    let r = t in
-    let p = r in
-    let o = p in
     c.first_failing.ensures
-    ∙ same _ (r.may_send-sends.ensures ∙ ap (may_send 0) r.word.ensures.0) (t.may_receive-takes.ensures ∙ ap (may_receive 0) t.word-2.ensures.0) c.get-admits.ensures
-    ∙ answered _ _ _ _ _ _ _ _ o.wide16-other.ensures.0 o.if-other-ge-NO_PEER.false true (passed p.leads_out.ensures (ap not p.if-not-leads_out.false))
+    ∙ same _ (c.may_send-sends.ensures ∙ ap (may_send 0) c.word.ensures.0) (c.may_receive-takes.ensures ∙ ap (may_receive 0) c.word-2.ensures.0) c.get-admits.ensures
+    ∙ answered _ _ _ _ _ _ _ _ c.wide16-other.ensures.0 c.if-other-ge-NO_PEER.false true (passed c.leads_out.ensures (ap not c.if-not-leads_out.false))

@@ -22,10 +22,8 @@ returns-then-other-ge-NO_PEER c = answered _ _ _ _ c.wide16-other.ensures.0 fals
 
 pub returns-then-to-other-ge32 : goal.returns-then-to-other-ge32
 returns-then-to-other-ge32 c =
-    let e = c in
-    answered _ _ _ _ e.wide16-other.ensures.0 true false (lt-ltb _ _ e.if-other-ge-NO_PEER.false) (le-ltb _ _ c.if-to-other-ge32.true)
+    answered _ _ _ _ c.wide16-other.ensures.0 true false (lt-ltb _ _ c.if-other-ge-NO_PEER.false) (le-ltb _ _ c.if-to-other-ge32.true)
 
 pub returns : goal.returns
 returns c =
-    let e = c in
-    answered _ _ _ _ e.wide16-other.ensures.0 true true (lt-ltb _ _ e.if-other-ge-NO_PEER.false) (lt-ltb _ _ c.if-to-other-ge32.false)
+    answered _ _ _ _ c.wide16-other.ensures.0 true true (lt-ltb _ _ c.if-other-ge-NO_PEER.false) (lt-ltb _ _ c.if-to-other-ge32.false)

@@ -10,9 +10,7 @@ loop-p-init c = (none, search rules)
 
 pub loop-p-preserved : goal.loop-p-preserved
 loop-p-preserved c =
-    let m = c in
-    let t = m in
-    (turn t.loop-p.invariant.0 t.loop-p-test.true m.meet.ensures, m.meet.auto.far ∙ t.loop-p.invariant.1)
+    (turn c.loop-p.invariant.0 c.loop-p-test.true c.meet.ensures, c.meet.auto.far ∙ c.loop-p.invariant.1)
 
 pub returns : goal.returns
 unfolding spread

@@ -24,21 +24,15 @@ ends role to from n far next h l v y z =
 
 pub loop-n-init : goal.loop-n-init
 loop-n-init c =
-    let f = c in
-    let b = f in
-    begins _ _ _ b.args.far.now _ b.requires.0 f.fill.ensures
+    begins _ _ _ c.args.far.now _ c.requires.0 c.fill.ensures
 
 pub returns-then-not-layer : goal.returns-then-not-layer
 returns-then-not-layer c =
-    let y = c in
-    let t = y in
-    ends _ _ _ _ _ _ t.requires.1 t.loop-n-test.true t.loop-n.invariant y.layer.ensures c.if-not-layer.true
+    ends _ _ _ _ _ _ c.requires.1 c.loop-n-test.true c.loop-n.invariant c.layer.ensures c.if-not-layer.true
 
 pub loop-n-preserved : goal.loop-n-preserved
 loop-n-preserved c =
-    let y = c in
-    let t = y in
-    (turn t.loop-n.invariant.0 t.loop-n-test.true y.layer.ensures.0, y.layer.auto.far ∙ t.loop-n.invariant.1)
+    (turn c.loop-n.invariant.0 c.loop-n-test.true c.layer.ensures.0, c.layer.auto.far ∙ c.loop-n.invariant.1)
 
 pub returns : goal.returns
 unfolding layers

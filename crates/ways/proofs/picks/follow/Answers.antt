@@ -12,9 +12,7 @@ loop-i-init c = record { within = omega arith; long = search rules; low = search
 
 pub loop-i-preserved : goal.loop-i-preserved
 loop-i-preserved c =
-    let t = c in
-    let b = t in
-    again t.loop-i.invariant b.requires.3 b.requires.2 t.loop-i-test.true _ c.pick-q.ensures.0
+    again c.loop-i.invariant c.requires.3 c.requires.2 c.loop-i-test.true _ c.pick-q.ensures.0
 
 pub returns : goal.returns
 returns c = done c.loop-i.invariant c.loop-i-test.false
