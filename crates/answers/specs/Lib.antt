@@ -1,3 +1,4 @@
 pub mod Answer
 pub mod Decides
 pub mod Ordered
+pub mod Refusals

@@ -2,12 +2,13 @@
 use mathlib.Core.Path.{◌≡◌, sym, ap, ◌∙◌}
 use mathlib.Core.Logic.{dite}
 use mathlib.Core.List.{List, ◌++◌, append_assoc}
-use Prim.Native.Nat.{ℕ, ◌+◌, ◌≤◌, ◌<◌}
+use Prim.Native.Nat.{ℕ, ◌+◌, ◌-◌, ◌≤◌, ◌<◌}
 use native.Mathlib.Decide.{dec_le}
 use native.Mathlib.Nat.{zero-add, add_assoc}
 use native.Mathlib.Omega.{arith}
 use lib.ListN.{length, take, drop, length-append, length-take, length-drop}
 use lib.Seq.{take_at, drop_at, drop-drop}
+use borrow.Rule.Slice.PartMut.{put_mid}
 use borrow.Author.Tests.{le-leb, lt-leb}
 use Rattle.areas.specs.Put.{put_at, place_after, Puts, over}
 
@@ -54,6 +55,13 @@ put-put t at u v h =
     put_whole (put_at t at u) (at + length u) v (omega (arith, length-put t at u))
     ∙ rw (take_put t at u (omega arith), ← drop-drop (length v) (at + length u), drop-put t at u (omega arith), drop-drop)
     (sym (put_whole t at (u ++ v) (omega arith) ∙ simp (e, ← append_assoc, ← add_assoc)))
+
+-- a word copied over as many bytes of the area
+pub put-mid : (t : List ℕ) (at : ℕ) (w : List ℕ) {part : List ℕ} → at + length w ≤ length t → part ≡ w
+    → put_mid at (at + length w - at) t part ≡ put_at t at w
+put-mid t at w room e =
+    let n : at + length w - at ≡ length w = omega arith in
+    rw (n, e, drop-drop) (sym (append_assoc (take at t) w (drop (at + length w) t)) ∙ sym (put_whole t at w room))
 
 -- what the promise of `put` says of a word without room, and of one with room
 pub puts_none : (t : List ℕ) (at : ℕ) (w : List ℕ) → length t < at + length w → Puts t at w t at

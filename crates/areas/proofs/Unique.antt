@@ -2,7 +2,7 @@
 use mathlib.Core.Path.{◌≡◌, sym, ◌∙◌}
 use mathlib.Core.Bool.{Bool}
 use mathlib.Core.List.{List}
-use Prim.Native.Nat.{ℕ, ◌+◌, ◌<◌}
+use Prim.Native.Nat.{ℕ, ◌+◌}
 use lib.Dec.{leb}
 use lib.ListN.{length}
 use Rattle.areas.specs.Put.{Puts, copied, all_zero, all_short}
@@ -25,7 +25,3 @@ zeros-unique area r s p q = p ∙ sym q
 
 pub short-unique : (area : List ℕ) (r s : Bool) → r ≡ all_short area → s ≡ all_short area → r ≡ s
 short-unique area r s p q = p ∙ sym q
-
--- the three that widen a number promise this, each with its bound
-pub wide-unique : (bound x r s : ℕ) → (r ≡ x) × (r < bound) → (s ≡ x) × (s < bound) → r ≡ s
-wide-unique bound x r s p q = p.0 ∙ sym q.0

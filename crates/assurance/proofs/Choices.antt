@@ -11,8 +11,7 @@ use borrow.Author.Tests.{le-ltb}
 use Rattle.lists.proofs.Tables.{length-table, get_d-table}
 use Rattle.bits.specs.Set.{bit}
 use Rattle.bits.specs.First.{Finds, after}
-use Rattle.bits.specs.declared.Found.{Found}
-use Rattle.bits.specs.declared.Found.TheVariants.{At, Nowhere}
+use Rattle.std.specs.Prelude.{Option, Some, None}
 use Rattle.bits.proofs.Sets.{bit-two, bit-or, bit-zero}
 use Rattle.device.specs.Permissions.{may_send}
 use Rattle.plan.specs.Fields.{nobody}
@@ -93,7 +92,7 @@ module _ (plan : Plan) (held : Held plan) (k : ℕ) (l : k < 32) (s : State) (q 
   waiting-of (suc (suc n)) g = absurd (omega arith)
 
   -- what is first is found
-  found : (c : Found) → first_waits s q ≡ c → Finds (bit_or (waiting s 0 q) (waiting s 1 q)) (next s q) c
+  found : (c : Option ℕ) → first_waits s q ≡ c → Finds (bit_or (waiting s 0 q) (waiting s 1 q)) (next s q) c
   found c e = rw e at (first_finds s q)
 
   -- what is sent waits
@@ -101,7 +100,7 @@ module _ (plan : Plan) (held : Held plan) (k : ℕ) (l : k < 32) (s : State) (q 
   unfolding Finds
   sent-waits kind g e =
       let o = sends-chosen l plan held s q h kind g e in
-      let m = (found (At k) (chosen-first s q o).1).member in
+      let m = (found (Some k) (chosen-first s q o).1).member in
       elim (ℕ_discrete (bit (waiting s 0 q) k) 1) [
         | yes y ↦ let is : kind ≡ 0 = omega (arith, sent-at l plan held s q h, post-interrupt s q o y) in rw is y
         | no n ↦
@@ -111,7 +110,7 @@ module _ (plan : Plan) (held : Held plan) (k : ℕ) (l : k < 32) (s : State) (q 
 
   module _ (kind : ℕ) (g : kind < 2) (other : bit (waiting s (1 - kind) q) k ≡ 0) where
     -- where k is chosen, it is sent as the kind in which it waits
-    chosen-of-kind : chosen s q ≡ At k → SendsIt plan k s kind q
+    chosen-of-kind : chosen s q ≡ Some k → SendsIt plan k s kind q
     chosen-of-kind o =
         let c = chosen-sends l plan held s q h o in
         elim (ℕ_discrete c.0 kind) [
@@ -125,7 +124,7 @@ module _ (plan : Plan) (held : Held plan) (k : ℕ) (l : k < 32) (s : State) (q 
     pub data Served : Type 0 where
       sent : SendsIt plan k s kind q → Served
       late : time_goes s q ≡ true → lately s q ≡ 0 → Served
-      nearer : (j : ℕ) → chosen s q ≡ At j → j ≢ k → after ((j + 1) % 32) k < after (next s q) k → Served
+      nearer : (j : ℕ) → chosen s q ≡ Some j → j ≢ k → after ((j + 1) % 32) k < after (next s q) k → Served
 
     pub chosen-or-nearer : bit (waiting s kind q) k ≡ 1 → Served
     unfolding Finds
@@ -134,15 +133,15 @@ module _ (plan : Plan) (held : Held plan) (k : ℕ) (l : k < 32) (s : State) (q 
         all : bit (bit_or (waiting s 0 q) (waiting s 1 q)) k ≡ 1
         all = omega (arith, waiting-of kind g)
 
-        by_first : (c : Found) → first_waits s q ≡ c → Served
-        by_first Nowhere e = absurd (omega (arith, all, found Nowhere e k l))
-        by_first (At j) e = by-time (time_goes s q) refl
+        by_first : (c : Option ℕ) → first_waits s q ≡ c → Served
+        by_first None e = absurd (omega (arith, all, found None e k l))
+        by_first (Some j) e = by-time (time_goes s q) refl
           where
             by-time : (t : Bool) → time_goes s q ≡ t → Served
             by-time true o = late o (goes-early s q o e)
             by-time false o =
                 let c = first-chosen s q o ∙ e in
                 elim (ℕ_discrete j k) [
-                  | yes is ↦ sent (chosen-of-kind (c ∙ ap At is))
-                  | no n ↦ nearer j c n (passed_over k (found (At j) e) l all n)
+                  | yes is ↦ sent (chosen-of-kind (c ∙ ap Some is))
+                  | no n ↦ nearer j c n (passed_over k (found (Some j) e) l all n)
                 ]

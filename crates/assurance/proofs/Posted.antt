@@ -10,8 +10,7 @@ use lib.ListN.{length}
 use Rattle.lists.proofs.Loops.{untouched, own}
 use Rattle.bits.specs.Set.{bit, leave}
 use Rattle.bits.specs.First.{following}
-use Rattle.bits.specs.declared.Found.{Found}
-use Rattle.bits.specs.declared.Found.TheVariants.{At, Nowhere}
+use Rattle.std.specs.Prelude.{Option, Some, None}
 use Rattle.bits.proofs.Sets.{bit-two, leave_same, leave-other}
 use Rattle.plan.specs.Reading.{Held}
 use Rattle.plan.specs.declared.Plan.{Plan}
@@ -34,14 +33,14 @@ use Rattle.assurance.proofs.Fits.{Fit}
 -- ---- one port sends
 
 -- what a choice leaves of a waiting set
-unfoldable pub left : Found → ℕ → ℕ
-left (At j) v = leave v j
-left Nowhere v = v
+unfoldable pub left : Option ℕ → ℕ → ℕ
+left (Some j) v = leave v j
+left None v = v
 
-left-fewer : (c : Found) (v k : ℕ) → k < 32 → bit (left c v) k ≡ 1 → bit v k ≡ 1
+left-fewer : (c : Option ℕ) (v k : ℕ) → k < 32 → bit (left c v) k ≡ 1 → bit v k ≡ 1
 unfolding left
-left-fewer Nowhere v k l b = b
-left-fewer (At j) v k l b =
+left-fewer None v k l b = b
+left-fewer (Some j) v k l b =
     elim (ℕ_discrete k j) [
       | yes e ↦ absurd (omega (arith, leave_same v k l, ap (λ i. bit (leave v i) k) e))
       | no ne ↦ sym (leave-other v j k l ne) ∙ b
@@ -54,14 +53,14 @@ module _ (old : State) (q : ℕ) (t : State) where
   abbrev second : ℕ → State
   second j = put (first j) (port_at q 1) (leave (waiting t 1 q) j)
 
-  unqueued-cases : (P : Found → State → Type 0) → (chosen old q ≡ Nowhere → P Nowhere t)
-      → ((j : ℕ) → chosen old q ≡ At j → P (At j) (put (second j) (port_at q next_at) ((j + 1) % 32))) → P (chosen old q) (unqueued old q t)
+  unqueued-cases : (P : Option ℕ → State → Type 0) → (chosen old q ≡ None → P None t)
+      → ((j : ℕ) → chosen old q ≡ Some j → P (Some j) (put (second j) (port_at q next_at) ((j + 1) % 32))) → P (chosen old q) (unqueued old q t)
   unfolding unqueued following
   unqueued-cases P none some = by-choice (chosen old q) refl
     where
-      by-choice : (c : Found) → chosen old q ≡ c → P (chosen old q) (unqueued old q t)
-      by-choice Nowhere e = rw (e, unqueued) (none e)
-      by-choice (At j) e = rw (e, unqueued) (some j e)
+      by-choice : (c : Option ℕ) → chosen old q ≡ c → P (chosen old q) (unqueued old q t)
+      by-choice None e = rw (e, unqueued) (none e)
+      by-choice (Some j) e = rw (e, unqueued) (some j e)
 
   unqueued-other : (i : ℕ) → i ≢ port_at q 0 → i ≢ port_at q 1 → i ≢ port_at q next_at → word (unqueued old q t) i ≡ word t i
   unqueued-other i a b c =
@@ -91,18 +90,18 @@ module _ (old : State) (q : ℕ) (t : State) where
         (omega (arith, length-put (first j) (port_at q 1) (leave (waiting t 1 q) j), length-put t (port_at q 0) (leave (waiting t 0 q) j))))
 
 -- what a port's word of Time-Codes becomes
-unfoldable stamp : Bool → Found → ℕ → ℕ
-stamp goes other v = cond goes 128 (elim other [ At k ↦ v % 128 | Nowhere ↦ v ])
+unfoldable stamp : Bool → Option ℕ → ℕ → ℕ
+stamp goes other v = cond goes 128 (elim other [ Some k ↦ v % 128 | None ↦ v ])
 
-module _ (goes : Bool) (c : Found) (q : ℕ) (t : State) where
+module _ (goes : Bool) (c : Option ℕ) (q : ℕ) (t : State) where
   stamped-time : q < 256 → length t ≡ words → time (stamped goes c q t) q ≡ stamp goes c (time t q)
   unfolding stamped stamp
   stamped-time h size = by-test goes c
     where
-      by-test : (g : Bool) (c : Found) → time (stamped g c q t) q ≡ stamp g c (time t q)
+      by-test : (g : Bool) (c : Option ℕ) → time (stamped g c q t) q ≡ stamp g c (time t q)
       by-test true c = word_same t (time_at q) 128 (omega arith)
-      by-test false Nowhere = refl
-      by-test false (At k) = word_same t (time_at q) _ (omega arith)
+      by-test false None = refl
+      by-test false (Some k) = word_same t (time_at q) _ (omega arith)
 
 -- both together
 module _ (old : State) (q : ℕ) (t : State) where
@@ -191,9 +190,9 @@ module _ (plan : Plan) (held : Held plan) {s : State} (x : Sound plan s) where
   unfolding stamp
   posts-time-on q h g = rw (posts-time q h, g) (by-choice (chosen s q))
     where
-      by-choice : (c : Found) → stamp false c (time s q) % 128 ≡ time_waits s q
-      by-choice Nowhere = refl
-      by-choice (At k) = omega arith
+      by-choice : (c : Option ℕ) → stamp false c (time s q) % 128 ≡ time_waits s q
+      by-choice None = refl
+      by-choice (Some k) = omega arith
 
   -- counters stay
   pub posts-counter : (d : ℕ) → d < 32 → counter posts d ≡ counter s d
@@ -210,7 +209,7 @@ module _ (plan : Plan) (held : Held plan) {s : State} (x : Sound plan s) where
   unfolding stamp following
   posts-late q h g = (posts-start q h ∙ rw (time-chosen s q g, following), rw (posts-time q h, g))
 
-  pub posts-early : (q j : ℕ) → q < 8 * devices plan → chosen s q ≡ At j → lately posts q ≡ 0
+  pub posts-early : (q j : ℕ) → q < 8 * devices plan → chosen s q ≡ Some j → lately posts q ≡ 0
   unfolding stamp
   posts-early q j h c = rw (posts-time q h, (chosen-first s q c).0, c) (omega arith)
 
@@ -219,7 +218,7 @@ module _ (plan : Plan) (held : Held plan) {s : State} (x : Sound plan s) where
       let n = few plan held in
       posts-port q kind (left (chosen s q)) h (omega arith) (λ t e. unqueued-waits s q t (omega arith) e kind g)
 
-  pub posts-next : (q j : ℕ) → q < 8 * devices plan → chosen s q ≡ At j → next posts q ≡ (j + 1) % 32
+  pub posts-next : (q j : ℕ) → q < 8 * devices plan → chosen s q ≡ Some j → next posts q ≡ (j + 1) % 32
   unfolding following
   posts-next q j h c = posts-start q h ∙ ap (following (next s q)) c
 
@@ -265,7 +264,7 @@ module _ (plan : Plan) (held : Held plan) {s : State} (x : Sound plan s) where
       posts-wait-late i o b = ap (λ v. bit v k) (posts-waits q kind i g ∙ ap (λ r. left r (waiting s kind q)) (time-chosen s q o)) ∙ b
 
       -- what is not chosen waits on
-      pub posts-wait-on : (j : ℕ) → q < 8 * devices plan → chosen s q ≡ At j → j ≢ k → bit (waiting s kind q) k ≡ 1 → bit (waiting posts kind q) k ≡ 1
+      pub posts-wait-on : (j : ℕ) → q < 8 * devices plan → chosen s q ≡ Some j → j ≢ k → bit (waiting s kind q) k ≡ 1 → bit (waiting posts kind q) k ≡ 1
       unfolding left
       posts-wait-on j i c ne b =
           ap (λ v. bit v k) (posts-waits q kind i g ∙ ap (λ r. left r (waiting s kind q)) c) ∙ leave-other (waiting s kind q) j k l (λ e. ne (sym e)) ∙ b

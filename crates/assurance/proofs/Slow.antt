@@ -1,4 +1,4 @@
--- The slowest that a code can be. At a node's port all identifiers wait, the last of them 31, and a Time-Code waits before each round: then 31 waits on
+-- The slowest that a code can be. Some a node's port all identifiers wait, the last of them 31, and a Time-Code waits before each round: then 31 waits on
 -- for 63 rounds, and nothing happens that concerns it.
 use mathlib.Core.Path.{◌≡◌, refl, sym, ap, ◌∙◌}
 use mathlib.Core.Bool.{Bool, true, false, false≢true}
@@ -10,8 +10,7 @@ use Rattle.lists.specs.Loop.{up_to}
 use Rattle.lists.proofs.Loops.{keeps}
 use Rattle.bits.specs.Set.{bit}
 use Rattle.bits.specs.First.{after, Finds}
-use Rattle.bits.specs.declared.Found.{Found}
-use Rattle.bits.specs.declared.Found.TheVariants.{At, Nowhere}
+use Rattle.std.specs.Prelude.{Option, Some, None}
 use Rattle.bits.proofs.Sets.{bit-two}
 use Rattle.plan.specs.Reading.{Held}
 use Rattle.plan.specs.declared.Plan.{Plan}
@@ -39,11 +38,11 @@ use Rattle.assurance.proofs.Flags.{round-runs}
 use Rattle.assurance.proofs.Quiet.{unsent-aside}
 
 -- what is found
-place_of : Found → ℕ
-place_of (At k) = k
-place_of Nowhere = 0
+place_of : Option ℕ → ℕ
+place_of (Some k) = k
+place_of None = 0
 
-same_place : {j k : ℕ} → At j ≡ At k → j ≡ k
+same_place : {j k : ℕ} → Some j ≡ Some k → j ≡ k
 unfolding place_of
 same_place e = ap place_of e
 
@@ -147,7 +146,7 @@ module _ (plan : Plan) (held : Held plan) (kind : ℕ) (g : kind < 2) (d p : ℕ
     inside = omega arith
 
     -- the first that waits there is t / 2
-    first : first_waits s q ≡ At (t / 2)
+    first : first_waits s q ≡ Some (t / 2)
     unfolding Finds after
     first =
         sym (first-is s q (record {
@@ -174,7 +173,7 @@ module _ (plan : Plan) (held : Held plan) (kind : ℕ) (g : kind < 2) (d p : ℕ
           | yes here ↦ not-here (rw here at c)
         ]
       where
-        not-here : chosen s q ≡ At 31 → ⊥
+        not-here : chosen s q ≡ Some 31 → ⊥
         not-here c =
             elim (ℕ_discrete (t % 2) 0) [
               | yes e ↦ not-nowhere (sym (time-chosen s q (even e)) ∙ c)

@@ -11,8 +11,11 @@ use lib.Seq.{take_all, take-append-le, drop-cons, set-append_seam, set_out}
 use Rattle.lists.specs.Loop.{up_to}
 use Rattle.lists.proofs.Loops.{up_to-step, up_to-same, up_to-add, up_to-still}
 use Rattle.state.specs.State.{State}
-use Rattle.bench.specs.Round.{World}
-use Rattle.bench.specs.Inner.Shown.{shown, Notes, Seen, seen, Shows, Follows}
+use Rattle.codes.specs.declared.Code.{Code}
+use Rattle.codes.specs.declared.Code.TheVariants.{Time, Interrupt, Acknowledge, Reserved}
+use Rattle.bench.specs.Round.{World, tells}
+use Rattle.bench.specs.Inner.Shown.{shown, Notes, Seen, seen, Shows, Follows, Leads}
+use Rattle.bench.specs.declared.rounds.Told.{Told}
 
 -- ---- the area
 
@@ -43,92 +46,123 @@ shown-more before words v = dite (dec_lt (length words) (length before)) room no
         rw (take-append-le (length before) words (v ∷ []) late, end, stop)
         (sym (set_out _ (length words) v (simp (length-append, length-take) (omega arith))))
 
-pub note-one : {area : List ℕ} {count v : ℕ} {after : List ℕ} {total : ℕ} → after ≡ set area count v → total ≡ count + 1 → Notes (v ∷ []) area count after total
-note-one {v} p q =
+pub note-one : {v : ℕ} {told after : Told} → after.area.now ≡ set told.area.now told.count v → after.count ≡ told.count + 1
+    → after.area.ghost_name ≡ told.area.ghost_name → Notes (v ∷ []) told after
+note-one {v} p q same =
     record {
-      notes = λ before told e n. (
-        p ∙ ap₂ (λ (l : List ℕ) (k : ℕ). set l k v) e n ∙ sym (shown-more before told v),
-        q ∙ ap (λ (k : ℕ). k + 1) n ∙ sym (length-append told (v ∷ [])),
+      notes = λ before l e n. (
+        p ∙ ap₂ (λ (l : List ℕ) (k : ℕ). set l k v) e n ∙ sym (shown-more before l v),
+        q ∙ ap (λ (k : ℕ). k + 1) n ∙ sym (length-append l (v ∷ [])),
       );
+      more = q;
+      same = same;
     }
 
-pub note-none : {area : List ℕ} {count : ℕ} → Notes [] area count area count
+pub note-none : {told : Told} → Notes [] told told
 note-none =
     record {
-      notes = λ before told e n. (e ∙ ap (shown before) (sym (append-nil told)), n ∙ ap length (sym (append-nil told)));
+      notes = λ before l e n. (e ∙ ap (shown before) (sym (append-nil l)), n ∙ ap length (sym (append-nil l)));
+      more = omega arith;
+      same = refl;
     }
+
+-- a host is told one word of a code, or none
+pub tells-few : (d : ℕ) (code : Code) → length (tells d code) ≤ 1
+unfolding tells
+tells-few d (Interrupt k) = omega arith
+tells-few d (Acknowledge k) = omega arith
+tells-few d (Time v) = omega arith
+tells-few d (Reserved top low) = omega arith
 
 -- ---- following a rule
 
 abbrev pub world : State → List ℕ → World
 world state told = record { state = state; told = told }
 
-module _ {f : World → World} {s t : State} {a : List ℕ} {n : ℕ} where
-  -- the rule is another one from another state on
-  pub leads : {g : World → World} {y : Seen} → ((told : List ℕ) → f (world s told) ≡ g (world t told)) → Follows g (seen t a n) y → Follows f (seen s a n) y
-  leads {g} {y} h p =
-      record {
-        follows = λ before w v.
-            let e : f w ≡ g (world t w.told) = ap (λ (z : State). f (world z w.told)) (sym v.state) ∙ h w.told in
-            subst (λ (x : World). Shows before x y) (sym e) (p.follows before (world t w.told) (record { state = refl; area = v.area; count = v.count }));
-      }
+-- the rule is another one from another state on
+from-there : {f g : World → World} {s t : State} {a : List ℕ} {n : ℕ} {y : Seen} → ((l : List ℕ) → f (world s l) ≡ g (world t l)) → Follows g (seen t a n) y
+    → Follows f (seen s a n) y
+from-there {f} {g} {s} {t} {y = y} h p =
+    record {
+      follows = λ before w v.
+          let e : f w ≡ g (world t w.told) = ap (λ (z : State). f (world z w.told)) (sym v.state) ∙ h w.told in
+          subst (λ (x : World). Shows before x y) (sym e) (p.follows before (world t w.told) (record { state = refl; area = v.area; count = v.count }));
+    }
+
+module _ {f : World → World} {s t : State} {told : Told} {n : ℕ} where
+  pub leads : {g : World → World} {u : State} {after : Told} → ((l : List ℕ) → f (world s l) ≡ g (world t l)) → Leads g n t told u after → Leads f n s told u after
+  leads h p = record { follows = from-there h p.follows; more = p.more; same = p.same }
 
   -- nothing is told
-  pub silent : ((told : List ℕ) → f (world s told) ≡ world t told) → Follows f (seen s a n) (seen t a n)
-  silent h = leads {g = λ w. w} h (record { follows = λ before w v. v })
+  pub silent : ((l : List ℕ) → f (world s l) ≡ world t l) → Leads f n s told t told
+  silent h = leads {g = λ w. w} h (record { follows = record { follows = λ before w v. v }; more = omega arith; same = refl })
 
   -- words are told
-  pub noted : {words b : List ℕ} {m : ℕ} → ((told : List ℕ) → f (world s told) ≡ world t (told ++ words)) → Notes words a n b m → Follows f (seen s a n) (seen t b m)
-  noted {words} h p =
+  pub noted : {words : List ℕ} {after : Told} → ((l : List ℕ) → f (world s l) ≡ world t (l ++ words)) → length words ≤ n → Notes words told after
+      → Leads f n s told t after
+  noted {words} h few p =
       leads {g = λ w. world w.state (w.told ++ words)} h
       (record {
-        follows = λ before w v.
-            let q = p.notes before w.told v.area v.count in
-            record { state = v.state; area = q.0; count = q.1 };
+        follows = record {
+          follows = λ before w v.
+              let q = p.notes before w.told v.area v.count in
+              record { state = v.state; area = q.0; count = q.1 };
+        };
+        more = omega (arith, p.more);
+        same = p.same;
       })
-
--- what the code has in hand is known by equations
-pub lands : {f : World → World} {x : Seen} {s t : State} {a b : List ℕ} {n m : ℕ} → t ≡ s → b ≡ a → m ≡ n → Follows f x (seen s a n) → Follows f x (seen t b m)
-lands p q r v =
-    record {
-      follows = λ before w u.
-          let y = v.follows before w u in
-          record { state = p ∙ y.state; area = q ∙ y.area; count = r ∙ y.count };
-    }
 
 -- ---- turns of a loop
 
-module _ (f : ℕ → World → World) {x : Seen} where
-  pub follows-none : Follows (up_to f 0) x x
+module _ (f : ℕ → World → World) {s : State} {told : Told} where
+  pub turns-none : Leads (up_to f 0) 0 s told s told
   unfolding up_to
-  follows-none = record { follows = λ before w v. v }
+  turns-none = record { follows = record { follows = λ before w v. v }; more = omega arith; same = refl }
 
-  pub follows-more : {i : ℕ} {y z : Seen} → Follows (up_to f i) x y → Follows (f i) y z → Follows (up_to f (i + 1)) x z
-  follows-more {i} p q = record { follows = λ before w v. rw up_to-step (q.follows before (up_to f i w) (p.follows before w v)) }
+  module _ (i : ℕ) {n : ℕ} {t : State} {now : Told} (p : Leads (up_to f i) n s told t now) where
+    pub turns-more : {m k : ℕ} {u : State} {after : Told} → Leads (f i) m t now u after → n + m ≤ k → Leads (up_to f (i + 1)) k s told u after
+    turns-more q l =
+        record {
+          follows = record { follows = λ before w v. rw up_to-step (q.follows.follows before (up_to f i w) (p.follows.follows before w v)) };
+          more = omega (arith, p.more, q.more);
+          same = q.same ∙ p.same;
+        }
 
-  -- the loop is left
-  pub follows-done : {i m : ℕ} {y : Seen} → Follows (up_to f i) x y → i ≡ m → Follows (up_to f m) x y
-  follows-done {y} p e = subst (λ (k : ℕ). Follows (up_to f k) x y) e p
+    -- the loop is left
+    pub turns-done : {m k : ℕ} → i ≡ m → n ≤ k → Leads (up_to f m) k s told t now
+    turns-done e l =
+        record {
+          follows = subst (λ (j : ℕ). Follows (up_to f j) (seen s told.area.now told.count) (seen t now.area.now now.count)) e p.follows;
+          more = omega (arith, p.more);
+          same = p.same;
+        }
 
-  -- turns that change nothing, as it is known of the state from which all began
-  pub follows-still : {i m : ℕ} {y : Seen} → Follows (up_to f i) x y → i ≤ m
-      → ((w : World) → w.state ≡ x.state → (j : ℕ) → i ≤ j → j < m → f j (up_to f i w) ≡ up_to f i w) → Follows (up_to f m) x y
-  follows-still {i} {m} {y} p l h =
-      record {
-        follows = λ before w v.
-            subst (λ (u : World). Shows before u y) (sym (up_to-still f i m l w (h w (sym v.state)))) (p.follows before w v);
-      }
+    -- turns that change nothing, as it is known of the state from which all began
+    pub turns-still : {m : ℕ} → i ≤ m → ((w : World) → w.state ≡ s → (j : ℕ) → i ≤ j → j < m → f j (up_to f i w) ≡ up_to f i w) → Leads (up_to f m) n s told t now
+    turns-still {m} l h =
+        record {
+          follows = record {
+            follows = λ before w v.
+                subst (λ (u : World). Shows before u (seen t now.area.now now.count)) (sym (up_to-still f i m l w (h w (sym v.state)))) (p.follows.follows before w v);
+          };
+          more = p.more;
+          same = p.same;
+        }
 
-  -- b turns more, which go by another name
-  pub follows-block : (g : ℕ → World → World) (a b : ℕ) {y z : Seen} → Follows (up_to f a) x y → Follows (up_to g b) y z
-      → ((j : ℕ) (w : World) → j < b → f (a + j) w ≡ g j w) → Follows (up_to f (a + b)) x z
-  follows-block g a b {z = z} p q h =
-      record {
-        follows = λ before w v.
-            let e : up_to f (a + b) w ≡ up_to g b (up_to f a w) = up_to-add f a b w ∙ up_to-same (λ j. f (a + j)) g b h (up_to f a w) in
-            subst (λ (u : World). Shows before u z) (sym e) (q.follows before (up_to f a w) (p.follows before w v));
-      }
+    -- b turns more, which go by another name
+    pub turns-block : (g : ℕ → World → World) (b : ℕ) {m k : ℕ} {u : State} {after : Told} → Leads (up_to g b) m t now u after
+        → ((j : ℕ) (w : World) → j < b → f (i + j) w ≡ g j w) → n + m ≤ k → Leads (up_to f (i + b)) k s told u after
+    turns-block g b {u = u} {after} q h l =
+        record {
+          follows = record {
+            follows = λ before w v.
+                let e : up_to f (i + b) w ≡ up_to g b (up_to f i w) = up_to-add f i b w ∙ up_to-same (λ j. f (i + j)) g b h (up_to f i w) in
+                subst (λ (x : World). Shows before x (seen u after.area.now after.count)) (sym e) (q.follows.follows before (up_to f i w) (p.follows.follows before w v));
+          };
+          more = omega (arith, p.more, q.more);
+          same = q.same ∙ p.same;
+        }
 
 -- no word was told yet
-pub shows-none : (s : State) (a : List ℕ) → Shows a (world s []) (seen s a 0)
-shows-none s a = record { state = refl; area = sym (shown-none a); count = refl }
+pub shows-none : (s : State) (a : List ℕ) {n : ℕ} → n ≡ 0 → Shows a (world s []) (seen s a n)
+shows-none s a e = record { state = refl; area = sym (shown-none a); count = e }

@@ -1,35 +1,38 @@
 -- What a round passes over: it is so in every sound state of a held plan, and passing over it changes nothing.
-use mathlib.Core.Path.{◌≡◌, refl, sym, ap, subst, ◌∙◌}
+use mathlib.Core.Path.{◌≡◌, sym, ap, subst, ◌∙◌}
 use mathlib.Core.Bool.{Bool}
-use mathlib.Core.List.{List, []}
+use mathlib.Core.List.{List, [], ◌++◌}
 use mathlib.Core.Logic.{dite}
-use Prim.Native.Nat.{ℕ, ◌+◌, ◌*◌, ◌/◌, ◌%◌, ◌≤◌, ◌<◌}
-use native.Mathlib.Decide.{dec_lt, ℕ_discrete}
+use Prim.Native.Nat.{ℕ, ◌+◌, ◌-◌, ◌*◌, ◌/◌, ◌%◌, ◌≤◌, ◌<◌}
+use native.Mathlib.Decide.{dec_lt}
 use native.Mathlib.Omega.{arith}
-use lib.ListN.{length, get_or, replicate, length-replicate, get_or-replicate, get_or-eq_default}
+use lib.ListN.{length, get_or, take, drop, replicate, length-replicate, get_or-replicate, get_or-eq_default}
 use lib.Seq.{ext_get_or}
+use Rattle.std.proofs.lemmas.List.{get_or_append_left, get_or-append_right, get_or-take, get_or-drop, length-take-le, length-drop}
+use borrow.Rule.Slice.PartMut.{mid_of, post_of, Post-is, same_len_mid}
 use borrow.Author.Tests.{lt-ltb, le-ltb}
 use Rattle.lists.specs.Loop.{up_to}
 use Rattle.lists.specs.Table.{table}
 use Rattle.lists.proofs.Loops.{untouched}
-use Rattle.lists.proofs.Tables.{length-table, get_d-table}
+use Rattle.lists.proofs.Tables.{length-table, get_d-table, is-table}
 use Rattle.bits.specs.Set.{bit}
 use Rattle.plan.specs.Fields.{nobody}
 use Rattle.plan.specs.Reading.{Held}
 use Rattle.plan.specs.declared.Plan.{Plan}
 use Rattle.plan.proofs.BothWays.{held-few}
-use Rattle.state.specs.State.{State, words, word, put, device_words, ports_at, ports_end, register_at, timer_at, timer, counter_at, time_at, drops_start}
+use Rattle.state.specs.State.{State, words, word, device_words, ports_at, ports_end, register_at, timer_at, timer, counter_at, time_at, drops_start}
 use Rattle.state.specs.Network.{devices, ports_of, peer}
 use Rattle.state.specs.Sound.{Sound}
 use Rattle.bench.specs.Round.{World, nothing, sent_words, fall, sent_bytes, arrives, round}
 use Rattle.bench.specs.Inner.Idle.{Rests, Unused, ports_past, Behind, Blank, Idles, Laid, Copies, Silent}
-use Rattle.bench.specs.Inner.Shown.{Seen, seen, Follows}
+use Rattle.bench.specs.Inner.Shown.{Leads}
+use Rattle.bench.specs.declared.rounds.Told.{Told}
 use Rattle.bench.proofs.Falls.{fall-other}
 use Rattle.state.proofs.Plans.{few, past-absent, absent-loose}
-use Rattle.state.proofs.Words.{word-past, length-put, word_same, word-other}
+use Rattle.state.proofs.Words.{word-past}
 use Rattle.state.proofs.Parts.{by_place, by-behind}
 use Rattle.bench.proofs.Stepped.{fall-idle, goes-not, chosen_none, post-nothing, arrives-nothing}
-use Rattle.bench.proofs.Following.{world, follows-still, shows-none}
+use Rattle.bench.proofs.Following.{world, turns-still, shows-none}
 
 -- ---- timers
 
@@ -37,10 +40,10 @@ pub sound-rests : {plan : Plan} {s : State} → Sound plan s → (d : ℕ) → d
 sound-rests x d h g = record { rests = λ k l. (x.timers d k h g l).off }
 
 -- of one device: from timer i to timer m none runs
-pub rests-follows : (is_router : Bool) (d : ℕ) {x y : Seen} {i m : ℕ} → i ≤ m → ((k : ℕ) → i ≤ k → k < m → timer x.state d k ≡ 0)
-    → Follows (up_to (fall is_router d) i) x y → Follows (up_to (fall is_router d) m) x y
-rests-follows is_router d {i = i} l h p =
-    follows-still (fall is_router d) p l
+pub rests-lead : (is_router : Bool) (d : ℕ) {s t : State} {told now : Told} {n i m : ℕ} → i ≤ m → ((k : ℕ) → i ≤ k → k < m → timer s d k ≡ 0)
+    → Leads (up_to (fall is_router d) i) n s told t now → Leads (up_to (fall is_router d) m) n s told t now
+rests-lead is_router d {i = i} l h p =
+    turns-still (fall is_router d) i p l
     (λ w e k a b.
     let same : timer (up_to (fall is_router d) i w).state d k ≡ timer w.state d k =
     untouched (fall is_router d) (λ v. timer v.state d k) i (λ j v c. fall-other is_router d j v (timer_at d k) (omega arith) (omega arith)) w in
@@ -64,10 +67,10 @@ module _ (is_router : ℕ → Bool) where
       (λ j v b. fall-other (is_router (j / 32)) (j / 32) (j % 32) v i (omega arith) (omega arith)) w
 
   -- so when its turn comes, it rests as at first
-  pub rests-yet : {s t : State} {a b : List ℕ} {n : ℕ} (d : ℕ) → Rests s d → Follows (up_to falls (32 * d)) (seen s a 0) (seen t b n) → Rests t d
-  rests-yet {s} {t} {a} d r p =
+  pub rests-yet : {s t : State} {told now : Told} {n : ℕ} (d : ℕ) → told.count ≡ 0 → Rests s d → Leads (up_to falls (32 * d)) n s told t now → Rests t d
+  rests-yet {s} {t} {told} d none r p =
       let is : (i : ℕ) → register_at d ≤ i → word t i ≡ word s i =
-      λ i h. ap (λ (u : State). word u i) (p.follows a (world s []) (shows-none s a)).state ∙ falls-leave d i (world s []) h in
+      λ i h. ap (λ (u : State). word u i) (p.follows.follows told.area.now (world s []) (shows-none s told.area.now none)).state ∙ falls-leave d i (world s []) h in
       record {
         rests = λ k l z.
             is (timer_at d k) (omega arith) ∙ r.rests k l (sym (ap (λ (v : ℕ). bit v k) (is (register_at d) (omega arith))) ∙ z);
@@ -116,6 +119,10 @@ sound-blank plan h {s} x =
           (λ i l a b c. word-past s i (omega (arith, x.size))));
     }
 
+-- an area that is filled with one word
+pub filled : (n v : ℕ) {s : State} → s ≡ replicate n v → s ≡ table n (λ _. v)
+filled n v e = e ∙ is-table n (λ _. v) _ 0 (length-replicate n v) (λ i h. get_or-replicate n i v 0 h)
+
 pub zeros-blank : (n : ℕ) {s : State} → s ≡ table words (λ i. 0) → Blank n s
 unfolding word
 zeros-blank n {s} e =
@@ -126,20 +133,46 @@ zeros-blank n {s} e =
           (λ l. word-past s i (omega (arith, long)));
     }
 
--- words that are copied, by one store after the other
-pub copies-none : {from to : ℕ} {old s : State} → to ≤ from → Copies from to old s s
-copies-none h = record { size = refl; there = λ i a b. absurd (omega arith); left = λ i o. refl }
+-- a part of the words is copied
+module _ (from to : ℕ) (old before part : State) (l : from ≤ to) (m : to ≤ length old) (room : to ≤ length before) (is : part ≡ mid_of from (to - from) old) where
+  abbrev after : State
+  after = take from before ++ (part ++ post_of from (to - from) before)
 
-pub copies-more : {from i v : ℕ} {old s t : State} → Copies from i old s t → from ≤ i → i < length t → v ≡ word old i → Copies from (i + 1) old s (put t i v)
-copies-more {i = i} {v} {t = t} x l h e =
-    record {
-      size = length-put t i v ∙ x.size;
-      there = λ j a b. elim (ℕ_discrete j i) [
-        | yes z ↦ rw z (word_same t i v h ∙ e)
-        | no n ↦ word-other t i v j n ∙ x.there j a (omega arith)
-      ];
-      left = λ j o. word-other t i v j (λ z. o (omega arith) (omega arith)) ∙ x.left j (λ a b. o a (omega arith));
-    }
+  front : length (take from before) ≡ from
+  front = length-take-le from before (omega arith)
+
+  long : length part ≡ to - from
+  long = ap length is ∙ length-take-le (to - from) (drop from old) (omega (arith, length-drop from old))
+
+  inside : (i : ℕ) → from ≤ i → i < to → word after i ≡ word old i
+  unfolding word
+  inside i a b =
+      get_or-append_right (take from before) _ from i 0 front a
+      ∙ get_or_append_left part _ 0 (i - from) (omega (arith, long))
+      ∙ ap (λ (w : State). get_or w (i - from) 0) is
+      ∙ get_or-take (to - from) (drop from old) (i - from) 0 (omega arith)
+      ∙ get_or-drop from old (i - from) 0
+      ∙ ap (λ (n : ℕ). get_or old n 0) (omega arith)
+
+  outside : (i : ℕ) → (from ≤ i → i < to → ⊥) → word after i ≡ word before i
+  unfolding word
+  outside i o =
+      dite (dec_lt i from)
+      (λ b. get_or_append_left (take from before) _ 0 i (omega (arith, front)) ∙ get_or-take from before i 0 b)
+      (λ b.
+      get_or-append_right (take from before) _ from i 0 front (omega arith)
+      ∙ get_or-append_right part _ (to - from) (i - from) 0 long (omega (arith, o (omega arith)))
+      ∙ ap (λ (w : State). get_or w (i - from - (to - from)) 0) (Post-is from to before l)
+      ∙ get_or-drop to before (i - from - (to - from)) 0
+      ∙ ap (λ (n : ℕ). get_or before n 0) (omega (arith, o (omega arith))))
+
+  pub copies-part : Copies from to old before after
+  copies-part =
+      record {
+        size = same_len_mid from (to - from) before part (long ∙ sym (length-take-le (to - from) (drop from before) (omega (arith, length-drop from before))));
+        there = inside;
+        left = outside;
+      }
 
 -- what is so of every place that is theirs, and of every other, is so of all; those of devices, of ports, of counters, of the ports' Time-Codes, and of
 -- their drops

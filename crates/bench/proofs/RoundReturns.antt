@@ -1,5 +1,5 @@
 -- The promise of a round, at each of its returns.
-use mathlib.Core.Path.{◌≡◌, refl, ap, subst, ◌∙◌}
+use mathlib.Core.Path.{◌≡◌, refl, ap, ◌∙◌}
 use mathlib.Core.List.{List, ◌++◌}
 use mathlib.Core.Logic.{inl, inr}
 use Prim.Native.Nat.{ℕ, ◌≤◌}
@@ -49,9 +49,6 @@ module _ (plan : Plan) (old : State) (before : Areas) where
     behind : (number : ℕ) → Ordered more number → Ordered (round_asks plan old before) number
     behind number o = passed (state_asks plan old) more number ready o
 
-    pub next-long : (length before.next ≡ words → ⊥) → Plays plan old before 3 0 before
-    next-long h = refuse (omega arith) (behind 3 (inl (h, refl)))
-
     module _ (n : length before.next ≡ words) where
       pub sent-long : (length before.sent ≡ sent_words → ⊥) → Plays plan old before 3 0 before
       sent-long h = refuse (omega arith) (behind 3 (inr (n, inl (h, refl))))
@@ -77,9 +74,3 @@ module _ (plan : Plan) (old : State) (before : Areas) where
 pub count_fits : {plan : Plan} {old : State} {before : List ℕ} {next : State} {sent told : List ℕ} {count : ℕ} → Held plan → Played plan old before next sent told count
     → count ≤ told_words
 count_fits {plan} {old} h p = omega (arith, p.number, told-fits plan old h)
-
--- the plan of its three parts
-pub played-plan : {plan : Plan} {peers : List (List ℕ)} {old : State} {before : List ℕ} {next : State} {sent told : List ℕ} {count : ℕ} → peers ≡ plan.peers
-    → Played (record { core = plan.core; peers = peers; barred = plan.barred }) old before next sent told count → Played plan old before next sent told count
-played-plan {plan} {old = old} {before} {next} {sent} {told} {count} e p =
-    subst (λ (l : List (List ℕ)). Played (record { core = plan.core; peers = l; barred = plan.barred }) old before next sent told count) e p

@@ -1,31 +1,35 @@
 -- Settling: whether a port waits, what the loop over the rounds knows, and the promise at each return.
 use mathlib.Core.Path.{◌≡◌, refl, sym, ap, subst, ◌∙◌}
-use mathlib.Core.Bool.{Bool, true, false, cond, not}
+use mathlib.Core.Bool.{true, false, cond}
 use mathlib.Core.List.{List}
 use mathlib.Core.Logic.{inl, inr, dite}
-use Prim.Native.Nat.{ℕ, ◌+◌, ◌*◌, ◌≤◌, ◌<◌}
-use native.Mathlib.Decide.{dec_lt}
+use Prim.Native.Nat.{ℕ, ◌+◌, ◌*◌, ◌%◌, ◌≤◌, ◌<◌}
+use Rattle.std.specs.Prelude.{Result, Ok, Err, eqb}
+use Rattle.std.specs.Result.{IsErrAnd}
+use native.Mathlib.Decide.{dec_lt, ℕ_discrete}
 use native.Mathlib.Omega.{arith}
-use lib.ListN.{length, drop}
-use borrow.Author.Tests.{eq-eqb}
+use lib.ListN.{length, drop, replicate}
+use borrow.Author.Tests.{eq-eqb, ne_eqb}
 use borrow.Author.Count.{below_none, below_more}
 use Rattle.answers.specs.Decides.{Decides}
 use Rattle.answers.specs.Ordered.{Condition, Ordered}
-use Rattle.answers.proofs.Outcomes.{fails, Holds, passed, stopped}
+use Rattle.answers.proofs.Outcomes.{fails, Holds, holds, passed, stopped}
+use Rattle.answers.proofs.Refusals.{positive}
+use Rattle.answers.specs.Refusals.{number_of, number_in}
+use Rattle.answers.specs.declared.Refusal.{Refusal}
+use Rattle.answers.specs.declared.Refusal.TheVariants.{TooManyRounds}
 use Rattle.lists.specs.Loop.{up_to}
-use Rattle.areas.specs.Put.{copied}
 use Rattle.lists.specs.Table.{table}
 use Rattle.lists.proofs.Loops.{up_to-step}
-use Rattle.plan.specs.Reading.{Held}
 use Rattle.plan.specs.declared.Plan.{Plan}
 use Rattle.state.specs.State.{State, words, port_at, waiting, time_at, time_waits}
-use Rattle.state.specs.Sound.{Sound, state_asks}
+use Rattle.state.specs.Sound.{state_asks}
 use Rattle.state.proofs.Keeping.{both-kinds}
-use Rattle.bench.specs.declared.Answer.{Answer}
 use Rattle.bench.specs.Round.{round}
 use Rattle.bench.specs.Inner.Idle.{Blank}
-use Rattle.bench.specs.Settling.{rounds, Quiet, Pair, most_rounds, settle_asks, Settles, pair}
+use Rattle.bench.specs.Settling.{rounds, Quiet, Pair, most_rounds, settle_asks, rounds_in, Settles}
 use Rattle.bench.specs.Inner.Ends.{Ends}
+use Rattle.bench.proofs.Idles.{filled}
 
 -- ---- whether a port waits
 
@@ -54,23 +58,24 @@ module _ {n : ℕ} {s : State} where
 
 -- ---- the two areas
 
--- they have changed roles
-pub flip : (b : Bool) (x y : State) → cond (not b) x y ≡ cond b y x
-flip true x y = refl
-flip false x y = refl
+-- past the first two conditions
+pub ready : (plan : Plan) (s : State) → Ordered (state_asks plan s) 0 → Holds (state_asks plan s)
+ready plan s o = holds (state_asks plan s) refl o refl
 
--- an area that is copied into one of its length
-pub copied-same : (from to : List ℕ) → length to ≡ length from → copied from to ≡ from
-unfolding copied
-copied-same from to h = rw (eq-eqb (length to) (length from) h)
+-- an area of so many words that was filled with zeros
+pub cleared : {m n : ℕ} {after : List ℕ} → m ≡ n → after ≡ replicate m 0 → after ≡ table n (λ _. 0)
+cleared {n = n} long e = filled n 0 (e ∙ ap (λ (k : ℕ). replicate k 0) long)
 
--- what is so of the one in use and of the other is so of each
-pub of-both : (P : State → Type 0) (b : Bool) (x y : State) → P (cond b x y) → P (cond b y x) → P x × P y
-of-both P true x y p q = (p, q)
-of-both P false x y p q = (q, p)
+-- after an even number of rounds each is where it was, and after an odd one where the other was
+module _ {A : Type 0} (x y : A) where
+  abbrev pub place : ℕ → A
+  place n = cond (eqb (n % 2) 0) x y
 
-abbrev zeros : List ℕ
-zeros = table words (λ i. 0)
+pub turned : {A : Type 0} (x y : A) (n : ℕ) → place y x n ≡ place x y (n + 1)
+turned x y n = elim (ℕ_discrete (n % 2) 0) [
+  | yes e ↦ rw (e, ne_eqb ((n + 1) % 2) 0 (omega arith))
+  | no e ↦ rw (ne_eqb (n % 2) 0 e, eq-eqb ((n + 1) % 2) 0 (omega arith))
+]
 
 -- ---- the loop: n rounds, of those allowed, have led from s to t, and before each of them a port waited
 
@@ -91,30 +96,27 @@ module _ {plan : Plan} {s : State} {allowance : ℕ} where
   pub ran-more : {n : ℕ} {t u : State} → Ran plan s allowance n t → (Quiet t → ⊥) → n + 1 ≤ allowance → u ≡ (round plan t).next → Ran plan s allowance (n + 1) u
   ran-more v q l e = record { within = l; is = rw up_to-step (e ∙ ap (λ (x : State). (round plan x).next) v.is); busy = ran_on v q }
 
-  -- how it ends: no port waits, or all rounds are played and a port waits still; first what is then answered
-  module _ {n : ℕ} {t : State} {now : Pair} (v : Ran plan s allowance n t) (e : now ≡ pair t zeros) where
-    reached : now ≡ pair (rounds plan n s) zeros
-    reached = e ∙ ap (λ (x : State). pair x zeros) v.is
-
-    pub settled : {answer : Answer} → answer ≡ record { number = 0; value = n } → Quiet t → Ends plan s allowance answer.number answer.value now
-    settled a q =
-        rw a (inl (refl, v.within, record { quiet = subst (λ (x : State). Quiet x) v.is q; least = v.busy }, reached))
-
-    pub spent : {answer : Answer} → answer ≡ record { number = 12; value = n } → (Quiet t → ⊥) → n ≡ allowance → Ends plan s allowance answer.number answer.value now
-    spent a q all =
-        rw a (inr (refl, all, λ m l x. ran_on v q m (omega arith) x, reached ∙ ap (λ (k : ℕ). pair (rounds plan k s) zeros) all))
-
 -- ---- the returns
 
 module _ (plan : Plan) (before : Pair) (allowance : ℕ) where
   abbrev more : List Condition
   more = drop 2 (settle_asks plan before allowance)
 
-  refuse : {number : ℕ} → (number ≡ 0 → ⊥) → (number ≡ 12 → ⊥) → Ordered (settle_asks plan before allowance) number → Settles plan before allowance number 0 before
-  refuse z w o = record { answers = o; made = λ e. absurd (z e); still = λ e. absurd (w e); kept = λ _ _. (refl, refl) }
+  refuse : (r : Refusal) → (number_of r ≡ 12 → ⊥) → Ordered (settle_asks plan before allowance) (number_of r)
+      → Settles plan before allowance (number_of r) (rounds_in allowance (Err r)) before
+  refuse r w o =
+      let p = positive r in
+      record {
+        answers = o;
+        made = λ e. absurd (omega arith);
+        still = λ e. absurd (w e);
+        kept = λ _ _. (rw (ne_eqb (number_of r) 12 w), refl);
+      }
 
-  pub not-ready : {number : ℕ} → Ordered (state_asks plan before.state) number → (number ≡ 0 → ⊥) → Settles plan before allowance number 0 before
-  not-ready o z = refuse z (below-three o) (stopped (state_asks plan before.state) more o z)
+  pub not-ready : (x : Result ℕ Refusal) (r : Refusal) → IsErrAnd x (λ e. e ≡ r) → Ordered (state_asks plan before.state) (number_of r)
+      → Settles plan before allowance (number_in x) (rounds_in allowance x) before
+  not-ready (Ok v) r i o = absurd i
+  not-ready (Err e) r i o = rw i (refuse r (below-three o) (stopped (state_asks plan before.state) more o (λ z. let p = positive r in omega arith)))
     where
       below-three : {number : ℕ} → Ordered (state_asks plan before.state) number → number ≡ 12 → ⊥
       below-three (inl x) = omega (arith, x.1)
@@ -125,12 +127,9 @@ module _ (plan : Plan) (before : Pair) (allowance : ℕ) where
     behind : (number : ℕ) → Ordered more number → Ordered (settle_asks plan before allowance) number
     behind number o = passed (state_asks plan before.state) more number ready o
 
-    pub second-long : (length before.second ≡ words → ⊥) → Settles plan before allowance 3 0 before
-    second-long h = refuse (omega arith) (omega arith) (behind 3 (inl (h, refl)))
-
     module _ (long : length before.second ≡ words) where
       pub too_many : (allowance ≤ most_rounds → ⊥) → Settles plan before allowance 11 0 before
-      too_many h = refuse (omega arith) (omega arith) (behind 11 (inr (long, inl (h, refl))))
+      too_many h = refuse TooManyRounds (omega arith) (behind 11 (inr (long, inl (h, refl))))
 
       pub ends : allowance ≤ most_rounds → {number value : ℕ} {now : Pair} → Ends plan before.state allowance number value now
           → Settles plan before allowance number value now
@@ -148,16 +147,3 @@ module _ (plan : Plan) (before : Pair) (allowance : ℕ) where
             still = λ _. (all, is);
             kept = λ _ n. absurd (n z);
           }
-
--- ---- the plan of its three parts
-
-pub held-parts : (plan : Plan) {peers : List (List ℕ)} → peers ≡ plan.peers → Held plan → Held (record { core = plan.core; peers = peers; barred = plan.barred })
-held-parts plan e h = subst (λ (l : List (List ℕ)). Held (record { core = plan.core; peers = l; barred = plan.barred })) (sym e) h
-
-pub sound-parts : {plan : Plan} {peers : List (List ℕ)} {s : State} → peers ≡ plan.peers → Sound plan s → Sound (record { core = plan.core; peers = peers; barred = plan.barred }) s
-sound-parts {plan} {s = s} e h = subst (λ (l : List (List ℕ)). Sound (record { core = plan.core; peers = l; barred = plan.barred }) s) (sym e) h
-
-pub ends-plan : {plan : Plan} {peers : List (List ℕ)} {s : State} {allowance number value : ℕ} {now : Pair} → peers ≡ plan.peers
-    → Ends (record { core = plan.core; peers = peers; barred = plan.barred }) s allowance number value now → Ends plan s allowance number value now
-ends-plan {plan} {s = s} {allowance} {number} {value} {now} e p =
-    subst (λ (l : List (List ℕ)). Ends (record { core = plan.core; peers = l; barred = plan.barred }) s allowance number value now) e p

@@ -11,8 +11,7 @@ use lib.ListN.{get_or}
 use borrow.Author.Tests.{eq-eqb, ne_eqb, eqb-true, eqb-false, lt-ltb, le-ltb}
 use Rattle.bits.specs.Set.{bit, leave}
 use Rattle.bits.specs.First.{Finds, following}
-use Rattle.bits.specs.declared.Found.{Found}
-use Rattle.bits.specs.declared.Found.TheVariants.{At, Nowhere}
+use Rattle.std.specs.Prelude.{Option, Some, None}
 use Rattle.bits.proofs.Sets.{bit-zero}
 use Rattle.bits.proofs.Firsts.{first-unique, first_from-finds}
 use Rattle.codes.specs.Codes.{byte_of}
@@ -56,18 +55,18 @@ module _ (is_router : Bool) (d k : ℕ) (s : State) (told : List ℕ) where
 -- ---- 2. sending
 
 -- a code that is found is not found nowhere
-pub not-nowhere : {k : ℕ} → Nowhere ≡ At k → ⊥
+pub not-nowhere : {k : ℕ} → None ≡ Some k → ⊥
 not-nowhere e = let z : ◌≡◌ {A = ℕ} 0 1 = cc in omega arith
 
 -- a Time-Code that goes waits
-pub some-waits : (waits late : ℕ) (other : Found) → goes waits late other ≡ true → 1 ≤ waits
+pub some-waits : (waits late : ℕ) (other : Option ℕ) → goes waits late other ≡ true → 1 ≤ waits
 unfolding goes
 some-waits zero late other e = absurd (false≢true e)
 some-waits (suc v) late other e = omega arith
 
 module _ (old : State) (q : ℕ) where
   -- what the code finds
-  pub first-is : {r : Found} → Finds (bit_or (waiting old 0 q) (waiting old 1 q)) (next old q) r → r ≡ first_waits old q
+  pub first-is : {r : Option ℕ} → Finds (bit_or (waiting old 0 q) (waiting old 1 q)) (next old q) r → r ≡ first_waits old q
   unfolding first_waits
   first-is f = first-unique _ _ _ _ f (first_from-finds _ _)
 
@@ -76,11 +75,11 @@ module _ (old : State) (q : ℕ) where
   first_finds = first_from-finds (bit_or (waiting old 0 q) (waiting old 1 q)) (next old q)
 
   -- an identifier is chosen where it is the first and no Time-Code goes
-  pub chosen-first : {k : ℕ} → chosen old q ≡ At k → (time_goes old q ≡ false) × (first_waits old q ≡ At k)
+  pub chosen-first : {k : ℕ} → chosen old q ≡ Some k → (time_goes old q ≡ false) × (first_waits old q ≡ Some k)
   unfolding chosen
   chosen-first {k} = by-test (time_goes old q) refl
     where
-      by-test : (t : Bool) → time_goes old q ≡ t → cond t Nowhere (first_waits old q) ≡ At k → (time_goes old q ≡ false) × (first_waits old q ≡ At k)
+      by-test : (t : Bool) → time_goes old q ≡ t → cond t None (first_waits old q) ≡ Some k → (time_goes old q ≡ false) × (first_waits old q ≡ Some k)
       by-test true g e = absurd (not-nowhere e)
       by-test false g e = (g, e)
 
@@ -88,21 +87,21 @@ module _ (old : State) (q : ℕ) where
   unfolding chosen
   first-chosen g = rw g
 
-  pub time-chosen : time_goes old q ≡ true → chosen old q ≡ Nowhere
+  pub time-chosen : time_goes old q ≡ true → chosen old q ≡ None
   unfolding chosen
   time-chosen g = rw g
 
-  pub chosen-place : {k : ℕ} → chosen old q ≡ At k → k < 32
+  pub chosen-place : {k : ℕ} → chosen old q ≡ Some k → k < 32
   unfolding Finds
   chosen-place {k} e =
-      let f : Finds (bit_or (waiting old 0 q) (waiting old 1 q)) (next old q) (At k) = rw (chosen-first e).1 at first_finds in
+      let f : Finds (bit_or (waiting old 0 q) (waiting old 1 q)) (next old q) (Some k) = rw (chosen-first e).1 at first_finds in
       f.place
 
   -- nothing waits
-  first-none : ((kind : ℕ) → kind < 2 → waiting old kind q ≡ 0) → first_waits old q ≡ Nowhere
+  first-none : ((kind : ℕ) → kind < 2 → waiting old kind q ≡ 0) → first_waits old q ≡ None
   unfolding first_waits Finds
   first-none h =
-      rw (h 0 (omega arith), h 1 (omega arith)) (first-unique 0 (next old q) _ Nowhere (first_from-finds 0 (next old q)) (λ k l. bit-zero k))
+      rw (h 0 (omega arith), h 1 (omega arith)) (first-unique 0 (next old q) _ None (first_from-finds 0 (next old q)) (λ k l. bit-zero k))
 
   pub goes-not : time_waits old q ≡ 0 → time_goes old q ≡ false
   unfolding time_goes goes
@@ -114,46 +113,46 @@ module _ (old : State) (q : ℕ) where
   goes-waits = some-waits (time_waits old q) (lately old q) (first_waits old q)
 
   -- what waits and does not go has another code before it, and the last one sent was a Time-Code
-  pub goes-late : 1 ≤ time_waits old q → time_goes old q ≡ false → (k : ℕ) × (chosen old q ≡ At k) × (lately old q ≢ 0)
+  pub goes-late : 1 ≤ time_waits old q → time_goes old q ≡ false → (k : ℕ) × (chosen old q ≡ Some k) × (lately old q ≢ 0)
   unfolding time_goes goes
   goes-late some g = by_first (time_waits old q) (first_waits old q) some refl g
     where
-      by_first : (n : ℕ) (c : Found) → 1 ≤ n → first_waits old q ≡ c → goes n (lately old q) c ≡ false → (k : ℕ) × (chosen old q ≡ At k) × (lately old q ≢ 0)
+      by_first : (n : ℕ) (c : Option ℕ) → 1 ≤ n → first_waits old q ≡ c → goes n (lately old q) c ≡ false → (k : ℕ) × (chosen old q ≡ Some k) × (lately old q ≢ 0)
       by_first zero c o e f = absurd (omega arith)
-      by_first (suc v) Nowhere o e f = absurd (false≢true (sym f))
-      by_first (suc v) (At k) o e f = (k, first-chosen g ∙ e, eqb-false (lately old q) 0 f)
+      by_first (suc v) None o e f = absurd (false≢true (sym f))
+      by_first (suc v) (Some k) o e f = (k, first-chosen g ∙ e, eqb-false (lately old q) 0 f)
 
   -- where something else waits, a Time-Code goes only if the last code sent was none
-  pub goes-early : {k : ℕ} → time_goes old q ≡ true → first_waits old q ≡ At k → lately old q ≡ 0
+  pub goes-early : {k : ℕ} → time_goes old q ≡ true → first_waits old q ≡ Some k → lately old q ≡ 0
   unfolding time_goes goes
   goes-early {k} g e = by-waits (time_waits old q) (rw e at g)
     where
-      by-waits : (n : ℕ) → goes n (lately old q) (At k) ≡ true → lately old q ≡ 0
+      by-waits : (n : ℕ) → goes n (lately old q) (Some k) ≡ true → lately old q ≡ 0
       by-waits zero o = absurd (false≢true o)
       by-waits (suc v) o = eqb-true (lately old q) 0 o
 
   -- and then it does; after one, it does not
-  pub goes_first : {k : ℕ} → 1 ≤ time_waits old q → lately old q ≡ 0 → first_waits old q ≡ At k → time_goes old q ≡ true
+  pub goes_first : {k : ℕ} → 1 ≤ time_waits old q → lately old q ≡ 0 → first_waits old q ≡ Some k → time_goes old q ≡ true
   unfolding time_goes goes
   goes_first {k} some none e = rw e (by-waits (time_waits old q) some)
     where
-      by-waits : (n : ℕ) → 1 ≤ n → goes n (lately old q) (At k) ≡ true
+      by-waits : (n : ℕ) → 1 ≤ n → goes n (lately old q) (Some k) ≡ true
       by-waits zero o = absurd (omega arith)
       by-waits (suc v) o = eq-eqb (lately old q) 0 none
 
-  pub goes-second : {k : ℕ} → lately old q ≡ 1 → first_waits old q ≡ At k → time_goes old q ≡ false
+  pub goes-second : {k : ℕ} → lately old q ≡ 1 → first_waits old q ≡ Some k → time_goes old q ≡ false
   unfolding time_goes goes
   goes-second {k} one e = rw e (by-waits (time_waits old q))
     where
-      by-waits : (n : ℕ) → goes n (lately old q) (At k) ≡ false
+      by-waits : (n : ℕ) → goes n (lately old q) (Some k) ≡ false
       by-waits zero = refl
       by-waits (suc v) = ne_eqb (lately old q) 0 (omega arith)
 
-  pub chosen_none : ((kind : ℕ) → kind < 2 → waiting old kind q ≡ 0) → chosen old q ≡ Nowhere
+  pub chosen_none : ((kind : ℕ) → kind < 2 → waiting old kind q ≡ 0) → chosen old q ≡ None
   unfolding chosen
   chosen_none h = by-test (time_goes old q)
     where
-      by-test : (t : Bool) → cond t Nowhere (first_waits old q) ≡ Nowhere
+      by-test : (t : Bool) → cond t None (first_waits old q) ≡ None
       by-test true = refl
       by-test false = first-none h
 
@@ -167,7 +166,7 @@ module _ (old : State) (q : ℕ) where
   post-stamps s g = rw (time-chosen g, g, stamped, unqueued)
 
   -- nothing goes
-  module _ (g : time_goes old q ≡ false) (e : chosen old q ≡ Nowhere) where
+  module _ (g : time_goes old q ≡ false) (e : chosen old q ≡ None) where
     pub post-nothing : sends old q ≡ nothing
     unfolding sends sent_word
     post-nothing = rw (g, e, sent_word)
@@ -180,16 +179,16 @@ module _ (old : State) (q : ℕ) where
         leaves = rw (e, unqueued)
 
   -- no identifier is sent: what is sent is nothing, or the byte of a Time-Code
-  pub post-none : chosen old q ≡ Nowhere → (sends old q ≡ nothing) ⊎ (sends old q < 64)
+  pub post-none : chosen old q ≡ None → (sends old q ≡ nothing) ⊎ (sends old q < 64)
   post-none e = by-test (time_goes old q) refl
     where
       by-test : (t : Bool) → time_goes old q ≡ t → (sends old q ≡ nothing) ⊎ (sends old q < 64)
       by-test true g = inr (omega (arith, post-time g))
       by-test false g = inl (post-nothing g e)
 
-  module _ {k : ℕ} (e : chosen old q ≡ At k) where
+  module _ {k : ℕ} (e : chosen old q ≡ Some k) where
     -- the word of what was chosen
-    post-chosen : sends old q ≡ sent_word (waiting old 0 q) (At k)
+    post-chosen : sends old q ≡ sent_word (waiting old 0 q) (Some k)
     unfolding sends
     post-chosen = rw ((chosen-first e).0, e)
 
@@ -216,9 +215,9 @@ module _ (old : State) (q : ℕ) where
   pub sends-time : sends old q < 64 → time_goes old q ≡ true
   sends-time small = by-test (time_goes old q) refl
     where
-      by-choice : time_goes old q ≡ false → (c : Found) → chosen old q ≡ c → ⊥
-      by-choice g Nowhere e = omega (arith, post-nothing g e)
-      by-choice g (At k) e =
+      by-choice : time_goes old q ≡ false → (c : Option ℕ) → chosen old q ≡ c → ⊥
+      by-choice g None e = omega (arith, post-nothing g e)
+      by-choice g (Some k) e =
           elim (ℕ_discrete (bit (waiting old 0 q) k) 1) [
             | yes y ↦ omega (arith, post-interrupt e y)
             | no n ↦ omega (arith, post-acknowledge e n)

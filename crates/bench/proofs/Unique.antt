@@ -6,6 +6,10 @@ use native.Mathlib.Decide.{ℕ_discrete}
 use native.Mathlib.Omega.{arith}
 use lib.ListN.{get_or}
 use lib.Seq.{ext_get_or}
+use Rattle.std.specs.Prelude.{Result, Ok, Err}
+use Rattle.answers.specs.Refusals.{number_in}
+use Rattle.answers.specs.declared.Refusal.{Refusal}
+use Rattle.answers.proofs.Refusals.{positive, refusal-once}
 use Rattle.answers.proofs.Unique.{ordered-once}
 use Rattle.plan.specs.declared.Plan.{Plan}
 use Rattle.state.specs.State.{State}
@@ -13,7 +17,7 @@ use Rattle.state.specs.Start.{started}
 use Rattle.calls.specs.Calls.{call_asks}
 use Rattle.bench.specs.Round.{Areas}
 use Rattle.bench.specs.RoundCall.{round_asks, Plays}
-use Rattle.bench.specs.Settling.{Least, Pair, settle_asks, after, Settles}
+use Rattle.bench.specs.Settling.{Least, Pair, settle_asks, after, rounds_in, Settles}
 use Rattle.bench.specs.Trials.{requested, Answered, held_after, Tries, refused, settled, waiting, found_words, Finds, Lent, trials_asks, TriesAll}
 
 pub round-unique : (plan : Plan) (old : State) (before : Areas) (m n v w : ℕ) (a b : Areas)
@@ -53,6 +57,13 @@ settle-unique plan before allowance m n v w a b p q = let r = by_number (ℕ_dis
         let x = p.kept z t in
         let y = q.kept (λ u. z (e ∙ u)) (λ u. t (e ∙ u)) in
         (x.0 ∙ sym y.0, x.1 ∙ sym y.1)
+
+-- the answer of a settling, by its number and its rounds
+pub rounds-once : (allowance : ℕ) (r s : Result ℕ Refusal) → number_in r ≡ number_in s → rounds_in allowance r ≡ rounds_in allowance s → r ≡ s
+rounds-once allowance (Ok v) (Ok w) e f = ap Ok f
+rounds-once allowance (Ok v) (Err s) e f = let p = positive s in absurd (omega arith)
+rounds-once allowance (Err r) (Ok w) e f = let p = positive r in absurd (omega arith)
+rounds-once allowance (Err r) (Err s) e f = ap Err (refusal-once r s e)
 
 -- ---- the trials
 

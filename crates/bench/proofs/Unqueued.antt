@@ -9,8 +9,7 @@ use lib.ListN.{length}
 use Rattle.lists.proofs.Loops.{keeps, untouched}
 use Rattle.bits.specs.Set.{leave}
 use Rattle.bits.specs.First.{Finds, following}
-use Rattle.bits.specs.declared.Found.{Found}
-use Rattle.bits.specs.declared.Found.TheVariants.{At, Nowhere}
+use Rattle.std.specs.Prelude.{Option, Some, None}
 use Rattle.bits.proofs.Sets.{bit-zero, leave-lt}
 use Rattle.plan.specs.Reading.{Held}
 use Rattle.plan.specs.declared.Plan.{Plan}
@@ -31,10 +30,10 @@ module _ (plan : Plan) (held : Held plan) {s : State} (x : Sound plan s) (q : �
     unfolding unqueued Finds following
     unqueued-step = by-choice (chosen old q) refl
       where
-        by-choice : (c : Found) → chosen old q ≡ c → Sound plan (unqueued old q s)
-        by-choice Nowhere e = rw (e, unqueued) x
-        by-choice (At k) e =
-            let f : Finds (bit_or (waiting old 0 q) (waiting old 1 q)) (next old q) (At k) = rw (chosen-first old q e).1 at (first_finds old q) in
+        by-choice : (c : Option ℕ) → chosen old q ≡ c → Sound plan (unqueued old q s)
+        by-choice None e = rw (e, unqueued) x
+        by-choice (Some k) e =
+            let f : Finds (bit_or (waiting old 0 q) (waiting old 1 q)) (next old q) (Some k) = rw (chosen-first old q e).1 at (first_finds old q) in
             let there : exists plan q ≡ true =
             not-absent (exists plan q)
             (λ n. omega (arith, bit-zero k, rw (y.no-port q 0 small n (omega arith), y.no-port q 1 small n (omega arith), or_zero_l 0) at f.member)) in
@@ -48,17 +47,17 @@ module _ (plan : Plan) (held : Held plan) {s : State} (x : Sound plan s) (q : �
               stopped = λ z j g. ap (λ v. leave v k) (now.stopped z j g) ∙ leave-zero k;
               mute = λ j g z. ap (λ v. leave v k) (now.mute j g z) ∙ leave-zero k;
             }))
-            q small there (following (next old q) (At k)) (omega arith))
+            q small there (following (next old q) (Some k)) (omega arith))
 
     -- a Time-Code goes only from a port that exists
     time-there : time_goes old q ≡ true → exists plan q ≡ false → ⊥
     time-there g n = false≢true (sym (goes-not old q (rw (y.clock.no_word q small n))) ∙ g)
 
-  stamped-step : (goes : Bool) (c : Found) → (goes ≡ true → exists plan q ≡ false → ⊥) → Sound plan (stamped goes c q s)
+  stamped-step : (goes : Bool) (c : Option ℕ) → (goes ≡ true → exists plan q ≡ false → ⊥) → Sound plan (stamped goes c q s)
   unfolding stamped
   stamped-step true c there = time-step plan held x q 128 small (omega arith) (omega arith) (λ z. omega arith) (λ n. absurd (there refl n))
-  stamped-step false Nowhere there = x
-  stamped-step false (At k) there =
+  stamped-step false None there = x
+  stamped-step false (Some k) there =
       let r = x.clock.ranges q small in
       time-step plan held x q (time_waits s q) small (omega (arith, r.0)) (omega arith) (λ z. omega (arith, x.clock.stopped q small z)) (λ n. rw (x.clock.no_word q small n))
 
@@ -78,26 +77,26 @@ unqueued-left : (old : State) (q i : ℕ) (s : State) → q < 256 → (ports_at 
 unfolding unqueued
 unqueued-left old q i s l out = by-choice (chosen old q) refl
   where
-    by-choice : (c : Found) → chosen old q ≡ c → word (unqueued old q s) i ≡ word s i
-    by-choice Nowhere e = rw (e, unqueued)
-    by-choice (At k) e =
+    by-choice : (c : Option ℕ) → chosen old q ≡ c → word (unqueued old q s) i ≡ word s i
+    by-choice None e = rw (e, unqueued)
+    by-choice (Some k) e =
         rw (e, unqueued)
         (word-other _ (port_at q next_at) _ i (λ z. out (omega arith) (omega arith))
         ∙ word-other _ (port_at q 1) _ i (λ z. out (omega arith) (omega arith))
         ∙ word-other s (port_at q 0) _ i (λ z. out (omega arith) (omega arith)))
 
 -- the port's word of Time-Codes is one word
-pub stamped-other : (time : Bool) (c : Found) (q : ℕ) (s : State) (i : ℕ) → i ≢ time_at q → word (stamped time c q s) i ≡ word s i
+pub stamped-other : (time : Bool) (c : Option ℕ) (q : ℕ) (s : State) (i : ℕ) → i ≢ time_at q → word (stamped time c q s) i ≡ word s i
 unfolding stamped
 stamped-other true c q s i ne = word-other s (time_at q) _ i ne
-stamped-other false Nowhere q s i ne = refl
-stamped-other false (At k) q s i ne = word-other s (time_at q) _ i ne
+stamped-other false None q s i ne = refl
+stamped-other false (Some k) q s i ne = word-other s (time_at q) _ i ne
 
-pub stamped-size : (time : Bool) (c : Found) (q : ℕ) (s : State) → length (stamped time c q s) ≡ length s
+pub stamped-size : (time : Bool) (c : Option ℕ) (q : ℕ) (s : State) → length (stamped time c q s) ≡ length s
 unfolding stamped
 stamped-size true c q s = length-put s (time_at q) _
-stamped-size false Nowhere q s = refl
-stamped-size false (At k) q s = length-put s (time_at q) _
+stamped-size false None q s = refl
+stamped-size false (Some k) q s = length-put s (time_at q) _
 
 pub posted-left : (plan : Plan) → Held plan → (old : State) (i : ℕ) (s : State) → (ports_at ≤ i → i < ports_end → ⊥) → i < time_at 0 → word (posted plan old s) i ≡ word s i
 unfolding posted

@@ -2,3 +2,4 @@
 pub mod Ends
 pub mod Idle
 pub mod Shown
+pub mod Trial

@@ -5,8 +5,7 @@ use Rattle.lists.specs.Loop.{up_to}
 use Rattle.lists.specs.Table.{table}
 use Rattle.bits.specs.Set.{bit, leave}
 use Rattle.bits.specs.First.{first_from, following}
-use Rattle.bits.specs.declared.Found.{Found}
-use Rattle.bits.specs.declared.Found.TheVariants.{At, Nowhere}
+use Rattle.std.specs.Prelude.{Option, Some, None}
 use Rattle.codes.specs.Codes.{byte_of}
 use Rattle.codes.specs.declared.Code.{Code}
 use Rattle.codes.specs.declared.Code.TheVariants.{Time, Interrupt, Acknowledge, Reserved}
@@ -59,30 +58,30 @@ fall is_router d k w =
 -- ---- 2. each port with anything waiting sends; what, is chosen from what waited, and what was sent last, in the old state
 
 -- the first waiting identifier at or after next
-unfoldable pub first_waits : State → ℕ → Found
+unfoldable pub first_waits : State → ℕ → Option ℕ
 first_waits old q = first_from (bit_or (waiting old 0 q) (waiting old 1 q)) (next old q)
 
 -- whether a Time-Code goes: by its value plus 1, or 0; by whether the last code sent was one, 1 or 0; and by what else waits
-unfoldable pub goes : ℕ → ℕ → Found → Bool
+unfoldable pub goes : ℕ → ℕ → Option ℕ → Bool
 goes zero late other = false
-goes (suc v) late Nowhere = true
-goes (suc v) late (At k) = eqb late 0
+goes (suc v) late None = true
+goes (suc v) late (Some k) = eqb late 0
 
 unfoldable pub time_goes : State → ℕ → Bool
 time_goes old q = goes (time_waits old q) (lately old q) (first_waits old q)
 
 -- the identifier that is sent: the first, where no Time-Code goes
-unfoldable pub chosen : State → ℕ → Found
-chosen old q = cond (time_goes old q) Nowhere (first_waits old q)
+unfoldable pub chosen : State → ℕ → Option ℕ
+chosen old q = cond (time_goes old q) None (first_waits old q)
 
 -- the word where no byte is sent
 abbrev pub nothing : ℕ
 nothing = 256
 
 -- the word for what was chosen, by the interrupts that wait: the byte of an interrupt or of an acknowledge, or nothing
-unfoldable pub sent_word : ℕ → Found → ℕ
-sent_word interrupts (At k) = cond (eqb (bit interrupts k) 1) (byte_of 0 k) (byte_of 1 k)
-sent_word interrupts Nowhere = nothing
+unfoldable pub sent_word : ℕ → Option ℕ → ℕ
+sent_word interrupts (Some k) = cond (eqb (bit interrupts k) 1) (byte_of 0 k) (byte_of 1 k)
+sent_word interrupts None = nothing
 
 -- a Time-Code's byte is its value, of six bits
 unfoldable pub sends : State → ℕ → ℕ
@@ -92,17 +91,17 @@ sends old q = cond (time_goes old q) ((time_waits old q - 1) % 64) (sent_word (w
 unfoldable pub unqueued : State → ℕ → State → State
 unqueued old q s =
     elim (chosen old q) [
-      | At k ↦ put (put (put s (port_at q 0) (leave (waiting s 0 q) k)) (port_at q 1) (leave (waiting s 1 q) k)) (port_at q next_at) (following (next old q) (At k))
-      | Nowhere ↦ s
+      | Some k ↦ put (put (put s (port_at q 0) (leave (waiting s 0 q) k)) (port_at q 1) (leave (waiting s 1 q) k)) (port_at q next_at) (following (next old q) (Some k))
+      | None ↦ s
     ]
 
 -- the port's word of Time-Codes: one went, and waits no more; another code went; or nothing did
-unfoldable pub stamped : Bool → Found → ℕ → State → State
+unfoldable pub stamped : Bool → Option ℕ → ℕ → State → State
 stamped time other q s =
     cond time (put s (time_at q) 128)
     (elim other [
-      | At k ↦ put s (time_at q) (time_waits s q)
-      | Nowhere ↦ s
+      | Some k ↦ put s (time_at q) (time_waits s q)
+      | None ↦ s
     ])
 
 abbrev pub posts : State → ℕ → State → State

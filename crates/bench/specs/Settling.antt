@@ -1,6 +1,8 @@
 -- RULES, "Settling": rounds until no port waits; the least number of them.
-use Rattle.std.specs.Prelude.{◌≡◌, List, [], ◌∷◌, ◌++◌, ℕ, ◌≤◌, ◌<◌, length}
+use Rattle.std.specs.Prelude.{◌≡◌, Result, Ok, Err, cond, List, [], ◌∷◌, ◌++◌, ℕ, ◌≤◌, ◌<◌, eqb, length}
 use Rattle.answers.specs.Ordered.{Condition, ask, Ordered}
+use Rattle.answers.specs.Refusals.{number_of}
+use Rattle.answers.specs.declared.Refusal.{Refusal}
 use Rattle.lists.specs.Loop.{up_to}
 use Rattle.lists.specs.Table.{table}
 use Rattle.plan.specs.declared.Plan.{Plan}
@@ -44,6 +46,11 @@ settle_asks plan areas allowance =
 -- the state after n rounds, and a second area of zeros
 abbrev pub after : Plan → State → ℕ → Pair
 after plan s n = record { state = rounds plan n s; second = table words (λ i. 0) }
+
+-- the rounds that an answer speaks of: those that were played; under 12 all that were allowed; under every other refusal none
+abbrev pub rounds_in : ℕ → Result ℕ Refusal → ℕ
+rounds_in allowance (Ok n) = n
+rounds_in allowance (Err r) = cond (eqb (number_of r) 12) allowance 0
 
 -- done: the least number of rounds, and the state then reached; 12: the allowance, and the state after it; else nothing changes
 pub record Settles (plan : Plan) (before : Pair) (allowance number value : ℕ) (now : Pair) : Type 0 where

@@ -12,14 +12,7 @@ pub use settling::settle;
 pub use state::{WORDS, is_sound, start};
 pub use trial::trials;
 
-// What a call answers: 0 for done or a refusal's number, and the value beside it.
-#[derive(Clone, Copy)]
-pub struct Answer {
-    pub number: u32,
-    pub value: u32,
-}
-
-// A word for each of 256 ports: the byte that it sent, or nothing.
+// A word for each of 256 ports: the byte that it sent, or nothing, as C is lent them.
 pub const SENT: usize = 256;
 
 pub const NOTHING: u32 = 256;

@@ -9,8 +9,7 @@ use lib.Count.{count_trailing_zeros}
 use lib.Pow.{shr-shr, shr_le}
 use Rattle.bits.specs.Set.{bit}
 use Rattle.bits.specs.First.{after, First, Finds, searched, first_from}
-use Rattle.bits.specs.declared.Found.{Found}
-use Rattle.bits.specs.declared.Found.TheVariants.{At, Nowhere}
+use Rattle.std.specs.Prelude.{Option, Some, None}
 use Rattle.bits.proofs.Sets.{bit_is, bit-two, bit-zero, bit-above}
 use Rattle.bits.proofs.Trailing.{trailing_below, trailing_at, trailing_lt}
 
@@ -35,13 +34,13 @@ after_same next j k hj hk e = sym (after-leads next j hj) ∙ ap (λ (i : ℕ). 
 
 -- ---- there is only one first member
 
-pub first-unique : (x next : ℕ) (r s : Found) → Finds x next r → Finds x next s → r ≡ s
+pub first-unique : (x next : ℕ) (r s : Option ℕ) → Finds x next r → Finds x next s → r ≡ s
 unfolding Finds
-first-unique x next (At i) (At j) p q =
-    ap At (after_same next i j p.place q.place (omega (arith, p.nearest j q.place q.member, q.nearest i p.place p.member)))
-first-unique x next (At i) Nowhere p q = absurd (omega (arith, p.member, q i p.place))
-first-unique x next Nowhere (At j) p q = absurd (omega (arith, q.member, p j q.place))
-first-unique x next Nowhere Nowhere p q = refl
+first-unique x next (Some i) (Some j) p q =
+    ap Some (after_same next i j p.place q.place (omega (arith, p.nearest j q.place q.member, q.nearest i p.place p.member)))
+first-unique x next (Some i) None p q = absurd (omega (arith, p.member, q i p.place))
+first-unique x next None (Some j) p q = absurd (omega (arith, q.member, p j q.place))
+first-unique x next None None p q = refl
 
 -- ---- the search finds it
 
@@ -53,7 +52,7 @@ module _ (x next : ℕ) where
   from (suc n) i e passed = go (from n (suc i) (omega arith)) (bit x ((next + i) % 32)) refl
     where
       go : (((j : ℕ) → j < suc i → bit x ((next + j) % 32) ≡ 0) → Finds x next (searched x n (next + suc i))) → (b : ℕ) → bit x ((next + i) % 32) ≡ b
-          → Finds x next (elim b [ zero ↦ searched x n (suc (next + i)) | suc _ ↦ At ((next + i) % 32) ])
+          → Finds x next (elim b [ zero ↦ searched x n (suc (next + i)) | suc _ ↦ Some ((next + i) % 32) ])
       go ih zero z = rw (← add-suc) (ih (λ j h. elim (ℕ_discrete j i) [ yes q ↦ ap (λ (o : ℕ). bit x ((next + o) % 32)) q ∙ z | no q ↦ passed j (omega arith) ]))
       go ih (suc b) z = record {
         place = omega arith;

@@ -1,8 +1,7 @@
 -- RULES, "Sets": the first member at or after a place, going round from 31 to 0.
 use Rattle.std.specs.Prelude.{◌≡◌, ℕ, zero, suc, ◌+◌, ◌-◌, ◌%◌, ◌≤◌, ◌<◌}
 use Rattle.bits.specs.Set.{bit}
-use Rattle.bits.specs.declared.Found.{Found}
-use Rattle.bits.specs.declared.Found.TheVariants.{At, Nowhere}
+use Rattle.std.specs.Prelude.{Option, Some, None}
 
 -- how many places after next the place k comes, going round
 unfoldable pub after : ℕ → ℕ → ℕ
@@ -15,19 +14,19 @@ pub record First (x next j : ℕ) : Type 0 where
   pub nearest : (k : ℕ) → k < 32 → bit x k ≡ 1 → after next j ≤ after next k
 
 -- what is found: the first member, or nothing where the set is empty
-unfoldable pub Finds : ℕ → ℕ → Found → Type 0
-Finds x next (At j) = First x next j
-Finds x next Nowhere = (k : ℕ) → k < 32 → bit x k ≡ 0
+unfoldable pub Finds : ℕ → ℕ → Option ℕ → Type 0
+Finds x next (Some j) = First x next j
+Finds x next None = (k : ℕ) → k < 32 → bit x k ≡ 0
 
 -- the search that finds it, over n places from next on
-unfoldable pub searched : ℕ → ℕ → ℕ → Found
-searched x zero next = Nowhere
-searched x (suc n) next = elim (bit x (next % 32)) [ zero ↦ searched x n (suc next) | suc _ ↦ At (next % 32) ]
+unfoldable pub searched : ℕ → ℕ → ℕ → Option ℕ
+searched x zero next = None
+searched x (suc n) next = elim (bit x (next % 32)) [ zero ↦ searched x n (suc next) | suc _ ↦ Some (next % 32) ]
 
-unfoldable pub first_from : ℕ → ℕ → Found
+unfoldable pub first_from : ℕ → ℕ → Option ℕ
 first_from x next = searched x 32 next
 
 -- where the next search starts: behind what was found, and unmoved where nothing was
-unfoldable pub following : ℕ → Found → ℕ
-following next (At j) = (j + 1) % 32
-following next Nowhere = next
+unfoldable pub following : ℕ → Option ℕ → ℕ
+following next (Some j) = (j + 1) % 32
+following next None = next

@@ -6,13 +6,6 @@ ghost use Rattle.std.specs.Prelude.{◌≡◌};
 ghost use Rattle.bits.specs.Set.{bit, join as set_join, leave as set_leave, size};
 ghost use Rattle.bits.specs.First.{Finds};
 
-// Where the first member stands.
-#[derive(Clone, Copy)]
-pub enum Found {
-    At(u32),
-    Nowhere,
-}
-
 // 1 where place k is in the set x, else 0.
 pub fn get(x: u32, k: u32) -> u32
     ensures { result ≡ bit x k }
@@ -47,21 +40,21 @@ pub fn leave(x: u32, k: u32) -> u32
 pub fn count(x: u32) -> u32
     ensures { result ≡ size x }
 {
-    u32::count_ones(x)
+    x.count_ones()
 }
 
 // The first member of x at or after the place next, going round from 31 to 0. The mask is split at
 // next: the lowest one at or above it, and where there is none, the lowest one of all.
-pub fn first(x: u32, next: u32) -> Found
+pub fn first(x: u32, next: u32) -> Option<u32>
     ensures { Finds x next result }
 {
     if x == 0 {
-        return Found::Nowhere;
+        return None;
     }
     let place = next % 32;
     let upper = x >> place;
     if 0 < upper {
-        return Found::At(place + u32::trailing_zeros(upper));
+        return Some(place + upper.trailing_zeros());
     }
-    Found::At(u32::trailing_zeros(x))
+    Some(x.trailing_zeros())
 }

@@ -3,7 +3,7 @@ use mathlib.Core.Path.{◌≡◌, refl, sym, subst, ◌∙◌}
 use mathlib.Core.Bool.{Bool, true, false, cond, ◌&&◌, false≢true}
 use mathlib.Core.List.{List, ◌∷◌, ◌++◌}
 use mathlib.Core.Logic.{inl, inr}
-use Prim.Native.Nat.{ℕ, ◌+◌, ◌*◌, ◌<◌}
+use Prim.Native.Nat.{ℕ, ◌<◌}
 use native.Mathlib.Omega.{arith}
 use lib.Dec.{eqb, ltb}
 use lib.ListN.{length}
@@ -11,12 +11,11 @@ use borrow.Author.Tests.{eq-eqb, eqb-true, lt-ltb, ltb-true}
 use Rattle.answers.specs.Ordered.{Condition, ask, Ordered}
 use Rattle.answers.proofs.Outcomes.{Holds, holds, passed, stopped}
 use Rattle.device.specs.Reaction.{is_used}
-use Rattle.plan.specs.Fields.{nobody}
 use Rattle.plan.specs.declared.Plan.{Plan}
-use Rattle.plan.proofs.BothWays.{held-devices, held-few}
+use Rattle.plan.proofs.BothWays.{held-devices}
 use Rattle.state.specs.State.{State, words}
-use Rattle.state.specs.Network.{ports_of, peer, events}
-use Rattle.calls.specs.Calls.{device_asks, own_asks, profile_asks, send_asks, owns, call_asks, link_asks, tick_asks, called, called_in}
+use Rattle.state.specs.Network.{events}
+use Rattle.calls.specs.Calls.{device_asks, own_asks, profile_asks, send_asks, owns, call_asks, called, called_in}
 
 -- a device that a state has room for
 pub has_room : (more : List Condition) {d n : ℕ} → d < 32 → Ordered (ask 4 (d < 32) ∷ more) n → Ordered more n
@@ -36,9 +35,6 @@ module _ (plan : Plan) (d : ℕ) (s : State) where
 
   -- a call may ask more
   module _ (more : List Condition) where
-    pub call-stopped : {n : ℕ} → Ordered (device_asks plan d s) n → (n ≡ 0 → ⊥) → Ordered (device_asks plan d s ++ more) n
-    call-stopped o z = stopped first more o z
-
     pub call-passed : {n : ℕ} → Holds (device_asks plan d s) → Ordered more n → Ordered (device_asks plan d s ++ more) n
     call-passed {n} h o = passed first more n h o
 
@@ -73,25 +69,6 @@ module _ (plan : Plan) (d : ℕ) (s : State) where
       where
         known : Holds (call_asks plan kind d k s) → (length s ≡ words) × (d < 32) × (k < 32)
         known (held, (sound, (there, (small, rest)))) = let r = ready (held, (sound, (there, tt))) in (r.0, r.1, small)
-
-  -- a tick
-  pub tick-ready : {n : ℕ} → Ordered (tick_asks plan d s) n → n ≡ 0 → (length s ≡ words) × (d < 32)
-  tick-ready o z = known (holds (tick_asks plan d s) refl o z)
-    where
-      known : Holds (tick_asks plan d s) → (length s ≡ words) × (d < 32)
-      known (held, (sound, (there, rest))) = ready (held, (sound, (there, tt)))
-
-  -- a link
-  module _ (p : ℕ) where
-    pub port-below : Holds (device_asks plan d s) → p < ports_of plan d → 8 * d + p < 256
-    port-below h l = omega (arith, (ready h).1, (held-few plan h.0 d (ready h).1).1)
-
-    pub link-ready : (runs : Bool) {n : ℕ} → Ordered (link_asks plan runs d p s) n → n ≡ 0 → (length s ≡ words) × (8 * d + p < 256) × (peer plan (8 * d + p) < nobody)
-    link-ready runs o z = known (holds (link_asks plan runs d p s) refl o z)
-      where
-        known : Holds (link_asks plan runs d p s) → (length s ≡ words) × (8 * d + p < 256) × (peer plan (8 * d + p) < nobody)
-        known (held, (sound, (there, (has, (joined, rest))))) =
-            let h : Holds (device_asks plan d s) = (held, (sound, (there, tt))) in ((ready h).0, port-below h has, joined)
 
 -- ---- a call that is taken in any area
 

@@ -1,4 +1,5 @@
 pub mod Asked
+pub mod Asking
 pub mod Called
 pub mod Stopping
 pub mod Unique

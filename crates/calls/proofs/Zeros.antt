@@ -2,11 +2,13 @@
 use mathlib.Core.Path.{◌≡◌, refl, sym, ap, ◌∙◌}
 use mathlib.Core.Bool.{Bool, true, false, cond, not, ◌&&◌}
 use mathlib.Core.Logic.{◌⊎◌, inl, inr, ◌≢◌, dite}
-use Prim.Native.Nat.{ℕ, ◌+◌, ◌*◌, ◌/◌, ◌%◌, ◌^◌, ◌≤◌, ◌<◌}
+use Prim.Native.Nat.{ℕ, ◌+◌, ◌-◌, ◌*◌, ◌/◌, ◌%◌, ◌^◌, ◌≤◌, ◌<◌}
 use native.Mathlib.Decide.{dec_lt, ℕ_discrete}
 use native.Mathlib.Omega.{arith}
 use lib.Dec.{eqb}
-use lib.ListN.{length}
+use lib.ListN.{length, replicate}
+use borrow.Rule.Slice.PartMut.{put_mid}
+use Rattle.std.proofs.lemmas.Grind.{elements}
 use borrow.Author.Tests.{eq-eqb, ne_eqb}
 use Rattle.state.specs.State.{State, words, word, put, device_words, ports_at, ports_end, port_words, register_at, timer_at, port_at, register, timer, running_at, running, counter_at, counter, time_at, time, drops_start, drops_at, drops}
 use Rattle.state.proofs.Words.{word-past, length-put, word_same, word-other}
@@ -22,25 +24,26 @@ keep P false v none p = p
 
 -- ---- the words from one place to another
 
-pub zeros-none : {from to : ℕ} {s : State} → to ≤ from → Zeros from to s s
-zeros-none h = record { size = refl; gone = λ i a b. absurd (omega arith); left = λ i o. refl }
-
-pub zeros-more : {from to next : ℕ} {s t : State} → Zeros from to s t → from ≤ to → to < length t → next ≡ to + 1 → Zeros from next s (put t to 0)
-zeros-more {from} {to} {next} {s} {t} z l h e =
-    record {
-      size = length-put t to 0 ∙ z.size;
-      gone = λ i a b. elim (ℕ_discrete i to) [
-        | yes q ↦ rw q (word_same t to 0 h)
-        | no n ↦ word-other t to 0 i n ∙ z.gone i a (omega arith)
+-- the words between them filled with 0
+pub zeros-filled : (from count : ℕ) (s ys : State) → from + count ≤ length s → ys ≡ replicate count 0 → Zeros from (from + count) s (put_mid from (from + count - from) s ys)
+unfolding word
+zeros-filled from count s ys h e =
+    let k : from + count - from ≡ count = omega arith in
+    rw (k, e)
+    (record {
+      size = grind (arith, elements);
+      gone = λ i a b. grind (arith, elements);
+      left = λ i o. elim (dec_lt i from) [
+        | yes l ↦ grind (arith, elements)
+        | no l ↦ let m : from + count ≤ i = omega (arith, o) in grind (arith, elements)
       ];
-      left = λ i o. word-other t to 0 i (λ q. o (omega arith) (omega arith)) ∙ z.left i (λ a b. o a (omega arith));
-    }
+    })
 
 -- ---- the register and the timers of device d
 
 module _ (d : ℕ) (s : State) (long : length s ≡ words) where
-  pub is-cleared : {t : State} → d < 32 → Zeros (register_at d) (register_at d + device_words) s t → t ≡ cleared d s
-  is-cleared {t} h z =
+  pub is_cleared : {t : State} → d < 32 → Zeros (register_at d) (register_at d + device_words) s t → t ≡ cleared d s
+  is_cleared {t} h z =
       is_state _ t (z.size ∙ long)
       (λ e l. elim (ℕ_discrete e d) [
         | yes q ↦ rw (eq-eqb e d q) (z.gone (register_at e) (omega arith) (omega arith))
@@ -188,8 +191,8 @@ module _ (d : ℕ) (s : State) (long : length s ≡ words) where
   untimed-size : length (untimed d s) ≡ words
   untimed-size = length-state _
 
-  pub is-untimed : {t : State} → d < 32 → Zeros (time_at (8 * d)) (time_at (8 * d) + 8) s t → put t (counter_at d) 0 ≡ untimed d s
-  is-untimed {t} h z =
+  pub is_untimed : {t : State} → d < 32 → Zeros (time_at (8 * d)) (time_at (8 * d) + 8) s t → put t (counter_at d) 0 ≡ untimed d s
+  is_untimed {t} h z =
       let left : (i : ℕ) → i ≢ counter_at d → (time_at (8 * d) ≤ i → i < time_at (8 * d) + 8 → ⊥) → word (put t (counter_at d) 0) i ≡ word s i =
       λ i ne o. word-other t (counter_at d) 0 i ne ∙ z.left i o in
       is_state _ _ (length-put t (counter_at d) 0 ∙ z.size ∙ long) (λ e l. left (register_at e) (omega arith) (λ a b. absurd (omega arith)))
@@ -236,8 +239,8 @@ module _ (d : ℕ) (s : State) (long : length s ≡ words) where
   uncounted-size : length (uncounted d s) ≡ words
   uncounted-size = length-state _
 
-  pub is-uncounted : {t : State} → d < 32 → Zeros (drops_start + 16 * d) (drops_start + 16 * d + 16) s t → t ≡ uncounted d s
-  is-uncounted {t} h z =
+  pub is_uncounted : {t : State} → d < 32 → Zeros (drops_start + 16 * d) (drops_start + 16 * d + 16) s t → t ≡ uncounted d s
+  is_uncounted {t} h z =
       is_state _ t (z.size ∙ long) (λ e l. z.left (register_at e) (λ a b. absurd (omega arith))) (λ e k l m. z.left (timer_at e k) (λ a b. absurd (omega arith)))
       (λ q i l m. z.left (port_at q i) (λ a b. absurd (omega arith))) (λ e l. z.left (counter_at e) (λ a b. absurd (omega arith))) (λ q l. z.left (time_at q) (λ a b. absurd (omega arith)))
       (λ q kind l m. elim (ℕ_discrete (q / 8) d) [

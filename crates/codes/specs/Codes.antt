@@ -3,8 +3,6 @@ use Rattle.std.specs.Prelude.{◌≡◌, cond, ◌⊎◌, ℕ, ◌+◌, ◌-◌,
 use Rattle.answers.specs.Answer.{Answer, done, refused}
 use Rattle.codes.specs.declared.Code.{Code}
 use Rattle.codes.specs.declared.Code.TheVariants.{Time, Interrupt, Acknowledge, Reserved}
-use Rattle.codes.specs.declared.Written.{Written}
-use Rattle.codes.specs.declared.Written.TheVariants.{Byte, Refused}
 
 -- a code of a kind with its identifier, 0 to 31: kind 0 is the interrupt, kind 1 the acknowledge
 abbrev pub byte_of : ℕ → ℕ → ℕ
@@ -49,8 +47,3 @@ writes (Time v) = at_most 63 v v
 writes (Interrupt k) = at_most 31 k (byte_of 0 k)
 writes (Acknowledge k) = at_most 31 k (byte_of 1 k)
 writes (Reserved top low) = refused 5
-
--- the paper's number and value for each case of `Written`
-unfoldable pub answer_of : Written → Answer
-answer_of (Byte b) = done b
-answer_of Refused = refused 5

@@ -1,7 +1,7 @@
 // Lists standard input on standard output, a line for each byte.
 #![tactic(auto)]
 
-ghost use Rattle.std.specs.Prelude.{◌≡◌, List, ℕ, ◌*◌, ◌<◌, ◌≤◌, length};
+ghost use Rattle.std.specs.Prelude.{◌≡◌, IsTrue, List, ℕ, ◌*◌, ◌<◌, ◌≤◌, length};
 ghost use Rattle.std.specs.Io.KnownBytes.{Appends, Consumes};
 ghost use Rattle.areas.specs.Put.{over};
 ghost use Rattle.listing.specs.Listing.{lines, longest, Lists};
@@ -21,46 +21,41 @@ fn main(rt: HostRuntime) {
     list_all(&mut from, &mut to, &mut faults);
 }
 
-// A proved loop has to end, and nothing says that standard input does. So the loop counts its turns
-// down, from a number that no run uses up.
+// A proved loop has to end, and nothing says that standard input does. So the loop counts its turns, up
+// to a number that no run uses up.
 fn list_all<R: Read, W: Write, E: Write>(from: &mut R, to: &mut W, faults: &mut E) {
     let mut page = [0u8; PAGE];
-    let mut turns = u64::MAX;
-    while turns > 0 && 0 < list_some(from, to, faults, &mut page) {
-        turns -= 1;
+    for _ in 0..u64::MAX {
+        if !list_some(from, to, faults, &mut page) {
+            return;
+        }
     }
 }
 
-// Reads once, writes the lines of what came, and answers how many bytes those were. Nothing came
-// where the input has ended; where the read or the write failed it is 0 too, and that is said, or it
-// would look like the end.
+// Reads once, writes the lines of what came, and answers whether something came and was written. Where
+// nothing came the input has ended; where the read or the write failed it is said, or it would look
+// like the end.
 fn list_some<R: Read, W: Write, E: Write>(
     from: &mut R,
     to: &mut W,
     faults: &mut E,
-    page: &mut [u8],
-) -> usize
-    requires { longest * 4096 ≤ length page.old }
-    ensures { (piece : List ℕ) × (length piece ≤ 4096) × (result ≤ length piece) × (page.new ≡ over (lines piece) page.old)
+    page: &mut [u8; PAGE],
+) -> bool
+    ensures { (piece : List ℕ) × (length piece ≤ 4096) × (page.new ≡ over (lines piece) page.old)
         × Consumes (R.remaining from.old) (R.remaining from.new) piece
-        × (0 < result → Appends (W.contents to.old) (W.contents to.new) (lines piece)) }
+        × (IsTrue result → (0 < length piece) × Appends (W.contents to.old) (W.contents to.new) (lines piece)) }
 {
     let mut piece = [0u8; PIECE];
-    let n = match from.read(&mut piece) {
-        Ok(n) => n,
-        Err(_) => {
-            let _ = faults.write_all(b"decode: standard input could not be read\n");
-            return 0;
-        }
+    let Ok(n) = from.read(&mut piece) else {
+        let _ = faults.write_all(b"decode: standard input could not be read\n");
+        return false;
     };
     let length = list_piece(&piece[..n], page);
-    match to.write_all(&page[..length]) {
-        Ok(()) => n,
-        Err(_) => {
-            let _ = faults.write_all(b"decode: standard output could not be written\n");
-            0
-        }
-    }
+    let Ok(()) = to.write_all(&page[..length]) else {
+        let _ = faults.write_all(b"decode: standard output could not be written\n");
+        return false;
+    };
+    0 < n
 }
 
 // The lines of a whole piece, of which none is left for another call; answers how long they are.

@@ -1,3 +1,4 @@
-pub mod Rule
+pub mod Numbers
 pub mod Reactions
+pub mod Rule
 pub mod Unique

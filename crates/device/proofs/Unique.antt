@@ -1,11 +1,28 @@
 -- Each public function's promise allows one result.
-use mathlib.Core.Path.{◌≡◌, sym, ◌∙◌}
+use mathlib.Core.Path.{◌≡◌, refl, sym, ap, ◌∙◌}
 use mathlib.Core.Bool.{Bool}
 use Prim.Native.Nat.{ℕ}
+use native.Mathlib.Omega.{arith}
+use Rattle.std.specs.Prelude.{Result, Ok, Err}
+use Rattle.device.specs.Kinds.{Names}
 use Rattle.device.specs.Permissions.{may_send, may_receive}
 use Rattle.device.specs.Reaction.{marked, next_time, is_used, reacts}
+use Rattle.device.specs.declared.Kind.{Kind}
+use Rattle.device.specs.declared.Kind.TheVariants.{Interrupt, Acknowledge}
 use Rattle.device.specs.declared.Reaction.{Reaction}
 use Rattle.device.specs.declared.Side.{Side}
+use Rattle.device.specs.declared.UnknownKind.{UnknownKind}
+
+pub kind-unique : (n : ℕ) (r s : Result Kind UnknownKind) → Names n r → Names n s → r ≡ s
+kind-unique n (Ok Interrupt) (Ok Interrupt) p q = refl
+kind-unique n (Ok Interrupt) (Ok Acknowledge) p q = absurd (omega arith)
+kind-unique n (Ok Acknowledge) (Ok Interrupt) p q = absurd (omega arith)
+kind-unique n (Ok Acknowledge) (Ok Acknowledge) p q = refl
+kind-unique n (Ok Interrupt) (Err e) p q = absurd (omega arith)
+kind-unique n (Ok Acknowledge) (Err e) p q = absurd (omega arith)
+kind-unique n (Err e) (Ok Interrupt) p q = absurd (omega arith)
+kind-unique n (Err e) (Ok Acknowledge) p q = absurd (omega arith)
+kind-unique n (Err e) (Err f) p q = ap (λ (i : ℕ). Err (record { 0 = i })) (p.0 ∙ sym q.0)
 
 pub may-send-unique : (kind permissions : ℕ) (r s : Bool) → r ≡ may_send kind permissions → s ≡ may_send kind permissions → r ≡ s
 may-send-unique kind permissions r s p q = p ∙ sym q

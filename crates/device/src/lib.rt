@@ -1,15 +1,92 @@
 // What one device does with a byte that arrives at one of its ports (draft 000, 2.2 and 2.3).
-// An Interrupt-Code and an acknowledge go by one rule, over the kind: 0 interrupt, 1 acknowledge.
+// An Interrupt-Code and an acknowledge go by one rule, over the kind.
 #![tactic(auto)]
 
-ghost use Rattle.std.specs.Prelude.{◌≡◌, get_or};
+ghost use Rattle.std.specs.Prelude.{◌≡◌};
+ghost use Rattle.device.specs.Kinds.{kind_of, Names};
 ghost use Rattle.device.specs.Permissions.{may_send, may_receive};
 ghost use Rattle.device.specs.Reaction.{marked as reaction_marked, next_time, passed_on, is_used, bars_of, ruled as reaction_ruled, counted as reaction_counted, reacts};
 
 use codes::Code;
 
+// The kind of a code that has an identifier: 0 interrupt, 1 acknowledge.
+#[derive(Clone, Copy, Debug, PartialEq, Eq)]
+pub enum Kind {
+    Interrupt,
+    Acknowledge,
+}
+
+// A number that is no kind.
+#[derive(Clone, Copy, Debug, PartialEq, Eq)]
+pub struct UnknownKind(pub u8);
+
+impl TryFrom<u8> for Kind {
+    type Error = UnknownKind;
+
+    ghost try_from_gives = { Names };
+
+    fn try_from(number: u8) -> Result<Self, UnknownKind> {
+        match number {
+            0 => Ok(Kind::Interrupt),
+            1 => Ok(Kind::Acknowledge),
+            _ => Err(UnknownKind(number)),
+        }
+    }
+}
+
+impl Kind {
+    // Its number in RULES, which is also the bit that it has to find in a register.
+    pub fn number(self) -> u8
+        ensures { result ≡ kind_of self }
+    {
+        match self {
+            Kind::Interrupt => 0,
+            Kind::Acknowledge => 1,
+        }
+    }
+
+    // May a port with these permissions send codes of the kind?
+    #[tactic(auto, unfolding(crate::specs::Permissions::may_send))]
+    pub fn may_send(self, permissions: u32) -> bool
+        ensures { result ≡ may_send (kind_of self) permissions }
+    {
+        bits::get(permissions, 2 * u32::from(self.number())) == 1
+    }
+
+    // May it receive them?
+    #[tactic(auto, unfolding(crate::specs::Permissions::may_receive))]
+    pub fn may_receive(self, permissions: u32) -> bool
+        ensures { result ≡ may_receive (kind_of self) permissions }
+    {
+        bits::get(permissions, 2 * u32::from(self.number()) + 1) == 1
+    }
+
+    // The register once a code of the kind was accepted: an interrupt sets the bit, an acknowledge
+    // clears it.
+    #[tactic(auto, unfolding(crate::specs::Reaction::marked))]
+    pub fn marked(self, register: u32, k: u32) -> u32
+        ensures { result ≡ reaction_marked (kind_of self) register k }
+    {
+        match self {
+            Kind::Interrupt => bits::join(register, k),
+            Kind::Acknowledge => bits::leave(register, k),
+        }
+    }
+
+    // Does the profile of an identifier know codes of the kind? An event has no acknowledge (000, 2.4).
+    #[tactic(auto, unfolding(crate::specs::Reaction::is_used))]
+    pub fn is_used(self, events: u32, k: u32) -> bool
+        ensures { result ≡ is_used events (kind_of self) k }
+    {
+        match self {
+            Kind::Interrupt => true,
+            Kind::Acknowledge => bits::get(events, k) == 0,
+        }
+    }
+}
+
 // What becomes of the code.
-#[derive(Clone, Copy)]
+#[derive(Clone, Copy, Debug, PartialEq, Eq)]
 pub enum Action {
     Named(Code),
     LinkError(Code),
@@ -22,7 +99,7 @@ pub enum Action {
 // The port's side of a reaction: whether its device is a router, whether it runs, its permissions, which
 // identifiers are events, that nobody acknowledges, and which it is to bar, by the kind of code. A node
 // does not look at the last.
-#[derive(Clone, Copy)]
+#[derive(Clone, Copy, Debug, PartialEq, Eq)]
 pub struct Side {
     pub router: bool,
     pub running: bool,
@@ -32,47 +109,64 @@ pub struct Side {
 }
 
 // The register and the counter afterwards, and what becomes of the code.
-#[derive(Clone, Copy)]
+#[derive(Clone, Copy, Debug, PartialEq, Eq)]
 pub struct Reaction {
     pub register: u32,
     pub counter: u32,
     pub action: Action,
 }
 
-// May a port with these permissions send codes of the kind? There are kinds 0 and 1, and no port may
-// send another.
+// ---- the same by the number of a kind, for whoever has no more of it: `may_send`, `may_receive`,
+// `marked` and `is_used` are public, and may not change
+
+// May a port with these permissions send codes of the kind with this number? There are kinds 0 and 1,
+// and no port may send another.
+#[tactic(auto, unfolding(crate::specs::Permissions::may_send))]
 pub fn may_send(kind: u8, permissions: u32) -> bool
     ensures { result ≡ may_send kind permissions }
 {
-    if 1 < kind {
-        return false;
+    match Kind::try_from(kind) {
+        Ok(kind) => kind.may_send(permissions),
+        Err(_) => false,
     }
-    bits::get(permissions, 2 * kind as u32) == 1
 }
 
 // May it receive them?
+#[tactic(auto, unfolding(crate::specs::Permissions::may_receive))]
 pub fn may_receive(kind: u8, permissions: u32) -> bool
     ensures { result ≡ may_receive kind permissions }
 {
-    if 1 < kind {
-        return false;
+    match Kind::try_from(kind) {
+        Ok(kind) => kind.may_receive(permissions),
+        Err(_) => false,
     }
-    bits::get(permissions, 2 * kind as u32 + 1) == 1
 }
 
-// The register once a code of the kind was accepted: an interrupt sets the bit, an acknowledge
-// clears it. A number that is no kind changes nothing.
+// The register once a code of the kind with this number was accepted. A number that is no kind changes
+// nothing.
+#[tactic(auto, unfolding(crate::specs::Reaction::marked))]
 pub fn marked(kind: u8, register: u32, k: u8) -> u32
     ensures { result ≡ reaction_marked kind register k }
 {
-    if kind == 0 {
-        return bits::join(register, k as u32);
+    match Kind::try_from(kind) {
+        Ok(kind) => kind.marked(register, u32::from(k)),
+        Err(_) => register,
     }
-    if kind == 1 {
-        return bits::leave(register, k as u32);
-    }
-    register
 }
+
+// Does the profile of an identifier know codes of the kind with this number? Of a number that is no
+// kind it is asked as of an acknowledge.
+#[tactic(auto, unfolding(crate::specs::Reaction::is_used))]
+pub fn is_used(events: u32, kind: u8, k: u32) -> bool
+    ensures { result ≡ is_used events kind k }
+{
+    if kind == 0 {
+        return true;
+    }
+    Kind::Acknowledge.is_used(events, k)
+}
+
+// ---- the reaction
 
 // The value of a Time-Code that follows upon a counter: 0 comes after 63. A counter above 63 counts
 // as its remainder by 64.
@@ -83,7 +177,9 @@ pub fn next_time(counter: u32) -> u32
 }
 
 // The reaction to a byte. Only an Interrupt-Code and an acknowledge get as far as the register, and
-// only a Time-Code changes the counter.
+// only a Time-Code changes the counter. The tests stand one in the other, by `let .. else`: a form
+// that the project asks for here (DECISIONS 136).
+#[tactic(auto, unfolding(crate::specs::Reaction::reacts, crate::specs::Reaction::reacts_to))]
 pub fn react(side: Side, register: u32, counter: u32, byte: u8) -> Reaction
     ensures { result ≡ reacts side register counter byte }
 {
@@ -95,9 +191,9 @@ pub fn react(side: Side, register: u32, counter: u32, byte: u8) -> Reaction
             };
             return counted(side, register, counter, v);
         };
-        return ruled(side, register, counter, 1, k, code);
+        return ruled(side, register, counter, Kind::Acknowledge, k, code);
     };
-    ruled(side, register, counter, 0, k, code)
+    ruled(side, register, counter, Kind::Interrupt, k, code)
 }
 
 // The three parts together.
@@ -105,9 +201,9 @@ fn outcome(register: u32, counter: u32, action: Action) -> Reaction
     ensures { result ≡ record { register = register; counter = counter; action = action } }
 {
     Reaction {
-        register: register,
-        counter: counter,
-        action: action,
+        register,
+        counter,
+        action,
     }
 }
 
@@ -122,69 +218,56 @@ fn passed_on(router: bool, code: Code) -> Action
 }
 
 // A Time-Code: its value is the counter's from now on, and it is passed on where it is one more.
+#[tactic(auto, unfolding(crate::specs::Reaction::counted))]
 fn counted(side: Side, register: u32, counter: u32, v: u8) -> Reaction
     ensures { result ≡ reaction_counted side register counter v }
 {
     let code = Code::Time(v);
     let next = next_time(counter);
-    if v as u32 != next {
-        return outcome(register, v as u32, Action::Named(code));
+    if u32::from(v) != next {
+        return outcome(register, u32::from(v), Action::Named(code));
     }
-    outcome(register, v as u32, passed_on(side.router, code))
-}
-
-// Does the profile of an identifier know codes of the kind? An event has no acknowledge (000, 2.4).
-pub fn is_used(events: u32, kind: u8, k: u32) -> bool
-    ensures { result ≡ is_used events kind k }
-{
-    if kind == 0 {
-        return true;
-    }
-    bits::get(events, k) == 0
-}
-
-// The mask of a kind, of which there are 0 and 1.
-fn mask_of(barred: [u32; 2], kind: u8) -> u32
-    ensures { result ≡ get_or barred kind 0 }
-{
-    if 1 < kind {
-        return 0;
-    }
-    barred[kind as usize]
+    outcome(register, u32::from(v), passed_on(side.router, code))
 }
 
 // What a port bars of codes of the kind, as a set. Only a router's port bars anything.
-fn bars_of(side: Side, kind: u8) -> u32
-    ensures { result ≡ bars_of side kind }
+#[tactic(auto, unfolding(crate::specs::Reaction::bars_of))]
+fn bars_of(side: Side, kind: Kind) -> u32
+    ensures { result ≡ bars_of side (kind_of kind) }
 {
     if !side.router {
         return 0;
     }
-    let barred = side.barred;
-    mask_of(barred, kind)
+    let [interrupts, acknowledges] = side.barred;
+    match kind {
+        Kind::Interrupt => interrupts,
+        Kind::Acknowledge => acknowledges,
+    }
 }
 
 // The rule for a code of a kind with its identifier. The bit has to stand as the kind's own number:
 // 0 before an interrupt, 1 before an acknowledge.
-fn ruled(side: Side, register: u32, counter: u32, kind: u8, k: u8, code: Code) -> Reaction
-    ensures { result ≡ reaction_ruled side register counter kind k code }
+#[tactic(auto, unfolding(crate::specs::Reaction::ruled))]
+fn ruled(side: Side, register: u32, counter: u32, kind: Kind, k: u8, code: Code) -> Reaction
+    ensures { result ≡ reaction_ruled side register counter (kind_of kind) k code }
 {
     if !side.running {
         return outcome(register, counter, Action::LinkError(code));
     }
-    if !may_receive(kind, side.permissions) {
+    let k = u32::from(k);
+    if !kind.may_receive(side.permissions) {
         return outcome(register, counter, Action::Ignored(code));
     }
     let bars = bars_of(side, kind);
-    if bits::get(bars, k as u32) != 0 {
+    if bits::get(bars, k) != 0 {
         return outcome(register, counter, Action::Dropped(code));
     }
-    if !is_used(side.events, kind, k as u32) {
+    if !kind.is_used(side.events, k) {
         return outcome(register, counter, Action::Ignored(code));
     }
-    if bits::get(register, k as u32) != kind as u32 {
+    if bits::get(register, k) != u32::from(kind.number()) {
         return outcome(register, counter, Action::Ignored(code));
     }
-    let next = marked(kind, register, k);
+    let next = kind.marked(register, k);
     outcome(next, counter, passed_on(side.router, code))
 }

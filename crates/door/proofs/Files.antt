@@ -1,6 +1,6 @@
--- A call over a file: how it shows its promise, and which numbers it answers. It is refused by one of 20 to 27 exactly where the file
+-- A call over a file: which numbers it answers. It is refused by one of 20 to 27 exactly where the file
 -- is not accepted, and by 1 never.
-use mathlib.Core.Path.{◌≡◌, refl, sym, ap, ◌∙◌}
+use mathlib.Core.Path.{◌≡◌, refl}
 use mathlib.Core.Bool.{Bool, true, ◌&&◌}
 use mathlib.Core.List.{List, [], ◌∷◌}
 use mathlib.Core.Logic.{inl, inr}
@@ -13,9 +13,8 @@ use borrow.Author.Tests.{ltb-true, leb-true}
 use Rattle.answers.specs.Ordered.{Condition, ask, Ordered, Tells as Call-as-Tells}
 use Rattle.lists.proofs.Tests.{and_left, and_right}
 use Rattle.plan.specs.Refusals.{verdict}
-use Rattle.plan.specs.Reading.{plan_of, Held, reads}
+use Rattle.plan.specs.Reading.{plan_of, Held}
 use Rattle.plan.specs.declared.Plan.{Plan}
-use Rattle.plan.specs.declared.Read.{Read}
 use Rattle.plan.proofs.Firsts.{Refusal}
 use Rattle.plan.proofs.Good.{refusal-numbered}
 use Rattle.plan.proofs.BothWays.{read_held}
@@ -29,23 +28,6 @@ use Rattle.reach.specs.Reach.{reach_asks, Reaches}
 use Rattle.ways.specs.Calls.{way_asks}
 use Rattle.door.specs.OnFile.{OnFile, Changes, Gives}
 use Rattle.door.specs.Own.{own, SettlesOwn}
-
--- ---- from what the reader answered
-
-module _ (file : List ℕ) (read : Read) (e : read ≡ reads file) where
-  number_read : read.number ≡ (verdict file).number
-  unfolding reads
-  number_read = ap (λ (r : Read). r.number) e
-
-  plan-read : (verdict file).number ≡ 0 → read.plan ≡ plan_of file
-  unfolding reads
-  plan-read z = rw z at (ap (λ (r : Read). r.plan) e)
-
-  pub turned-away : {call : Plan → Type 0} {kept : Type 0} → (read.number ≡ 0 → ⊥) → kept → OnFile file call read.number kept
-  turned-away n k = record { accepted = λ z. absurd (n (number_read ∙ z)); refused = λ _. (number_read, k) }
-
-  pub let-in : {call : Plan → Type 0} {number : ℕ} {kept : Type 0} → read.number ≡ 0 → call read.plan → OnFile file call number kept
-  let-in z c = record { accepted = λ w. rw (plan-read w) at c; refused = λ n. absurd (n (sym number_read ∙ z)) }
 
 -- ---- which numbers a call answers
 

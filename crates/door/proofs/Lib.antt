@@ -2,3 +2,4 @@ pub mod Files
 pub mod Own
 pub mod Unique
 pub mod Handed
+pub mod Told

@@ -12,8 +12,7 @@ use borrow.Author.Tests.{lt-ltb}
 use Rattle.lists.proofs.Loops.{keeps, keeps-both}
 use Rattle.lists.proofs.Tables.{get_d-table}
 use Rattle.bits.specs.Set.{bit, join, leave}
-use Rattle.bits.specs.declared.Found.{Found}
-use Rattle.bits.specs.declared.Found.TheVariants.{At, Nowhere}
+use Rattle.std.specs.Prelude.{Option, Some, None}
 use Rattle.bits.proofs.Sets.{join-same, join-other, leave_same, leave-other}
 use Rattle.codes.specs.Codes.{byte_of, reads}
 use Rattle.codes.specs.declared.Code.{Code}
@@ -170,14 +169,14 @@ module _ {k : ℕ} (l : k < 32) (is_router : Bool) (d : ℕ) (h : d < 32) where
 -- ---- 2. sending
 
 module _ {k : ℕ} (l : k < 32) (q : ℕ) (h : q < 256) {s t : State} (p : Both k s t) where
-  unqueued-aside : (old : State) → (chosen old q ≡ At k → ⊥) → Both k (unqueued old q s) t
+  unqueued-aside : (old : State) → (chosen old q ≡ Some k → ⊥) → Both k (unqueued old q s) t
   unfolding unqueued
   unqueued-aside old not-k = by-choice (chosen old q) refl
     where
-      by-choice : (c : Found) → chosen old q ≡ c → Both k (unqueued old q s) t
-      by-choice Nowhere e = rw (e, unqueued) p
-      by-choice (At j) e =
-          let ne : k ≢ j = λ o. not-k (e ∙ ap At (sym o)) in
+      by-choice : (c : Option ℕ) → chosen old q ≡ c → Both k (unqueued old q s) t
+      by-choice None e = rw (e, unqueued) p
+      by-choice (Some j) e =
+          let ne : k ≢ j = λ o. not-k (e ∙ ap Some (sym o)) in
           let left : (kind : ℕ) → kind < 2 → bit (leave (waiting s kind q) j) k ≡ bit (waiting t kind q) k =
           λ kind g. leave-other (waiting s kind q) j k l ne ∙ p.like.waits kind q g h in
           rw (e, unqueued)
@@ -186,7 +185,7 @@ module _ {k : ℕ} (l : k < 32) (q : ℕ) (h : q < 256) {s t : State} (p : Both 
           1 q (leave (waiting s 1 q) j) (omega arith) h (left 1 (omega arith)))
           q _ h)
 
-  unqueued-both : (old new : State) → chosen old q ≡ At k → chosen new q ≡ At k → Both k (unqueued old q s) (unqueued new q t)
+  unqueued-both : (old new : State) → chosen old q ≡ Some k → chosen new q ≡ Some k → Both k (unqueued old q s) (unqueued new q t)
   unfolding unqueued
   unqueued-both old new a b =
       rw (a, b, unqueued)
@@ -196,10 +195,10 @@ module _ {k : ℕ} (l : k < 32) (q : ℕ) (h : q < 256) {s t : State} (p : Both 
       q _ _ h)
 
 -- what a port has of Time-Codes does not concern k
-stamped-aside : {k : ℕ} → k < 32 → (b : Bool) (c : Found) (q : ℕ) {s t : State} → Both k s t → Both k (stamped b c q s) t
+stamped-aside : {k : ℕ} → k < 32 → (b : Bool) (c : Option ℕ) (q : ℕ) {s t : State} → Both k s t → Both k (stamped b c q s) t
 stamped-aside l b c q {s} p = front-aside l p (stamped-size b c q s) (λ i h. stamped-other b c q s i (omega arith))
 
-stamped-both : {k : ℕ} → k < 32 → (g : Bool) (c : Found) (h : Bool) (e : Found) (q : ℕ) {s t : State} → Both k s t → Both k (stamped g c q s) (stamped h e q t)
+stamped-both : {k : ℕ} → k < 32 → (g : Bool) (c : Option ℕ) (h : Bool) (e : Option ℕ) (q : ℕ) {s t : State} → Both k s t → Both k (stamped g c q s) (stamped h e q t)
 stamped-both l g c h e q p = back (stamped-aside l h e q (back (stamped-aside l g c q p)))
 
 -- ---- 3. arrivals
@@ -372,19 +371,19 @@ module _ {k : ℕ} (l : k < 32) (plan : Plan) (held : Held plan) (old : State) (
   sent-at = get_d-table sent_words _ q nothing (omega (arith, few plan held)) ∙ rw (lt-ltb q (8 * devices plan) h)
 
   -- port q sends k where it chose k
-  pub sends-chosen : (kind : ℕ) → kind < 2 → SendsIt plan k old kind q → chosen old q ≡ At k
+  pub sends-chosen : (kind : ℕ) → kind < 2 → SendsIt plan k old kind q → chosen old q ≡ Some k
   sends-chosen kind g e = by-choice (chosen old q) refl
     where
-      by-choice : (c : Found) → chosen old q ≡ c → chosen old q ≡ At k
-      by-choice Nowhere o = absurd (elim (post-none old q o) [ inl z ↦ omega (arith, sent-at, z) | inr z ↦ omega (arith, sent-at, z) ])
-      by-choice (At j) o =
+      by-choice : (c : Option ℕ) → chosen old q ≡ c → chosen old q ≡ Some k
+      by-choice None o = absurd (elim (post-none old q o) [ inl z ↦ omega (arith, sent-at, z) | inr z ↦ omega (arith, sent-at, z) ])
+      by-choice (Some j) o =
           let place = chosen-place old q o in
           elim (ℕ_discrete (bit (waiting old 0 q) j) 1) [
-            | yes y ↦ o ∙ ap At (omega (arith, sent-at, post-interrupt old q o y))
-            | no n ↦ o ∙ ap At (omega (arith, sent-at, post-acknowledge old q o n))
+            | yes y ↦ o ∙ ap Some (omega (arith, sent-at, post-interrupt old q o y))
+            | no n ↦ o ∙ ap Some (omega (arith, sent-at, post-acknowledge old q o n))
           ]
 
-  pub chosen-sends : chosen old q ≡ At k → (kind : ℕ) × (kind < 2) × SendsIt plan k old kind q
+  pub chosen-sends : chosen old q ≡ Some k → (kind : ℕ) × (kind < 2) × SendsIt plan k old kind q
   chosen-sends o =
       elim (ℕ_discrete (bit (waiting old 0 q) k) 1) [
         | yes y ↦ (0, omega arith, sent-at ∙ post-interrupt old q o y ∙ omega arith)

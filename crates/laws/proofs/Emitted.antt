@@ -9,8 +9,7 @@ use lib.Dec.{ltb}
 use lib.ListN.{get_or}
 use Rattle.lists.proofs.Tables.{get_d-table}
 use Rattle.bits.specs.Set.{bit}
-use Rattle.bits.specs.declared.Found.{Found}
-use Rattle.bits.specs.declared.Found.TheVariants.{At, Nowhere}
+use Rattle.std.specs.Prelude.{Option, Some, None}
 use Rattle.codes.specs.Codes.{byte_of, reads}
 use Rattle.codes.specs.declared.Code.TheVariants.{Reserved}
 use Rattle.codes.proofs.BothWays.{Stands, stands, reserved, reserved-apart}
@@ -28,9 +27,9 @@ data Coded : ℕ → Type 0 where
 sends-coded : (old : State) (q : ℕ) → (sends old q ≡ nothing) ⊎ Coded (sends old q)
 sends-coded old q = by-choice (chosen old q) refl
   where
-    by-choice : (c : Found) → chosen old q ≡ c → (sends old q ≡ nothing) ⊎ Coded (sends old q)
-    by-choice Nowhere e = elim (post-none old q e) [ inl z ↦ inl z | inr small ↦ inr (timed small) ]
-    by-choice (At k) e =
+    by-choice : (c : Option ℕ) → chosen old q ≡ c → (sends old q ≡ nothing) ⊎ Coded (sends old q)
+    by-choice None e = elim (post-none old q e) [ inl z ↦ inl z | inr small ↦ inr (timed small) ]
+    by-choice (Some k) e =
         let l = chosen-place old q e in
         elim (ℕ_discrete (bit (waiting old 0 q) k) 1) [
           | yes y ↦ inr (rw (post-interrupt old q e y) (coded {kind = 0} (omega arith) l))

@@ -2,77 +2,74 @@
 #![tactic(auto)]
 
 ghost use Rattle.std.specs.Prelude.{◌++◌, ◌+◌, ◌≤◌, length};
-ghost use Rattle.areas.specs.Put.{Puts};
+ghost use Rattle.text.specs.Page.{Writes};
 ghost use Rattle.text.specs.Text.{decimal};
-ghost use Rattle.codes.specs.declared.Code.TheVariants.{Reserved};
 ghost use Rattle.listing.specs.Listing.{name, line, Lists};
 
 use codes::Code;
+use text::Page;
 
 // The longest line, `191 acknowledge 31` and its end.
 pub const LONGEST: usize = 19;
 
 // How many bytes have their line, and how long the lines are together.
-#[derive(Clone, Copy)]
+#[derive(Clone, Copy, Debug, PartialEq, Eq)]
 pub struct Listed {
     pub taken: usize,
     pub length: usize,
 }
 
-// Writes the bytes' lines to the front of the page, for as long as a longest line has room. What
+// Writes the bytes' lines to the front of the area, for as long as a longest line has room. What
 // was not taken can be listed by another call.
-pub fn list(bytes: &[u8], page: &mut [u8]) -> Listed
-    ensures { Lists bytes.now page.old result.taken result.length page.new }
+pub fn list(bytes: &[u8], area: &mut [u8]) -> Listed
+    ensures { Lists bytes.now area.old result.taken result.length area.new }
 {
-    let mut taken = 0;
-    let mut at = 0;
-    while taken < bytes.len() {
-        if page.len() - at < LONGEST {
-            break;
+    let mut page = Page { area, at: 0 };
+    for (taken, byte) in bytes.iter().enumerate() {
+        if page.area.len() - page.at < LONGEST {
+            return Listed {
+                taken,
+                length: page.at,
+            };
         }
-        at = put_line(page, at, bytes[taken]);
-        taken += 1;
+        put_line(&mut page, *byte);
     }
-    Listed { taken, length: at }
+    Listed {
+        taken: bytes.len(),
+        length: page.at,
+    }
 }
 
-// The line of a byte, put at a place that has room for it; answers the place after it.
-fn put_line(page: &mut [u8], at: usize, byte: u8) -> usize
-    requires { at + length (line byte) ≤ length page.old }
-    ensures { Puts page.old at (line byte) page.new result }
+// The line of a byte, where the page has room for it.
+fn put_line(page: &mut Page, byte: u8)
+    requires { page.old.at + length (line byte) ≤ length page.old.area.now }
+    ensures { Writes (line byte) page.old page.new }
 {
-    let space = text::put_number(page, at, byte as u32);
-    let word = areas::put(page, space, b" ");
-    let end = put_name(page, word, codes::read(byte));
-    areas::put(page, end, b"\n")
+    page.then(u32::from(byte), b" ");
+    put_name(page, codes::read(byte));
+    page.word(b"\n");
 }
 
-fn put_name(page: &mut [u8], at: usize, code: Code) -> usize
-    requires { at + length (name code) ≤ length page.old }
-    ensures { Puts page.old at (name code) page.new result }
+fn put_name(page: &mut Page, code: Code)
+    requires { page.old.at + length (name code) ≤ length page.old.area.now }
+    ensures { Writes (name code) page.old page.new }
 {
     match code {
-        Code::Time(value) => put_valued(page, at, b"time ", value),
-        Code::Interrupt(k) => put_valued(page, at, b"interrupt ", k),
-        Code::Acknowledge(k) => put_valued(page, at, b"acknowledge ", k),
-        Code::Reserved(top, low) => put_reserved(page, at, top, low),
+        Code::Time(value) => put_valued(page, b"time ", value),
+        Code::Interrupt(k) => put_valued(page, b"interrupt ", k),
+        Code::Acknowledge(k) => put_valued(page, b"acknowledge ", k),
+        Code::Reserved(top, low) => {
+            put_valued(page, b"reserved ", top);
+            put_valued(page, b" ", low);
+        }
     }
-}
-
-// What a reserved byte says: its two top bits, and its low six.
-fn put_reserved(page: &mut [u8], at: usize, top: u8, low: u8) -> usize
-    requires { at + length (name (Reserved top low)) ≤ length page.old }
-    ensures { Puts page.old at (name (Reserved top low)) page.new result }
-{
-    let after = put_valued(page, at, b"reserved ", top);
-    put_valued(page, after, b" ", low)
 }
 
 // A word, and a number after it.
-fn put_valued(page: &mut [u8], at: usize, word: &[u8], value: u8) -> usize
-    requires { at + length (word.now ++ decimal value) ≤ length page.old }
-    ensures { Puts page.old at (word.now ++ decimal value) page.new result }
+fn put_valued(page: &mut Page, word: &[u8], value: u8)
+    requires { page.old.at + length (word.now ++ decimal value) ≤ length page.old.area.now }
+    ensures { Writes (word.now ++ decimal value) page.old page.new }
 {
-    let after = areas::put(page, at, word);
-    text::put_number(page, after, value as u32)
+    page.word(word);
+    page.number(u32::from(value));
 }

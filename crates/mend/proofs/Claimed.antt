@@ -8,8 +8,11 @@ use native.Mathlib.Decide.{dec_lt, ℕ_discrete}
 use native.Mathlib.Numerals.{add-one}
 use native.Mathlib.Omega.{arith}
 use lib.Dec.{eqb, ltb}
-use lib.ListN.{set, replicate, length-replicate, get_or-replicate}
+use lib.ListN.{length, get_or, set, replicate, length-replicate, get_or-replicate}
 use borrow.Author.Tests.{lt-ltb, le-ltb, ltb-true, eq-eqb, ne_eqb, eqb-true, eqb-false, not-true}
+use Rattle.std.specs.Prelude.{Option, Some, None}
+use Rattle.std.proofs.Math.ListN.{get_or-map}
+use Rattle.std.proofs.lemmas.List.{length-map, map-set, get_or-map as get_or-within}
 use Rattle.lists.specs.Table.{table}
 use Rattle.lists.proofs.Tables.{get_d-table, is-table, same-table, set-table}
 use Rattle.lists.proofs.Tests.{and_left, and_right, both, every-all, every-not}
@@ -18,22 +21,27 @@ use Rattle.plan.specs.Inner.Memory.{at}
 use Rattle.plan.specs.Refusals.{count_in}
 use Rattle.mend.specs.Claims.{last, damaged, pointed, claims, claimant, once, uncontested}
 use Rattle.mend.specs.Mended.{ports_for}
-use Rattle.mend.specs.Inner.Steps.{Fronted, marks, pointed_all, claimant_below, claimants_in, contest_at, contest, lowest, contested, ports_in}
-use Rattle.mend.proofs.Last.{last_found, last-same, last-most}
+use Rattle.mend.specs.Inner.Steps.{Fronted, marks, peer_in, peers_in, pointed_all, claimant_below, claimants_in, contest_at, contest, lowest, contested, ports_in}
+use Rattle.mend.proofs.Last.{last_found, last-same}
 use Rattle.mend.proofs.Marked.{marks-at}
 
 -- ---- the loop over the claims: who claims each port, of the first n ports
 
-pub record Claimed (l : List ℕ) (n : ℕ) (out : List ℕ) : Type 0 where
+pub record Claimed (l : List ℕ) (n : ℕ) (out : List (Option ℕ)) : Type 0 where
   pub within : n ≤ 256
-  pub same : out ≡ table 256 (claimant_below l n)
+  pub same : peers_in out ≡ table 256 (claimant_below l n)
 
-pub claimed-none : (l : List ℕ) → Claimed l 0 (replicate 256 nobody)
+abbrev no-claims : List (Option ℕ)
+no-claims = replicate 256 None
+
+pub claimed-none : (l : List ℕ) → Claimed l 0 no-claims
 unfolding last
 claimed-none l =
     record {
       within = omega arith;
-      same = is-table 256 _ _ 0 (length-replicate 256 nobody) (λ i h. get_or-replicate 256 i nobody 0 h);
+      same =
+          is-table 256 _ _ nobody (length-map no-claims peer_in ∙ length-replicate {A = Option ℕ} 256 None)
+          (λ i h. get_or-map peer_in no-claims i None ∙ ap peer_in (get_or-replicate {A = Option ℕ} 256 i None None h));
     }
 
 -- port n takes the place of the others at what it claims
@@ -41,23 +49,28 @@ claimant-more : (l : List ℕ) (n t : ℕ) → claimant_below l (n + 1) t ≡ co
 unfolding last
 claimant-more l n t = rw add-one
 
-pub claimed-more : {l : List ℕ} {n : ℕ} {out after : List ℕ} → Claimed l n out → n < 256 → after ≡ cond (ltb (at l n) 256) (set out (at l n) n) out → Claimed l (n + 1) after
+pub claimed-more : {l : List ℕ} {n : ℕ} {out after : List (Option ℕ)} → Claimed l n out → n < 256 → after ≡ cond (ltb (at l n) 256) (set out (at l n) (Some n)) out
+    → Claimed l (n + 1) after
 claimed-more {l} {n} {out} v h e =
     record {
       within = omega arith;
       same =
-          e
+          ap peers_in e
           ∙ dite (dec_lt (at l n) 256)
           (λ w.
-          rw (lt-ltb _ _ w, v.same)
+          rw (lt-ltb _ _ w, map-set peer_in out (at l n) (Some n), v.same)
           (set-table 256 (claimant_below l n) (claimant_below l (n + 1)) (at l n) n w (rw (claimant-more l n (at l n), eq-eqb (at l n) (at l n) refl))
           (λ k g q. rw (claimant-more l n k, ne_eqb (at l n) k (λ r. q (sym r))))))
           (λ w. rw (le-ltb (at l n) 256 (omega arith)) (v.same ∙ same-table 256 _ _ (λ k g. sym (rw (claimant-more l n k, ne_eqb (at l n) k (omega arith))))));
     }
 
-pub claimed-all : {l : List ℕ} {n : ℕ} {out : List ℕ} → Claimed l n out → 256 ≤ n → out ≡ claimants_in l
+pub claimed-all : {l : List ℕ} {n : ℕ} {out : List (Option ℕ)} → Claimed l n out → 256 ≤ n → peers_in out ≡ claimants_in l
 unfolding claimants_in
 claimed-all {l} {n} v h = let e : n ≡ 256 = omega (arith, v.within) in v.same ∙ ap (λ k. table 256 (claimant_below l k)) e
+
+-- the peer that a claim makes, among those that all of them make
+pub claimed-at : (claimants : List (Option ℕ)) (t : ℕ) → t < length claimants → at (peers_in claimants) t ≡ peer_in (get_or claimants t None)
+claimed-at claimants t h = get_or-within peer_in claimants t None 0 h
 
 -- ---- the loop over the contests: the lowest block of the first n ports
 
@@ -105,14 +118,10 @@ module _ (file : List ℕ) where
   pub claimant-at : (t : ℕ) → t < 256 → at (table 256 (claimant file)) t ≡ claimant file t
   claimant-at t h = get_d-table {A = ℕ} 256 (claimant file) t 0 h
 
-  -- the list of claimants, how large they are, and the ports of a router by it
+  -- the list of claimants, and the ports of a router by it
   pub claimants-are : claimants_in (pointed_all file) ≡ table 256 (claimant file)
   unfolding claimants_in claimant claims
   claimants-are = same-table 256 _ _ (λ t h. last-same 256 _ _ nobody (λ q l. ap (λ k. eqb k t) (pointed-at q l)))
-
-  pub claimant-most : (t : ℕ) → claimant file t ≤ 256
-  unfolding claimant
-  claimant-most t = last-most 256 (claims file t) nobody 256 (omega arith) (omega arith)
 
   pub ports-are : (d : ℕ) → d < 32 → ports_in (table 256 (claimant file)) d ≡ ports_for file d
   unfolding ports_in ports_for
@@ -164,7 +173,7 @@ module _ (file : List ℕ) where
   low = lowest here 256
 
   -- what the search answers
-  abbrev pub answer : ℕ
+  abbrev pub answer : Option ℕ
   answer = contested (pointed_all file) (table 256 (claimant file)) (marks file)
 
   to-port : (t q : ℕ) → t < 256 → leading t q ≡ cond (not (eqb (claimant file t) q) && broken file t) (1 + t / 8) 33
@@ -243,15 +252,25 @@ module _ (file : List ℕ) where
           before = λ e l. below-lowest e (omega arith) (omega (arith, front.few)) (omega arith);
         }
 
-    -- the search answers 0 where no block is contested, and else with the first that is
-    pub contested-none : answer ≡ 0 → (d : ℕ) → d < count_in file → uncontested file d ≡ true
+    -- the search answers nothing where no block is contested, and else the first that is
+    pub contested-none : answer ≡ None → (d : ℕ) → d < count_in file → uncontested file d ≡ true
     unfolding contested
     contested-none e d h =
         elim (ℕ_discrete low 33) [
           | yes w ↦ below-lowest d h (omega (arith, front.few)) (omega (arith, front.few))
-          | no w ↦ absurd (omega (arith, (first_found w).is, rw (ne_eqb low 33 w) at e))
+          | no w ↦ absurd (some-none (rw (ne_eqb low 33 w) at e))
         ]
+      where
+        some-none : {n : ℕ} → Some n ≡ None → ⊥
+        some-none z = cc
 
-    pub contested-first : (answer ≡ 0 → ⊥) → FirstContest file answer
+    pub contested-first : {block : ℕ} → Some block ≡ answer → FirstContest file block
     unfolding contested
-    contested-first z = elim (ℕ_discrete low 33) [ yes w ↦ absurd (z (rw (eq-eqb low 33 w))) | no w ↦ rw (ne_eqb low 33 w) (first_found w) ]
+    contested-first {block} z =
+        elim (ℕ_discrete low 33) [
+          | yes w ↦ absurd (none-some (rw (eq-eqb low 33 w) at z))
+          | no w ↦ let e : Some block ≡ Some low = rw (ne_eqb low 33 w) at z in let is : block ≡ low = cc in rw is (first_found w)
+        ]
+      where
+        none-some : {n : ℕ} → Some n ≡ None → ⊥
+        none-some z = cc

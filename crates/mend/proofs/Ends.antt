@@ -8,6 +8,7 @@ use native.Mathlib.Omega.{arith}
 use lib.Dec.{eqb, leb}
 use lib.ListN.{length, take, length-append, drop_of_length-le}
 use lib.Seq.{take_at}
+use Rattle.std.specs.Prelude.{Option, Some, None}
 use Rattle.areas.specs.Put.{Puts, over}
 use Rattle.lists.specs.Table.{table}
 use Rattle.lists.proofs.Facts.{facts}
@@ -20,8 +21,8 @@ use Rattle.plan.specs.Inner.File.{entry_holdings}
 use Rattle.plan.specs.Inner.Memory.{at}
 use Rattle.plan.specs.Reading.{reads}
 use Rattle.plan.specs.Refusals.{Test, test, first, device_block, count_in, verdict}
-use Rattle.plan.specs.declared.Read.{Read}
-use Rattle.plan.specs.declared.Verdict.{Verdict}
+use Rattle.plan.specs.Reading.{Read}
+use Rattle.plan.specs.Refusals.{Verdict}
 use Rattle.plan.proofs.Firsts.{AllPass, Stops, here, passes-or-stops, first-accepts, first_stops, stops-front, stops-back, stops-joined, all_append, all-joined}
 use Rattle.plan.proofs.Good.{zero-accepts}
 use Rattle.planfile.specs.Parts.{front_tests}
@@ -31,9 +32,9 @@ use Rattle.mend.specs.Claims.{damaged, claimant, uncontested}
 use Rattle.mend.specs.Mended.{rebuilt, mended}
 use Rattle.mend.specs.Rescue.{longest, good_tests, claim_tests, result_tests, rescue_tests, refusal, Lent, lent, Rescues}
 use Rattle.mend.specs.Told.{Prints}
-use Rattle.mend.specs.Inner.Steps.{Fronted, marks, pointed_all, claimants_in, contested, router_in, routers_over, lines_in, Finishes, Ready, rest_tests, Mends}
+use Rattle.mend.specs.Inner.Steps.{Fronted, marks, marked_at, pointed_all, claimants_in, contested, router_in, routers_over, lines_in, Finishes, Ready, rest_tests, Mends}
 use Rattle.mend.proofs.Blocks.{mended-long}
-use Rattle.mend.proofs.Claimed.{claimants-are, claimant-at, claimant-most, ports-are, answer, contested-none, contested-first}
+use Rattle.mend.proofs.Claimed.{claimants-are, claimant-at, ports-are, answer, contested-none, contested-first}
 use Rattle.mend.proofs.Passing.{good-passes}
 use Rattle.mend.proofs.Result.{fronted, reader-says}
 use Rattle.mend.proofs.Texts.{mark-there, lines-text}
@@ -65,33 +66,27 @@ module _ (file : List ℕ) (front : Fronted file) where
   unfolding routers_over mended
   made-is = ap (λ l. block file 0 ++ l) (same-joined (count_in file) _ _ (λ d h. by-mark d h))
     where
-      by-test : (b : Bool) (x y : List ℕ) → cond (eqb (cond b 1 0) 0) x y ≡ cond b y x
-      by-test true x y = refl
-      by-test false x y = refl
-
-      by-mark : (d : ℕ) → d < count_in file → cond (eqb (at (marks file) d) 0) (block file (1 + d)) (router_in (table 256 (claimant file)) d) ≡ cond (damaged file d) (rebuilt file d) (device_block file d)
-      by-mark d h =
-          let l : d < 32 = omega (arith, front.few) in
-          rw (mark-there file d l h, router-is d l) (by-test (damaged file d) (device_block file d) (rebuilt file d))
+      by-mark : (d : ℕ) → d < count_in file → cond (marked_at (marks file) d) (router_in (table 256 (claimant file)) d) (block file (1 + d)) ≡ cond (damaged file d) (rebuilt file d) (device_block file d)
+      by-mark d h = let l : d < 32 = omega (arith, front.few) in rw (mark-there file d l h, router-is d l)
 
 -- from a copy of the file, by its length
-pub built : {made file : List ℕ} (claimants damaged : List ℕ) → Fronted file → made ≡ file → routers_over claimants damaged (length made / 512 - 1) made ≡ routers_over claimants damaged (count_in file) file
+pub built : {made file : List ℕ} (claimants : List ℕ) (damaged : List Bool) → Fronted file → made ≡ file → routers_over claimants damaged (length made / 512 - 1) made ≡ routers_over claimants damaged (count_in file) file
 built {file = file} claimants damaged front e = let n : length file / 512 - 1 ≡ count_in file = omega (arith, front.long) in rw (e, n)
 
 -- ---- the end
 
-module _ {made claimants damaged : List ℕ} {before : Lent} {read : Read} (e : read ≡ reads made) where
+module _ {made claimants : List ℕ} {damaged : List Bool} {before : Lent} {read : Read} (e : read ≡ reads made) where
   pub ends-refused : (read.number ≡ 0 → ⊥) → Finishes made claimants damaged before read.number read.block 0 before
   unfolding reads
   ends-refused z = record { answers = ap (λ (r : Read). record { number = r.number; at = r.block }) e; done = λ w. absurd (z w); kept = λ w. (refl, refl) }
 
-  pub ends-done : {area text : List ℕ} {used : ℕ} → read.number ≡ 0 → area ≡ made → Within longest before.text 0 (lines_in claimants damaged 32) text used
-      → Finishes made claimants damaged before 0 0 used (lent area text)
+  pub ends-done : {area text shown : List ℕ} {used : ℕ} → read.number ≡ 0 → area ≡ made → Within longest before.text 0 (lines_in claimants damaged 32) shown used
+      → text ≡ shown → Finishes made claimants damaged before 0 0 used (lent area text)
   unfolding reads
-  ends-done z a w =
+  ends-done z a w t =
       record {
         answers = sym (zero-accepts made (ap (λ (r : Read). r.number) (sym e) ∙ z));
-        done = λ _. (a, w);
+        done = λ _. (a, rw t w);
         kept = λ n. absurd (n refl);
       }
 
@@ -101,15 +96,12 @@ module _ (file : List ℕ) {pointed claimants : List ℕ} (p : pointed ≡ point
   pub claimants-is : claimants ≡ table 256 (claimant file)
   claimants-is = c ∙ ap claimants_in p ∙ claimants-are file
 
-  pub claimants-most : (t : ℕ) → t < 256 → at claimants t ≤ 256
-  claimants-most t h = rw (claimants-is, claimant-at file t h) (claimant-most file t)
-
-  pub answer-is : {marked : List ℕ} {number : ℕ} → marked ≡ marks file → number ≡ contested pointed claimants marked → number ≡ answer file
+  pub answer-is : {marked : List Bool} {found : Option ℕ} → marked ≡ marks file → found ≡ contested pointed claimants marked → found ≡ answer file
   answer-is m e = e ∙ rw (p, claimants-is, m)
 
 -- ---- the rest, where nothing is wrong with block 0 and the good blocks
 
-module _ {file marked : List ℕ} (ready : Ready file marked) where
+module _ {file : List ℕ} {marked : List Bool} (ready : Ready file marked) where
   front-pass : AllPass (front_tests file)
   front-pass = front-passes file refl ready.front
 
@@ -121,7 +113,7 @@ module _ {file marked : List ℕ} (ready : Ready file marked) where
     pub built-is : made ≡ mended file
     built-is = e ∙ rw (c, ready.same) (made-is file ready-front)
 
-    built-long : length made ≡ length file
+    pub built-long : length made ≡ length file
     built-long = ap length built-is ∙ mended-long file ready-front
 
     pub built-room : (rest : List ℕ) → length file ≤ length (made ++ rest)
@@ -134,14 +126,14 @@ module _ {file marked : List ℕ} (ready : Ready file marked) where
     built-prefix rest = take_at made rest (length file) built-long ∙ built-is
 
   -- a port is claimed twice
-  pub mends-contested : {before : Lent} {number : ℕ} → number ≡ answer file → (number ≡ 0 → ⊥) → Mends file before 28 number 0 before
+  pub mends-contested : {before : Lent} {number : ℕ} → Some number ≡ answer file → Mends file before 28 number 0 before
   unfolding rest_tests claim_tests
-  mends-contested {number = number} e z =
-      let f = contested-first file ready-front (λ w. z (e ∙ w)) in
+  mends-contested {number = number} e =
+      let f = contested-first file ready-front e in
       let stop : Stops (test 28 (1 + f.device) (uncontested file f.device) ∷ []) (record { number = 28; at = 1 + f.device }) = here f.fails in
       record {
         answers =
-            ap (λ k. record { number = 28; at = k }) (e ∙ f.is)
+            ap (λ k. record { number = 28; at = k }) f.is
             ∙ sym (first_stops (stops-front (result_tests file)
             (stops-joined (λ d. test 28 (1 + d) (uncontested file d) ∷ []) (count_in file) f.device (λ d h. (f.before d h, tt)) stop f.within)));
         made = λ w. absurd (omega (arith, w));
@@ -149,7 +141,7 @@ module _ {file marked : List ℕ} (ready : Ready file marked) where
       }
 
   -- none is, and the reader says what is left
-  pub mends-finished : {made claimants : List ℕ} {before after : Lent} {number block used : ℕ} → answer file ≡ 0 → made ≡ mended file → claimants ≡ table 256 (claimant file)
+  pub mends-finished : {made claimants : List ℕ} {before after : Lent} {number block used : ℕ} → answer file ≡ None → made ≡ mended file → claimants ≡ table 256 (claimant file)
       → Finishes made claimants marked before number block used after → Mends file before number block used after
   unfolding rest_tests claim_tests
   mends-finished {before = before} {after} {used = used} z m c f =

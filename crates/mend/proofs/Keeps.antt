@@ -15,7 +15,7 @@ use Rattle.lists.proofs.Tests.{every-all}
 use Rattle.plan.specs.Block.{block}
 use Rattle.plan.specs.Fields.{peer_number, nobody, joins, sources_fit}
 use Rattle.plan.specs.Refusals.{Test, test, accepts, first, join_tests, device_block, count_in, master_in, events_in, ports_of, peer_of, source_of, tests, verdict}
-use Rattle.plan.specs.declared.Verdict.{Verdict}
+use Rattle.plan.specs.Refusals.{Verdict}
 use Rattle.plan.proofs.Firsts.{AllPass, Stops, passes-or-stops, first-accepts, first_stops, stops-front, stops-back, all-front, all_back, all-joined}
 use Rattle.plan.proofs.Good.{Good, good}
 use Rattle.plan.proofs.Runs.{whole-file}

@@ -5,7 +5,6 @@ use mathlib.Core.List.{List, [], ◌++◌, append-nil, append_assoc}
 use Prim.Native.Nat.{ℕ, ◌+◌, ◌*◌, ◌≤◌, ◌<◌}
 use native.Mathlib.Numerals.{add-one}
 use native.Mathlib.Omega.{arith}
-use lib.Dec.{eqb}
 use lib.ListN.{length, take, drop, replicate, get_or-replicate, length-append, length-drop, take-append-drop, drop_of_length-le}
 use lib.Seq.{take_at, drop-drop, drop-append-add}
 use Rattle.lists.specs.Table.{table, joined}
@@ -15,7 +14,7 @@ use Rattle.plan.specs.Inner.File.{block_of, device_holdings}
 use Rattle.plan.specs.Inner.Memory.{at}
 use Rattle.plan.specs.Header.{core_with, no_header}
 use Rattle.plan.specs.declared.Core.{Core}
-use Rattle.mend.specs.Inner.Steps.{ports_in, row_in, router_in, router_of, routers_over}
+use Rattle.mend.specs.Inner.Steps.{marked_at, ports_in, row_in, router_in, router_of, routers_over}
 use Rattle.mend.proofs.Rebuilt.{router-holdings}
 
 -- the numbers and the peers of routers, by who claims each port
@@ -42,35 +41,35 @@ made-router claimants d h =
     (λ p l. zero-at 256 (8 * d + p) (omega arith)) (λ j l. zero-at 512 (16 * d + j) (omega arith)))
 
 -- behind a front of whole blocks the next one stays or is made, and what is behind that stays
-module _ (mark : ℕ) (core : Core) (peers : List (List ℕ)) (d : ℕ) (front rest : List ℕ) (e : length front ≡ 512 * (1 + d)) where
+module _ (mark : Bool) (core : Core) (peers : List (List ℕ)) (d : ℕ) (front rest : List ℕ) (e : length front ≡ 512 * (1 + d)) where
   abbrev made : List ℕ
   made = block_of (device_holdings core peers (replicate 512 0) d)
 
-  put-behind : router_of mark core peers d (front ++ rest) ≡ front ++ cond (eqb mark 0) (take 512 rest) made ++ drop 512 rest
+  put-behind : router_of mark core peers d (front ++ rest) ≡ front ++ cond mark made (take 512 rest) ++ drop 512 rest
   unfolding router_of
-  put-behind = by-test (eqb mark 0)
+  put-behind = by-test mark
     where
-      by-test : (t : Bool) → cond t (front ++ rest) (take (512 * (1 + d)) (front ++ rest) ++ made ++ drop (512 * (2 + d)) (front ++ rest)) ≡ front ++ cond t (take 512 rest) made ++ drop 512 rest
-      by-test true = sym (append_assoc front (take 512 rest) (drop 512 rest) ∙ ap (λ l. front ++ l) (take-append-drop 512 rest))
-      by-test false =
+      by-test : (t : Bool) → cond t (take (512 * (1 + d)) (front ++ rest) ++ made ++ drop (512 * (2 + d)) (front ++ rest)) (front ++ rest) ≡ front ++ cond t made (take 512 rest) ++ drop 512 rest
+      by-test false = sym (append_assoc front (take 512 rest) (drop 512 rest) ∙ ap (λ l. front ++ l) (take-append-drop 512 rest))
+      by-test true =
           let k : 512 * (2 + d) ≡ length front + 512 = omega arith in
           rw (take_at front rest (512 * (1 + d)) e, k, drop-append-add)
 
 -- rebuilt over a block more
-more-over : (claimants damaged before : List ℕ) (d : ℕ) → d < 32
-    → routers_over claimants damaged (d + 1) before ≡ routers_over claimants damaged d before ++ cond (eqb (at damaged d) 0) (take 512 (drop (512 * (1 + d)) before)) (router_block claimants d)
+more-over : (claimants : List ℕ) (damaged : List Bool) (before : List ℕ) (d : ℕ) → d < 32
+    → routers_over claimants damaged (d + 1) before ≡ routers_over claimants damaged d before ++ cond (marked_at damaged d) (router_block claimants d) (take 512 (drop (512 * (1 + d)) before))
 unfolding routers_over joined block
 more-over claimants damaged before d h =
     rw (add-one, made-router claimants d h) (sym (append_assoc (block before 0) (joined d _) _))
 
 -- the blocks of the first d of n devices are rebuilt where they are marked, and what is behind them is as before
-pub record Over (claimants damaged before : List ℕ) (n d : ℕ) (area : List ℕ) : Type 0 where
+pub record Over (claimants : List ℕ) (damaged : List Bool) (before : List ℕ) (n d : ℕ) (area : List ℕ) : Type 0 where
   pub within : d ≤ n
   pub whole : length before ≡ 512 * (1 + n)
   pub long : length area ≡ length before
   pub same : area ≡ routers_over claimants damaged d before ++ drop (512 * (1 + d)) before
 
-module _ {claimants damaged before : List ℕ} {n : ℕ} where
+module _ {claimants : List ℕ} {damaged : List Bool} {before : List ℕ} {n : ℕ} where
   pub over_none : length before ≡ 512 * (1 + n) → Over claimants damaged before n 0 before
   unfolding routers_over joined block
   over_none e =
@@ -84,7 +83,7 @@ module _ {claimants damaged before : List ℕ} {n : ℕ} where
   -- a device more
   pub over-more : {core : Core} {peers : List (List ℕ)} {d : ℕ} {area after : List ℕ} → Over claimants damaged before n d area
       → d < n → d < 32 → core ≡ router_core claimants → peers ≡ router_peers claimants
-      → after ≡ router_of (at damaged d) core peers d area → length after ≡ length area → Over claimants damaged before n (d + 1) after
+      → after ≡ router_of (marked_at damaged d) core peers d area → length after ≡ length area → Over claimants damaged before n (d + 1) after
   over-more {d} v h m e f made long =
       let front = routers_over claimants damaged d before in
       let rest = drop (512 * (1 + d)) before in
@@ -96,7 +95,7 @@ module _ {claimants damaged before : List ℕ} {n : ℕ} where
         whole = v.whole;
         long = long ∙ v.long;
         same =
-            rw (made, e, f, v.same) (put-behind (at damaged d) _ _ d front rest size
+            rw (made, e, f, v.same) (put-behind (marked_at damaged d) _ _ d front rest size
             ∙ rw (more-over claimants damaged before d m, drop-drop, k));
       }
 

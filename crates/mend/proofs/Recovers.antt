@@ -18,7 +18,7 @@ use Rattle.plan.specs.Block.{block, number_in}
 use Rattle.plan.specs.Fields.{ports_in, source_in, peer_number, nobody, joins, share_events, sources_fit}
 use Rattle.plan.specs.Header.{devices_field, master_field, events_field, header_in}
 use Rattle.plan.specs.Refusals.{Test, test, accepts, first, length_fits, join_tests, device_block, count_in, master_in, events_in, source_of, ports_of, peer_of, tests, verdict}
-use Rattle.plan.specs.declared.Verdict.{Verdict}
+use Rattle.plan.specs.Refusals.{Verdict}
 use Rattle.plan.proofs.Entries.{entry-port, no-port, port-range}
 use Rattle.plan.proofs.Firsts.{AllPass, here, passes-or-stops, stops-numbered, first-accepts, first_stops, stops-front, all_append, all-joined, all-table}
 use Rattle.plan.proofs.Good.{Good, good, good-device, header-says, master-fits}

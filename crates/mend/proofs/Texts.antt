@@ -1,5 +1,5 @@
 -- The lines of a rescue, in their parts; and all of them are the text of the rules.
-use mathlib.Core.Path.{◌≡◌, refl, sym, ap, ◌∙◌}
+use mathlib.Core.Path.{◌≡◌, sym, ap, ◌∙◌}
 use mathlib.Core.Bool.{Bool, true, false, cond}
 use mathlib.Core.List.{List, [], ◌++◌, append-nil}
 use Prim.Native.Nat.{ℕ, zero, suc, ◌+◌, ◌*◌, ◌≤◌, ◌<◌}
@@ -14,11 +14,11 @@ use Rattle.text.proofs.Parts.{headed-short}
 use Rattle.text.proofs.Within.{none-joined, one-joined}
 use Rattle.plan.specs.Fields.{nobody}
 use Rattle.plan.specs.Inner.Memory.{at}
-use Rattle.plan.specs.Reading.{column}
 use Rattle.plan.specs.Refusals.{count_in}
 use Rattle.mend.specs.Claims.{damaged, claimant}
 use Rattle.mend.specs.Rescue.{restored, rebuilt_lines, rescue_text}
-use Rattle.mend.specs.Inner.Steps.{Fronted, mark, marks, restored_in, restored_lines, router_lines, marked_lines, lines_in}
+use Rattle.mend.proofs.Marked.{marks-at}
+use Rattle.mend.specs.Inner.Steps.{Fronted, marks, marked_at, restored_in, restored_lines, router_lines, marked_lines, lines_in}
 
 -- ---- the line of a port
 
@@ -37,23 +37,23 @@ pub block-short : (d : ℕ) → d < 32 → length (headed (ascii "block ") (1 + 
 unfolding ascii
 block-short d h = headed-short (ascii "block ") 1 (1 + d) (omega arith)
 
-module _ (mark : ℕ) (claimants : List ℕ) (d : ℕ) where
-  pub marked-none : mark ≡ 0 → [] ≡ marked_lines mark claimants d
+module _ (mark : Bool) (claimants : List ℕ) (d : ℕ) where
+  pub marked-none : mark ≡ false → [] ≡ marked_lines mark claimants d
   unfolding marked_lines
-  marked-none e = rw (eq-eqb mark 0 e)
+  marked-none e = rw e
 
-  pub marked-some : (mark ≡ 0 → ⊥) → headed (ascii "block ") (1 + d) ++ restored_lines claimants d 8 ≡ marked_lines mark claimants d
+  pub marked-some : mark ≡ true → headed (ascii "block ") (1 + d) ++ restored_lines claimants d 8 ≡ marked_lines mark claimants d
   unfolding marked_lines router_lines
-  marked-some n = rw (ne_eqb mark 0 n)
+  marked-some e = rw e
 
 -- ---- those of all devices
 
-module _ (claimants damaged : List ℕ) where
+module _ (claimants : List ℕ) (damaged : List Bool) where
   pub none_in : [] ≡ lines_in claimants damaged 0
   unfolding lines_in
   none_in = none-joined _
 
-  pub one_in : (d : ℕ) → lines_in claimants damaged d ++ marked_lines (at damaged d) claimants d ≡ lines_in claimants damaged (d + 1)
+  pub one_in : (d : ℕ) → lines_in claimants damaged d ++ marked_lines (marked_at damaged d) claimants d ≡ lines_in claimants damaged (d + 1)
   unfolding lines_in
   one_in d = one-joined _ d
 
@@ -73,13 +73,11 @@ rest-joined n (suc k) f h e =
 
 module _ (file : List ℕ) where
   -- the mark of a device that is there, and of one that is not
-  pub mark-there : (d : ℕ) → d < 32 → d < count_in file → at (marks file) d ≡ mark (damaged file d)
-  unfolding marks column
-  mark-there d h l = get_d-table 32 _ d 0 h ∙ rw (lt-ltb d (count_in file) l)
+  pub mark-there : (d : ℕ) → d < 32 → d < count_in file → marked_at (marks file) d ≡ damaged file d
+  mark-there d h l = marks-at file d h ∙ rw (lt-ltb d (count_in file) l)
 
-  pub mark-gone : (d : ℕ) → d < 32 → count_in file ≤ d → at (marks file) d ≡ 0
-  unfolding marks column
-  mark-gone d h l = get_d-table 32 _ d 0 h ∙ rw (le-ltb d (count_in file) l)
+  pub mark-gone : (d : ℕ) → d < 32 → count_in file ≤ d → marked_at (marks file) d ≡ false
+  mark-gone d h l = marks-at file d h ∙ rw (le-ltb d (count_in file) l)
 
   abbrev claimants : List ℕ
   claimants = table 256 (claimant file)
@@ -92,15 +90,10 @@ module _ (file : List ℕ) where
   unfolding router_lines rebuilt_lines
   same-router d h = ap (λ (l : List ℕ). headed (ascii "block ") (1 + d) ++ l) (same-joined 8 _ _ (λ p l. same-restored (8 * d + p) (omega arith)))
 
-  by-mark : (b : Bool) (d : ℕ) → marked_lines (mark b) claimants d ≡ cond b (router_lines claimants d) []
-  unfolding marked_lines
-  by-mark true d = refl
-  by-mark false d = refl
-
   pub lines-text : Fronted file → lines_in claimants (marks file) 32 ≡ rescue_text file
-  unfolding lines_in rescue_text
+  unfolding lines_in rescue_text marked_lines
   lines-text f =
       rest-joined (count_in file) 32 _ f.few (λ d h l. sym (marked-none _ claimants d (mark-gone d l h)))
       ∙ same-joined (count_in file) _ _
       (λ d l. let h : d < 32 = omega (arith, f.few) in
-      rw (mark-there d h l) (by-mark (damaged file d) d ∙ ap (λ (x : List ℕ). cond (damaged file d) x []) (same-router d h)))
+      rw (mark-there d h l) (ap (λ (x : List ℕ). cond (damaged file d) x []) (same-router d h)))

@@ -5,7 +5,7 @@ use mathlib.Core.Logic.{dite}
 use Prim.Native.Nat.{ℕ}
 use native.Mathlib.Decide.{ℕ_discrete, dec_le}
 use lib.ListN.{length}
-use Rattle.plan.specs.declared.Verdict.{Verdict}
+use Rattle.plan.specs.Refusals.{Verdict}
 use Rattle.mend.specs.Rescue.{longest, Lent, Rescues}
 use Rattle.mend.specs.Told.{Prints}
 

@@ -1,11 +1,12 @@
 -- RULES, "Rescue": the refusals, in their order, the text, and what the call answers.
-use Rattle.std.specs.Prelude.{◌≡◌, cond, not, ◌&&◌, List, [], ◌∷◌, ◌++◌, ℕ, ◌+◌, ◌*◌, eqb, leb, length}
+use Rattle.std.specs.Prelude.{Result, Ok, Err, ◌≡◌, cond, not, ◌&&◌, List, [], ◌∷◌, ◌++◌, ℕ, ◌+◌, ◌*◌, eqb, leb, length}
 use Rattle.areas.specs.Put.{over}
 use Rattle.lists.specs.Table.{joined, every}
 use Rattle.text.specs.Text.{ascii, headed, joint}
 use Rattle.plan.specs.Fields.{nobody, sources_fit}
 use Rattle.plan.specs.Refusals.{Test, test, first, join_tests, count_in, master_in, events_in, source_of, ports_of, peer_of}
-use Rattle.plan.specs.declared.Verdict.{Verdict}
+use Rattle.plan.specs.Refusals.{Verdict}
+use Rattle.plan.specs.declared.Fault.{Fault}
 use Rattle.planfile.specs.Parts.{front_tests, of_device}
 use Rattle.mend.specs.Claims.{damaged, claimant, uncontested}
 use Rattle.mend.specs.Mended.{mended}
@@ -62,6 +63,11 @@ pub record Lent : Type 0 where
 
 abbrev pub lent : List ℕ → List ℕ → Lent
 lent area text = record { area = area; text = text }
+
+-- the length of the text in an answer: 0 where it is refused
+abbrev pub used_in : Result ℕ Fault → ℕ
+used_in (Ok used) = used
+used_in (Err f) = 0
 
 -- the number and the block; done, the mended file, and the text in front of its area, of so many bytes. Refused, nothing changes
 pub record Rescues (file : List ℕ) (before : Lent) (number block used : ℕ) (after : Lent) : Type 0 where

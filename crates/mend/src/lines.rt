@@ -1,57 +1,53 @@
 // The lines of the text: each block that was rebuilt, and behind it its ports that are connected back.
-ghost use Rattle.std.specs.Prelude.{ℕ, ◌+◌, ◌*◌, ◌≤◌, ◌<◌, length};
-ghost use Rattle.text.specs.Inner.Within.{Within};
-ghost use Rattle.plan.specs.Inner.Memory.{at as file_at};
+ghost use Rattle.std.specs.Prelude.{◌+◌, ◌*◌, ◌≤◌, ◌<◌, length};
+ghost use Rattle.text.specs.Inner.Within.{WritesWithin};
 ghost use Rattle.mend.specs.Rescue.{longest};
-ghost use Rattle.mend.specs.Inner.Steps.{restored_in, restored_lines, marked_lines, lines_in, longest_line, longest_router};
+ghost use Rattle.mend.specs.Inner.Steps.{peer_in, peers_in, restored_in, restored_lines, marked_lines, lines_in, longest_line, longest_router};
+
+use crate::claims::Claimants;
+use crate::scan::Marks;
+use plan::DeviceNo;
+use text::Page;
 
 // The line of port t, if somebody claims it.
-fn put_restored(text: &mut [u8], at: usize, t: usize, claimant: u16) -> usize
-    requires { (t < 256) × (claimant ≤ 256) × (at + longest_line ≤ length text.old) }
-    ensures { Within longest_line text.old at (restored_in t claimant) text.new result }
+fn put_restored(page: &mut Page, t: usize, claimant: Option<u8>)
+    requires { (t < 256) × (page.old.at + longest_line ≤ length page.old.area.now) }
+    ensures { WritesWithin longest_line (restored_in t (peer_in claimant)) page.old page.new }
 {
-    if claimant == plan::NOBODY {
-        return at;
+    if let Some(q) = claimant {
+        page.joint(t as u32, u32::from(q));
     }
-    text::put_joint(text, at, t as u32, claimant as u32)
 }
 
 // The lines of the ports of device d that are claimed.
-fn put_ports(claimants: &[u16; 256], d: usize, text: &mut [u8], at: usize) -> usize
-    requires d_bound { (d < 32) × (at + longest_line * 8 ≤ length text.old) }
-    requires by_index { (t : ℕ) → t < 256 → file_at claimants.now t ≤ 256 }
-    ensures { Within (longest_line * 8) text.old at (restored_lines claimants.now d 8) text.new result }
+fn put_ports(claimants: &Claimants, device: DeviceNo, page: &mut Page)
+    requires { page.old.at + longest_line * 8 ≤ length page.old.area.now }
+    ensures { WritesWithin (longest_line * 8) (restored_lines (peers_in claimants.now) device 8) page.old page.new }
 {
-    let mut end = at;
+    let d = device.index();
     for p in 0..8 {
         let t = 8 * d + p;
-        end = put_restored(text, end, t, claimants[t]);
+        put_restored(page, t, claimants[t]);
     }
-    end
 }
 
 // The lines of device d, if it is marked.
-fn put_router(mark: u8, claimants: &[u16; 256], d: usize, text: &mut [u8], at: usize) -> usize
-    requires d_bound { (d < 32) × (at + longest_router ≤ length text.old) }
-    requires by_index { (t : ℕ) → t < 256 → file_at claimants.now t ≤ 256 }
-    ensures { Within longest_router text.old at (marked_lines mark claimants.now d) text.new result }
+fn put_router(mark: bool, claimants: &Claimants, device: DeviceNo, page: &mut Page)
+    requires { page.old.at + longest_router ≤ length page.old.area.now }
+    ensures { WritesWithin longest_router (marked_lines mark (peers_in claimants.now) device) page.old page.new }
 {
-    if mark == 0 {
-        return at;
+    if mark {
+        page.headed(b"block ", (1 + device.index()) as u32);
+        put_ports(claimants, device, page);
     }
-    let ports = text::put_headed(text, at, b"block ", (1 + d) as u32);
-    put_ports(claimants, d, text, ports)
 }
 
 // The lines of all devices that are marked.
-pub(crate) fn put_lines(claimants: &[u16; 256], damaged: &[u8; 32], text: &mut [u8]) -> usize
-    requires longest_in_bounds { longest ≤ length text.old }
-    requires by_index { (t : ℕ) → t < 256 → file_at claimants.now t ≤ 256 }
-    ensures { Within longest text.old 0 (lines_in claimants.now damaged.now 32) text.new result }
+pub(crate) fn put_lines(claimants: &Claimants, damaged: &Marks, page: &mut Page)
+    requires { page.old.at + longest ≤ length page.old.area.now }
+    ensures { WritesWithin longest (lines_in (peers_in claimants.now) damaged.now 32) page.old page.new }
 {
-    let mut end = 0;
     for d in 0..32 {
-        end = put_router(damaged[d], claimants, d, text, end);
+        put_router(damaged[d], claimants, DeviceNo::new(d).unwrap(), page);
     }
-    end
 }

@@ -18,9 +18,9 @@ use Rattle.plan.specs.Header.{header_of}
 use Rattle.plan.specs.Refusals.{Test, test, accepts, first, tests, verdict}
 use Rattle.plan.specs.Reading.{plan_of, Accepted, Held, zeros, reads}
 use Rattle.plan.specs.Writing.{write_asks, Writes}
-use Rattle.plan.specs.declared.Verdict.{Verdict}
+use Rattle.plan.specs.Refusals.{Verdict}
 use Rattle.plan.specs.declared.Plan.{Plan}
-use Rattle.plan.specs.declared.Read.{Read}
+use Rattle.plan.specs.Reading.{Read}
 use Rattle.plan.specs.Inner.Memory.{port_right, device_right, row_right, right}
 use Rattle.plan.specs.Inner.File.{file_of}
 use Rattle.plan.proofs.Firsts.{fails}

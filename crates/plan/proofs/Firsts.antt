@@ -8,7 +8,7 @@ use native.Mathlib.Decide.{ℕ_discrete}
 use native.Mathlib.Omega.{arith}
 use Rattle.lists.specs.Table.{table, joined}
 use Rattle.plan.specs.Refusals.{Test, accepts, first}
-use Rattle.plan.specs.declared.Verdict.{Verdict}
+use Rattle.plan.specs.Refusals.{Verdict}
 
 -- every test is passed
 abbrev pub AllPass : List Test → Type 0

@@ -8,6 +8,7 @@ pub mod Firsts
 pub mod Good
 pub mod Holdings
 pub mod Loads
+pub mod Ranges
 pub mod Match
 pub mod Owned
 pub mod Rows

@@ -1,9 +1,10 @@
 -- Each public function's promise allows one result.
-use mathlib.Core.Path.{◌≡◌, sym, ◌∙◌}
-use mathlib.Core.Bool.{Bool}
+use mathlib.Core.Path.{◌≡◌, refl, sym, ap, ◌∙◌}
+use mathlib.Core.Bool.{Bool, false≢true}
 use mathlib.Core.List.{List, []}
 use Prim.Native.Nat.{ℕ, min}
 use lib.ListN.{get_or}
+use Rattle.std.specs.Prelude.{Option, Some, None, IsSome, IfSome, ◌↔◌}
 use Rattle.lists.specs.Table.{joined}
 use Rattle.plan.specs.Fields.{devices_fit, loads_fit, ports_fit, masks_fit, master_is_node, sources_fit}
 use Rattle.plan.specs.Refusals.{first, join_tests}
@@ -68,3 +69,10 @@ sources-fit-unique events source n r s p q = p ∙ sym q
 
 pub is-held-unique : (plan : Plan) (r s : Bool) → Decides (Held plan) r → Decides (Held plan) s → r ≡ s
 is-held-unique plan r s p q = decides-once r s p q
+
+-- a number with a bound is made where the bound allows it, and is that number: of a device, of a port, and of a device's port
+pub bounded-unique : {A : Type 0} (n : ℕ) (r s : Option ℕ) → (IsSome r ↔ A) → IfSome r (λ d. d ≡ n) → (IsSome s ↔ A) → IfSome s (λ d. d ≡ n) → r ≡ s
+bounded-unique n (Some a) (Some b) ra pa rb pb = ap Some (pa ∙ sym pb)
+bounded-unique n (Some a) None ra pa rb pb = absurd (false≢true (rb.1 (ra.0 refl)))
+bounded-unique n None (Some b) ra pa rb pb = absurd (false≢true (ra.1 (rb.0 refl)))
+bounded-unique n None None ra pa rb pb = refl

@@ -1,12 +1,13 @@
 -- RULES, "Plan file": the plan that a file holds, and what the reader answers.
-use Rattle.std.specs.Prelude.{◌≡◌, cond, List, ℕ, ◌/◌, ◌%◌, ◌<◌, eqb, ltb, get_or, replicate}
+use Rattle.std.specs.Prelude.{Result, Ok, Err, ◌≡◌, cond, List, ℕ, ◌/◌, ◌%◌, ◌<◌, eqb, ltb, get_or, replicate}
+use Rattle.answers.specs.Refusals.{number_of}
 use Rattle.lists.specs.Table.{table}
 use Rattle.plan.specs.Block.{block}
 use Rattle.plan.specs.Fields.{role_in, handler_in, entry, bar_in, nobody}
 use Rattle.plan.specs.Header.{header_in, no_header, core_with}
 use Rattle.plan.specs.Refusals.{accepts, verdict, count_in, device_block, source_of, ports_of, peer_of}
+use Rattle.plan.specs.declared.Fault.{Fault}
 use Rattle.plan.specs.declared.Plan.{Plan}
-use Rattle.plan.specs.declared.Read.{Read}
 
 -- ---- the plan of a file
 
@@ -53,6 +54,16 @@ unfoldable pub Held : Plan → Type 0
 Held plan = (file : List ℕ) × Accepted file plan
 
 -- ---- what the reader answers: number and block, and the plan, all zeros beside a refusal
+
+pub record Read : Type 0 where
+  pub number : ℕ
+  pub block : ℕ
+  pub plan : Plan
+
+-- an answer, as these three
+abbrev pub read_in : Result Plan Fault → Read
+read_in (Ok plan) = record { number = 0; block = 0; plan = plan }
+read_in (Err f) = record { number = number_of f.refusal; block = f.block; plan = zeros }
 
 unfoldable pub reads : List ℕ → Read
 reads file =

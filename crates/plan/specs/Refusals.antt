@@ -1,10 +1,11 @@
 -- RULES, "Plan file": the reader's refusals, in their order; the first found wins.
-use Rattle.std.specs.Prelude.{Bool, cond, ◌&&◌, List, [], ◌∷◌, ◌++◌, ℕ, ◌+◌, ◌*◌, ◌%◌, eqb, leb, length}
+use Rattle.std.specs.Prelude.{Result, Ok, Err, Bool, cond, ◌&&◌, List, [], ◌∷◌, ◌++◌, ℕ, ◌+◌, ◌*◌, ◌%◌, eqb, leb, length}
+use Rattle.answers.specs.Refusals.{number_of}
 use Rattle.lists.specs.Table.{table, joined}
 use Rattle.plan.specs.Block.{block, number_in, rest_zero, checked, kind_field}
 use Rattle.plan.specs.Fields.{number_field, device_fields, ports_in, source_in, device_fits, peer_number, joins, sources_fit}
+use Rattle.plan.specs.declared.Fault.{Fault}
 use Rattle.plan.specs.Header.{devices_field, master_field, events_field, header_fields, header_in, header_fits}
-use Rattle.plan.specs.declared.Verdict.{Verdict}
 
 -- a test: the number and the block that it is refused with, and whether the file passes
 pub record Test : Type 0 where
@@ -15,9 +16,19 @@ pub record Test : Type 0 where
 abbrev pub test : ℕ → ℕ → Bool → Test
 test number at passes = record { number = number; at = at; passes = passes }
 
+-- what is said of a file: a number and the block that it is at; 0 and 0 where nothing is wrong
+pub record Verdict : Type 0 where
+  pub number : ℕ
+  pub at : ℕ
+
 -- nothing is wrong
 abbrev pub accepts : Verdict
 accepts = record { number = 0; at = 0 }
+
+-- what an answer says of a file
+abbrev pub verdict_in : {A : Type 0} → Result A Fault → Verdict
+verdict_in (Ok v) = accepts
+verdict_in (Err f) = record { number = number_of f.refusal; at = f.block }
 
 -- the first test that is not passed
 unfoldable pub first : List Test → Verdict

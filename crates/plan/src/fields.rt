@@ -1,31 +1,25 @@
 // What the numbers of a plan may be, whether they come from a file or stand in memory.
-ghost use Rattle.std.specs.Prelude.{◌≡◌, ◌&&◌, ◌≤◌, get_or};
+#![tactic(auto, using(std::proofs::lemmas::Bool::Decides::nat_tests), unfolding(crate::specs::Fields::devices_fit, crate::specs::Fields::loads_fit, crate::specs::Fields::pair_fits, crate::specs::Fields::ports_fit, crate::specs::Fields::masks_fit, crate::specs::Fields::master_is_node, crate::specs::Inner::Memory::free_masks))]
+
+ghost use Rattle.std.specs.Prelude.{◌≡◌, ◌≤◌, get_or};
 ghost use Rattle.plan.specs.Fields.{devices_fit, loads_fit, pair_fits, ports_fit, masks_fit, master_is_node};
 ghost use Rattle.plan.specs.Inner.Memory.{free_masks};
 ghost use Rattle.lists.specs.Table.{every};
 ghost use Rattle.plan.specs.Header.{pair_at};
 
 use crate::Loads;
+use std::cmp::min;
 
 pub fn devices_fit(n: usize) -> bool
     ensures { result ≡ devices_fit n }
 {
-    if n < 1 {
-        return false;
-    }
-    n <= 32
+    1 <= n && n <= 32
 }
 
 pub fn loads_fit(router: usize, node: usize) -> bool
     ensures { result ≡ loads_fit router node }
 {
-    if router < 1 {
-        return false;
-    }
-    if node < 1 {
-        return false;
-    }
-    router <= node
+    1 <= router && 1 <= node && router <= node
 }
 
 // May an identifier have these loads? Two zeros say that it has none of its own.
@@ -38,25 +32,15 @@ fn pair_fits(router: u16, node: u16) -> bool
     router <= node
 }
 
-// Are both so?
-fn both(one: bool, other: bool) -> bool
-    ensures { result ≡ (one && other) }
-{
-    if one {
-        return other;
-    }
-    false
-}
-
 // May each identifier have its loads? All are asked, several at a time, where a search for one that may
 // not would look at each.
 pub(crate) fn pairs_fit(loads: &Loads) -> bool
     ensures { result ≡ every 32 (λ k. pair_fits (get_or loads.now (pair_at k 1) 0) (get_or loads.now (pair_at k 0) 0)) }
 {
+    let (pairs, _) = loads[2..].as_chunks::<2>();
     let mut all = true;
-    for k in 0..32 {
-        let at = 2 + 2 * k;
-        all = both(all, pair_fits(loads[at + 1], loads[at]));
+    for pair in pairs {
+        all = pair_fits(pair[1], pair[0]) && all;
     }
     all
 }
@@ -65,16 +49,8 @@ pub(crate) fn pairs_fit(loads: &Loads) -> bool
 pub fn ports_fit(role: u8, ports: u8) -> bool
     ensures { result ≡ ports_fit role ports }
 {
-    if role > 1 {
-        return false;
-    }
-    if ports < 1 {
-        return false;
-    }
-    if role == 0 {
-        return ports <= 2;
-    }
-    ports <= 8
+    let most = if role == 0 { 2 } else { 8 };
+    role <= 1 && 1 <= ports && ports <= most
 }
 
 // Does the role allow these masks?
@@ -84,23 +60,14 @@ pub fn masks_fit(role: u8, source: u32, handler: u32) -> bool
     if role == 0 {
         return source & handler == 0;
     }
-    if source != 0 {
-        return false;
-    }
-    handler == 0
+    source == 0 && handler == 0
 }
 
 // Is device d a node, or not the master? The master is a number plus 1, and 0 is nobody's.
 pub fn master_is_node(master: u8, d: usize, role: u8) -> bool
     ensures { result ≡ master_is_node master d role }
 {
-    if role == 0 {
-        return true;
-    }
-    if master == 0 {
-        return true;
-    }
-    master as usize - 1 != d
+    role == 0 || master == 0 || usize::from(master) - 1 != d
 }
 
 // How many of the 16 masks of a device may be any: two for each port of a router, and none of a node's.
@@ -110,8 +77,5 @@ pub fn free_masks(role: u8, ports: u8) -> usize
     if role != 1 {
         return 0;
     }
-    if 8 < ports {
-        return 16;
-    }
-    2 * ports as usize
+    min(2 * usize::from(ports), 16)
 }

@@ -1,132 +1,108 @@
 // Whether some accepted file holds a plan: the check for refusal 1.
-ghost use Rattle.std.specs.Prelude.{◌≡◌, [], ◌+◌, ◌*◌, ◌<◌, ◌≤◌, length, get_or};
+#![tactic(auto, using(std::proofs::lemmas::Bool::Decides::nat_tests), unfolding(crate::specs::Inner::Memory::port_right, crate::specs::Inner::Memory::device_right, crate::specs::Inner::Memory::row_right))]
+
+ghost use Rattle.std.specs.Prelude.{◌≡◌, ◌+◌, ◌*◌, ◌<◌, ◌≤◌};
 ghost use Rattle.lists.specs.Table.{every};
 ghost use Rattle.answers.specs.Decides.{Decides};
 ghost use Rattle.plan.specs.Reading.{Held};
 ghost use Rattle.plan.specs.Fields.{bar_fits};
-ghost use Rattle.plan.specs.Inner.Memory.{port_right, device_right, row_right};
+ghost use Rattle.plan.specs.Inner.Memory.{at, peer_at, port_right, device_right, row_right, right};
 
-use crate::{Core, Plan, fields, joins, sources};
+use crate::{Core, DeviceNo, NOBODY, Plan, fields, joins, sources};
 
-// Is some accepted file's plan this one?
+// Is some accepted file's plan this one? It comes by value, as at the door: of a plan that its caller owns
+// the check knows that each number fits its type, which `Held` asks, and of a lent one the lengths alone.
 pub fn is_held(plan: Plan) -> bool
     ensures { Decides (Held plan) result }
 {
-    let core = plan.core;
-    if !crate::header_fits(crate::header_of(core)) {
-        return false;
-    }
-    let peers = crate::peers_of(plan);
-    if !rows_right(core, peers, &plan.barred) {
-        return false;
-    }
-    let ports = core.ports;
-    if joins::bad_block(core.devices, ports, &peers) != 0 {
-        return false;
-    }
-    let source = core.source;
-    sources::sources_fit(core.events, source, core.devices)
+    is_right(&plan)
 }
 
-// Are the numbers and the ports of all 32 devices right, those of absent ones too?
-fn rows_right(core: Core, peers: [[u16; 8]; 32], barred: &[u32]) -> bool
-    requires { (core.devices ≤ 32) × (length barred.now ≡ 512) }
-    ensures { result ≡ every 32 (row_right core peers barred.now) }
-{
-    for d in 0..32 {
-        if !device_right(
-            core.devices,
-            core.master,
-            d,
-            core.role[d],
-            core.ports[d],
-            core.source[d],
-            core.handler[d],
-        ) {
-            return false;
-        }
-        if !ports_right(core.devices, core.ports[d], d, &core.permissions, &peers) {
-            return false;
-        }
-        if !bars_right(core.role[d], core.ports[d], d, barred) {
-            return false;
-        }
+impl Plan {
+    // The same of a plan that is lent, of a copy.
+    pub fn is_held(&self) -> bool
+        ensures { Decides (Held self.now) result }
+    {
+        is_held(*self)
     }
-    true
 }
 
-fn device_right(
-    n: usize,
-    master: u8,
-    d: usize,
-    role: u8,
-    ports: u8,
-    source: u32,
-    handler: u32,
-) -> bool
-    ensures { result ≡ device_right n master d role ports source handler }
+// Does the plan look as a held one does?
+fn is_right(plan: &Plan) -> bool
+    ensures { result ≡ right plan.now }
 {
-    if d < n {
-        if !fields::ports_fit(role, ports) {
-            return false;
-        }
-        if !fields::masks_fit(role, source, handler) {
-            return false;
-        }
-        return fields::master_is_node(master, d, role);
+    let core = &plan.core;
+    crate::header_fits(crate::header_of(plan.core))
+        && rows_right(plan)
+        && joins::bad_block(core.devices, core.ports, &plan.peers) == 0
+        && sources::sources_fit(core.events, core.source, core.devices)
+}
+
+// Are the numbers and the ports of all 32 devices right, those of absent ones too? That there are no more
+// is asked of the four that pass it on, and known from the header's test: a type for a plan half tested is
+// no plainer.
+fn rows_right(plan: &Plan) -> bool
+    requires { plan.now.core.devices ≤ 32 }
+    ensures { result ≡ every 32 (row_right plan.now.core plan.now.peers plan.now.barred) }
+{
+    (0..32).all(|d| row_right(plan, DeviceNo::new(d).unwrap()))
+}
+
+fn row_right(plan: &Plan, d: DeviceNo) -> bool
+    requires { plan.now.core.devices ≤ 32 }
+    ensures { result ≡ row_right plan.now.core plan.now.peers plan.now.barred d }
+{
+    device_right(&plan.core, d) && ports_right(plan, d) && bars_right(plan, d)
+}
+
+fn device_right(core: &Core, d: DeviceNo) -> bool
+    ensures { result ≡ device_right core.now.devices core.now.master d (at core.now.role d) (at core.now.ports d) (at core.now.source d) (at core.now.handler d) }
+{
+    let d = d.index();
+    let (role, ports) = (core.role[d], core.ports[d]);
+    let (source, handler) = (core.source[d], core.handler[d]);
+    if d < core.devices {
+        return fields::ports_fit(role, ports)
+            && fields::masks_fit(role, source, handler)
+            && fields::master_is_node(core.master, d, role);
     }
-    if role != 0 {
-        return false;
-    }
-    if ports != 0 {
-        return false;
-    }
-    if source != 0 {
-        return false;
-    }
-    handler == 0
+    role == 0 && ports == 0 && source == 0 && handler == 0
 }
 
 // Are the ports of device d right?
-fn ports_right(
-    n: usize,
-    ports: u8,
-    d: usize,
-    permissions: &[u8; 256],
-    peers: &[[u16; 8]; 32],
-) -> bool
-    requires { (n ≤ 32) × (d < 32) }
-    ensures { result ≡ every 8 (λ p. port_right n ports p (get_or (get_or peers.now d []) p 0) (get_or permissions.now (8 * d + p) 0)) }
+fn ports_right(plan: &Plan, d: DeviceNo) -> bool
+    requires { plan.now.core.devices ≤ 32 }
+    ensures { result ≡ every 8 (λ p. port_right plan.now.core.devices (at plan.now.core.ports d) p (peer_at plan.now.peers d p) (at plan.now.core.permissions (8 * d + p))) }
 {
-    for p in 0..8 {
-        if !port_right(n, ports, p, peers[d][p], permissions[8 * d + p]) {
-            return false;
-        }
-    }
-    true
+    let core = &plan.core;
+    let d = d.index();
+    let ports = core.ports[d];
+    (0..8).all(|p| {
+        port_right(
+            core.devices,
+            ports,
+            p,
+            plan.peers[d][p],
+            core.permissions[8 * d + p],
+        )
+    })
 }
 
 fn port_right(n: usize, ports: u8, p: usize, peer: u16, permissions: u8) -> bool
     requires { n ≤ 32 }
     ensures { result ≡ port_right n ports p peer permissions }
 {
-    if p < ports as usize {
-        if (peer as usize) < 8 * n {
-            return permissions <= 15;
-        }
+    if p < usize::from(ports) && usize::from(peer) < 8 * n {
+        return permissions <= 15;
     }
-    if peer != 256 {
-        return false;
-    }
-    permissions == 0
+    peer == NOBODY && permissions == 0
 }
 
-// Does device d, of which these are the role and the number of ports, bar nothing but at ports that may?
-fn bars_right(role: u8, ports: u8, d: usize, barred: &[u32]) -> bool
-    requires { (d < 32) × (length barred.now ≡ 512) }
-    ensures { result ≡ every 16 (λ j. bar_fits role ports j (get_or barred.now (16 * d + j) 0)) }
+// Does device d bar nothing but at ports that may?
+fn bars_right(plan: &Plan, d: DeviceNo) -> bool
+    ensures { result ≡ every 16 (λ j. bar_fits (at plan.now.core.role d) (at plan.now.core.ports d) j (at plan.now.barred (16 * d + j))) }
 {
-    let from = 16 * d + fields::free_masks(role, ports);
-    let to = 16 * d + 16;
-    areas::zeros(&barred[from..to])
+    let d = d.index();
+    let from = 16 * d + fields::free_masks(plan.core.role[d], plan.core.ports[d]);
+    areas::zeros(&plan.barred[from..16 * d + 16])
 }

@@ -6,10 +6,16 @@ use mathlib.Core.Logic.{dite}
 use Prim.Native.Nat.{ℕ, ◌+◌, ◌-◌, ◌≤◌, ◌<◌}
 use native.Mathlib.Decide.{dec_lt}
 use native.Mathlib.Omega.{arith}
-use lib.Dec.{ltb, leb}
+use lib.Bits.{bit_or}
+use lib.Dec.{eqb, ltb, leb}
+use lib.ListN.{length, get_or, take, drop, length-drop}
+use lib.Seq.{length-take-le, get_or-take, get_or-drop}
 use borrow.Author.Tests.{lt-ltb, le-ltb, lt-leb, le-leb}
 use Rattle.lists.proofs.Facts.{facts}
-use Rattle.lists.proofs.Tests.{and_left, and_right, both, same_truth}
+use Rattle.std.specs.List.{fold}
+use Rattle.areas.proofs.Below.{merged_zero}
+use Rattle.lists.specs.Table.{every}
+use Rattle.lists.proofs.Tests.{and_left, and_right, both, same_truth, every-same}
 use Rattle.plan.specs.Block.{byte, Field, lies, lies_in, rest_zero}
 use Rattle.plan.proofs.Holdings.{ascends, Ascends, ascending, in_block, before-all, or-false, rest_at, rest_all}
 use Rattle.planfile.specs.Inner.Zeros.{zeros_in}
@@ -28,6 +34,15 @@ zeros-at from to s z i a b =
 pub zeros-all : (from to : ℕ) (s : List ℕ) → ((i : ℕ) → from ≤ i → i < to → byte s i ≡ 0) → zeros_in from to s ≡ true
 unfolding zeros_in
 zeros-all from to s h = simp facts (λ i l. h (from + i) (omega arith) (omega arith))
+
+-- such a run is zero where what its bytes are merged into is
+pub merged-zeros : (from to : ℕ) (s : List ℕ) → to ≤ length s → eqb (fold bit_or 0 (take (to - from) (drop from s))) 0 ≡ zeros_in from to s
+unfolding zeros_in
+merged-zeros from to s h =
+    let run = take (to - from) (drop from s) in
+    let long : length run ≡ to - from = length-take-le (to - from) (drop from s) (omega (arith, length-drop from s)) in
+    merged_zero run ∙ ap (λ n. every n (λ i. eqb (get_or run i 0) 0)) long
+    ∙ every-same (to - from) _ _ (λ i l. ap (λ x. eqb x 0) (get_or-take (to - from) (drop from s) i 0 l ∙ get_or-drop from s i 0))
 
 -- every byte from a place on that lies in no field
 abbrev Rest : ℕ → List Field → List ℕ → Type 0

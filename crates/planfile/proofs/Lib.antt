@@ -1,6 +1,7 @@
 pub mod Bars
 pub mod Entered
 pub mod Gaps
+pub mod Made
 pub mod Marked
 pub mod Numbers
 pub mod Places

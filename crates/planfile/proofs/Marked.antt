@@ -4,7 +4,7 @@ use mathlib.Core.List.{List, [], ◌∷◌, ◌++◌}
 use Prim.Native.Nat.{ℕ, zero, suc}
 use Rattle.lists.specs.Table.{table, joined}
 use Rattle.plan.specs.Refusals.{Test, first}
-use Rattle.plan.specs.declared.Verdict.{Verdict}
+use Rattle.plan.specs.Refusals.{Verdict}
 use Rattle.plan.proofs.Firsts.{AllPass, Stops, here, later}
 
 -- each test's number and block are so

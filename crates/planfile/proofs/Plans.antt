@@ -33,20 +33,21 @@ places-below m z i n =
     (λ e. lt-ltb i (m * n) (rw mul_comm (below.0 (ltb-true (i / m) n e))))
 
 module _ (file : List ℕ) where
-  -- the numbers, of a header and of what was read for each device that it counts
-  pub core-of : {header : Header} {role ports source handler permissions : List ℕ} {core : Core} → header ≡ header_in (block file 0)
-      → role ≡ column header.devices (λ d. role_in (device_block file d)) → ports ≡ column header.devices (ports_of file)
-      → source ≡ column header.devices (λ d. source_in (device_block file d)) → handler ≡ column header.devices (λ d. handler_in (device_block file d))
-      → permissions ≡ (plan_of file).core.permissions → core ≡ core_with header role ports source handler permissions → core ≡ (plan_of file).core
-  unfolding plan_of
-  core-of {header} h role ports source handler permissions core =
-      let n : header.devices ≡ count_in file = ap (λ (k : Header). k.devices) h in
-      let same : (f : ℕ → ℕ) → column header.devices f ≡ column (count_in file) f = λ f. ap (λ k. column k f) n in
-      core ∙ (λ i. core_with (h i) ((role ∙ same _) i) ((ports ∙ same _) i) ((source ∙ same _) i) ((handler ∙ same _) i) (permissions i))
-
-  pub permissions-of : {n : ℕ} → n ≡ count_in file → table 256 (filling 0 (λ k. entry (device_block file (k / 8)) (k % 8) 2) (8 * n)) ≡ (plan_of file).core.permissions
+  permissions-of : {n : ℕ} → n ≡ count_in file → table 256 (filling 0 (λ k. entry (device_block file (k / 8)) (k % 8) 2) (8 * n)) ≡ (plan_of file).core.permissions
   unfolding plan_of
   permissions-of {n} e = same-table 256 _ _ (λ q h. rw (places-below 8 (omega arith) q n, e))
+
+  -- the numbers, of a header and of what was read for each device that it counts
+  pub core-of : {header : Header} {role ports source handler permissions : List ℕ} {core : Core} → header ≡ header_in (block file 0)
+      → role ≡ table 32 (filling 0 (λ d. role_in (device_block file d)) header.devices) → ports ≡ table 32 (filling 0 (ports_of file) header.devices)
+      → source ≡ table 32 (filling 0 (λ d. source_in (device_block file d)) header.devices) → handler ≡ table 32 (filling 0 (λ d. handler_in (device_block file d)) header.devices)
+      → permissions ≡ table 256 (filling 0 (λ q. entry (device_block file (q / 8)) (q % 8) 2) (8 * header.devices))
+      → core ≡ core_with header role ports source handler permissions → core ≡ (plan_of file).core
+  unfolding plan_of column
+  core-of {header} h role ports source handler permissions core =
+      let n : header.devices ≡ count_in file = ap (λ (k : Header). k.devices) h in
+      let same : (f : ℕ → ℕ) → table 32 (filling 0 f header.devices) ≡ column (count_in file) f = λ f. ap (λ k. column k f) n in
+      core ∙ (λ i. core_with (h i) ((role ∙ same _) i) ((ports ∙ same _) i) ((source ∙ same _) i) ((handler ∙ same _) i) ((permissions ∙ permissions-of n) i))
 
   pub barred-of : {n : ℕ} → n ≡ count_in file → table 512 (filling 0 (λ k. bar_in (device_block file (k / 16)) (k % 16)) (16 * n)) ≡ (plan_of file).barred
   unfolding plan_of

@@ -3,27 +3,27 @@ use mathlib.Core.Path.{◌≡◌, refl, sym, ap, ◌∙◌}
 use mathlib.Core.Bool.{Bool, true, false}
 use mathlib.Core.List.{List, [], ◌∷◌, ◌++◌}
 use mathlib.Core.Logic.{◌⊎◌, inl, inr}
-use Prim.Native.Nat.{ℕ, ◌+◌, ◌*◌, ◌≤◌, ◌<◌, min}
+use Prim.Native.Nat.{ℕ, ◌+◌, ◌≤◌, ◌<◌, min}
 use native.Mathlib.Omega.{arith}
-use lib.ListN.{length, get_or}
+use lib.ListN.{get_or}
 use borrow.Author.Tests.{ne_eqb}
 use Rattle.lists.specs.Table.{joined}
 use Rattle.lists.proofs.Facts.{facts}
 use Rattle.plan.specs.Block.{block}
 use Rattle.plan.specs.Fields.{device_fits, sources_fit}
 use Rattle.plan.specs.Refusals.{Test, test, accepts, first, device_tests, join_tests, device_block, count_in, master_in, events_in, source_of, ports_of, peer_of, tests, verdict}
-use Rattle.plan.specs.declared.Verdict.{Verdict}
+use Rattle.plan.specs.Refusals.{Verdict}
 use Rattle.plan.specs.Reading.{plan_of, zeros, reads}
 use Rattle.plan.specs.declared.Core.{Core}
 use Rattle.plan.specs.declared.Plan.{Plan}
-use Rattle.plan.specs.declared.Read.{Read}
+use Rattle.plan.specs.Reading.{Read}
 use Rattle.plan.proofs.Firsts.{AllPass, Numbered, Stops, passes-or-stops, first-accepts, first_stops, accepts-all, all_append, all-front, all_back, all-at, stops-front, stops-back, numbered-append, numbered-joined}
 use Rattle.plan.proofs.Shared.{sources-same}
 use Rattle.planfile.specs.Parts.{front_tests, of_device}
 use Rattle.planfile.specs.Inner.Scan.{scan_tests, scanned}
 use Rattle.planfile.proofs.SameConnections.{Leads, entry-leads, same_tests, devices-held, events-held, ports-held, source-held, peer-held}
 use Rattle.planfile.proofs.Marked.{Each, stops-each, each-joined, each-table, first-behind}
-use Rattle.planfile.proofs.Scans.{devices, front-numbered, front-counts, front-few, device-numbered}
+use Rattle.planfile.proofs.Scans.{devices, front-numbered, front-few, device-numbered}
 
 abbrev answer : ℕ → ℕ → Plan → Read
 answer number block plan = record { number = number; block = block; plan = plan }
@@ -84,10 +84,7 @@ module _ (file : List ℕ) where
     unfolding scan_tests front_tests
     front = all-front (front_tests file) (devices file) p
 
-    pub counts : length file ≡ 512 * (1 + count_in file)
-    counts = front-counts file front
-
-    pub count-few : count_in file ≤ 32
+    count-few : count_in file ≤ 32
     count-few = front-few file front
 
     leads : (d q : ℕ) → d < count_in file → q < 8 → Leads (count_in file) (peer_of file d q)

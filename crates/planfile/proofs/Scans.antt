@@ -3,11 +3,12 @@ use mathlib.Core.Path.{◌≡◌, refl, sym, ap, ◌∙◌}
 use mathlib.Core.Bool.{true, false}
 use mathlib.Core.List.{List, [], ◌∷◌, ◌++◌}
 use mathlib.Core.Logic.{inl, inr}
-use Prim.Native.Nat.{ℕ, ◌+◌, ◌-◌, ◌*◌, ◌/◌, ◌≤◌, ◌<◌}
+use Prim.Native.Nat.{ℕ, ◌+◌, ◌*◌, ◌/◌, ◌≤◌, ◌<◌}
+use native.Mathlib.Decide.{ℕ_discrete}
 use native.Mathlib.Numerals.{add-one}
 use native.Mathlib.Omega.{arith}
 use lib.Dec.{eqb}
-use lib.ListN.{length, take, drop}
+use lib.ListN.{length}
 use borrow.Author.Count.{below_more}
 use borrow.Author.Tests.{lt-ltb, leb-true, eqb-true, eq-eqb, ne_eqb}
 use Rattle.lists.specs.Table.{joined}
@@ -15,11 +16,11 @@ use Rattle.lists.proofs.Tests.{and_left}
 use Rattle.plan.specs.Block.{block}
 use Rattle.plan.specs.Header.{header_in}
 use Rattle.plan.specs.Refusals.{Test, test, first, length_fits, header_tests, device_tests, device_block, count_in, master_in}
-use Rattle.plan.specs.declared.Verdict.{Verdict}
+use Rattle.plan.specs.Refusals.{Verdict, accepts}
 use Rattle.plan.proofs.Firsts.{AllPass, Stops, here, Numbered, passes-or-stops, first_stops, first-accepts, accepts-all, stops-front, stops-back, all_append, all-front, all_back, all-joined, stops-joined, numbered-append}
 use Rattle.plan.proofs.Good.{devices-fit, header-says}
 use Rattle.planfile.specs.Parts.{front_tests, of_device, block_tests, refusal_in}
-use Rattle.planfile.specs.Inner.Scan.{device_scan, scan_tests, scanned}
+use Rattle.planfile.specs.Inner.Scan.{at_block, device_scan, scan_tests, scanned}
 use Rattle.planfile.proofs.Marked.{Each, stops-each, first-behind}
 
 abbrev pub place : ℕ → ℕ → Verdict
@@ -27,10 +28,23 @@ place number at = record { number = number; at = at }
 
 -- ---- one block
 
--- what a slice of the file lends
-pub part-block : (file : List ℕ) (b : ℕ) → take (512 * b + 512 - 512 * b) (drop (512 * b) file) ≡ block file b
-unfolding block
-part-block file b = let e : 512 * b + 512 - 512 * b ≡ 512 = omega arith in rw e
+-- what is said of block b: a refusal, or that it has none
+module _ (b n : ℕ) where
+  none-at : n ≡ 0 → at_block b n ≡ accepts
+  none-at z = rw (eq-eqb n 0 z) refl
+
+  some-at : (n ≡ 0 → ⊥) → at_block b n ≡ place n b
+  some-at z = rw (ne_eqb n 0 z) refl
+
+  blocked : {v : Verdict} → v ≡ at_block b n → 0 < v.number → (n ≡ 0 → ⊥) × (v ≡ place n b)
+  blocked {v} e h =
+      elim (ℕ_discrete n 0) [
+        | yes z ↦ let none : v.number ≡ 0 = ap (λ (v : Verdict). v.number) (e ∙ none-at z) in absurd (omega arith)
+        | no z ↦ (z, e ∙ some-at z)
+      ]
+
+  unblocked : accepts ≡ at_block b n → n ≡ 0
+  unblocked e = elim (ℕ_discrete n 0) [ yes z ↦ z | no z ↦ ap (λ (v : Verdict). v.number) (sym (e ∙ some-at z)) ]
 
 of-tests : (file : List ℕ) (b : ℕ) → b < length file / 512 → refusal_in file b ≡ (first (block_tests file b)).number
 unfolding refusal_in
@@ -81,25 +95,27 @@ pub record Scanned (file : List ℕ) (n d : ℕ) : Type 0 where
   pub long : length file ≡ 512 * (1 + n)
   pub pass : (e : ℕ) → e < d → AllPass (of_device file e)
 
-module _ {file : List ℕ} {n d number : ℕ} (v : Scanned file n d) (h : d < n) (e : number ≡ refusal_in file (d + 1)) where
-  said : number ≡ (first (of_device file d)).number
-  said = let l = v.long in e ∙ device-refusal file d (omega arith)
+module _ {file : List ℕ} {n d : ℕ} (v : Scanned file n d) (h : d < n) where
+  said : refusal_in file (d + 1) ≡ (first (of_device file d)).number
+  said = let l = v.long in device-refusal file d (omega arith)
 
-  pub stops-device : (number ≡ 0 → ⊥) → place number (d + 1) ≡ device_scan file
+  pub stops-device : {r : Verdict} → r ≡ at_block (d + 1) (refusal_in file (d + 1)) → 0 < r.number → r ≡ device_scan file
   unfolding device_scan
-  stops-device z =
-      (sym (first_stops (stops-joined (of_device file) (count_in file) d v.pass (stops-there number (device-at (count_in file) (master_in file) d (device_block file d)) said z) (omega (arith, v.counted)))))
+  stops-device e k =
+      let s = blocked (d + 1) (refusal_in file (d + 1)) e k in
+      let at = device-at (count_in file) (master_in file) d (device_block file d) in
+      s.1 ∙ sym (first_stops (stops-joined (of_device file) (count_in file) d v.pass (stops-there (refusal_in file (d + 1)) at said s.0) (omega (arith, v.counted))))
 
-  pub scanned-more : number ≡ 0 → Scanned file n (d + 1)
-  scanned-more z =
+  pub scanned-more : accepts ≡ at_block (d + 1) (refusal_in file (d + 1)) → Scanned file n (d + 1)
+  scanned-more e =
       record {
         within = omega arith;
         counted = v.counted;
         long = v.long;
-        pass = below_more _ _ v.pass (accepts-all (of_device file d) (device-numbered (count_in file) (master_in file) d (device_block file d)) (sym said ∙ z));
+        pass = below_more _ _ v.pass (accepts-all (of_device file d) (device-numbered (count_in file) (master_in file) d (device_block file d)) (sym said ∙ unblocked (d + 1) (refusal_in file (d + 1)) e));
       }
 
-pub scanned-all : {file : List ℕ} {n d : ℕ} → Scanned file n d → n ≤ d → place 0 0 ≡ device_scan file
+pub scanned-all : {file : List ℕ} {n d : ℕ} → Scanned file n d → n ≤ d → accepts ≡ device_scan file
 unfolding device_scan
 scanned-all {file} {n} {d} v h =
     (sym (first-accepts _ (all-joined (of_device file) (count_in file) (λ e l. v.pass e (omega (arith, v.counted))))))
@@ -130,22 +146,24 @@ module _ (file : List ℕ) where
     unfolding length_fits
     has-header = leb-true _ _ (and_left _ _ (and_left _ _ l))
 
-    own : (number : ℕ) → number ≡ refusal_in file 0 → number ≡ (first header).number
-    own number e = let h = has-header in e ∙ header-refusal file (omega arith)
+    own : refusal_in file 0 ≡ (first header).number
+    own = let h = has-header in header-refusal file (omega arith)
 
-    pub stops-header : {number : ℕ} → number ≡ refusal_in file 0 → (number ≡ 0 → ⊥) → place number 0 ≡ first (front_tests file)
+    pub stops-header : {r : Verdict} → r ≡ at_block 0 (refusal_in file 0) → 0 < r.number → r ≡ first (front_tests file)
     unfolding front_tests
-    stops-header {number} e z = sym (first_stops (stops-front counted (stops-back long (l, tt) (stops-there number (header_at (block file 0)) (own number e) z))))
+    stops-header e k =
+        let s = blocked 0 (refusal_in file 0) e k in
+        s.1 ∙ sym (first_stops (stops-front counted (stops-back long (l, tt) (stops-there (refusal_in file 0) (header_at (block file 0)) own s.0))))
 
-    pub passes-header : {number : ℕ} → number ≡ refusal_in file 0 → number ≡ 0 → AllPass header
-    passes-header {number} e z = accepts-all header (header-numbered (block file 0)) (sym (own number e) ∙ z)
+    pub passes-header : accepts ≡ at_block 0 (refusal_in file 0) → AllPass header
+    passes-header e = accepts-all header (header-numbered (block file 0)) (sym own ∙ unblocked 0 (refusal_in file 0) e)
 
     module _ (p : AllPass header) where
       pub stops-counted : (length file ≡ 512 * (1 + count_in file) → ⊥) → place 25 0 ≡ first (front_tests file)
       unfolding front_tests
       stops-counted z = sym (first_stops (stops-back (long ++ header) (l, p) (here (ne_eqb _ _ z))))
 
-      pub front-accepts : length file ≡ 512 * (1 + count_in file) → place 0 0 ≡ first (front_tests file)
+      pub front-accepts : length file ≡ 512 * (1 + count_in file) → accepts ≡ first (front_tests file)
       unfolding front_tests
       front-accepts e = sym (first-accepts (long ++ header ++ counted) (all_append (long ++ header) counted (l, p) (eq-eqb _ _ e, tt)))
 

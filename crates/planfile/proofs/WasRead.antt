@@ -5,7 +5,7 @@ use Prim.Native.Nat.{ℕ, ◌<◌}
 use lib.ListN.{get_or}
 use Rattle.plan.specs.Refusals.{verdict}
 use Rattle.plan.specs.Reading.{plan_of, Held, reads}
-use Rattle.plan.specs.declared.Read.{Read}
+use Rattle.plan.specs.Reading.{Read}
 use Rattle.plan.proofs.BothWays.{read_held}
 
 module _ (file : List ℕ) {read : Read} (e : read ≡ reads file) where

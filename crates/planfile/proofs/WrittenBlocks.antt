@@ -4,9 +4,10 @@ use mathlib.Core.List.{List, ◌++◌, append-nil, append_assoc}
 use Prim.Native.Nat.{ℕ, ◌+◌, ◌*◌, ◌≤◌, ◌<◌}
 use native.Mathlib.Numerals.{add-one}
 use native.Mathlib.Omega.{arith}
-use lib.ListN.{length, take, length-append}
+use lib.ListN.{length, take, replicate, length-append, length-replicate, get_or-replicate}
 use lib.Seq.{take_at, take_all, length-take-le}
 use Rattle.lists.specs.Table.{joined}
+use Rattle.lists.proofs.Tables.{is-table}
 use Rattle.plan.specs.Header.{header_of}
 use Rattle.plan.specs.Inner.File.{Holding, filled, cleared, sealed, block_of, common_holdings, pair_holdings, header_holdings, own_holdings, entry_holdings, bar_holdings, device_holdings, file_of}
 use Rattle.plan.specs.Inner.Memory.{at, peer_at}
@@ -19,6 +20,11 @@ header_block core = block_of (header_holdings (header_of core))
 
 abbrev device_block : Core → List (List ℕ) → List ℕ → ℕ → List ℕ
 device_block core peers barred d = block_of (device_holdings core peers barred d)
+
+-- a block of zeros
+pub clean : replicate 512 0 ≡ cleared
+unfolding cleared
+clean = let zero : ℕ = 0 in is-table 512 (λ i. 0) (replicate 512 zero) zero (length-replicate 512 zero) (λ i h. get_or-replicate 512 i zero zero h)
 
 -- a block that is cleared, given the numbers of block 0, those of the pairs behind the others, and sealed
 pub header_made : (h : Header) {clean first second after : List ℕ} → clean ≡ cleared → first ≡ filled clean (common_holdings h)

@@ -1,51 +1,51 @@
 // Any block of a plan file: its numbers, its check, its zeros, and how they are read and written.
-ghost use Rattle.std.specs.Prelude.{◌≡◌, ◌+◌, ◌*◌, ◌<◌, ◌≤◌, length};
-ghost use Rattle.plan.specs.Block.{number_at, check as block_check, checked as block_checked};
-ghost use Rattle.plan.specs.Inner.File.{put_number, cleared, sealed};
+ghost use Rattle.std.specs.Prelude.{◌≡◌, ◌+◌, ◌/◌, ◌<◌, ◌≤◌, length};
+ghost use Rattle.plan.specs.Block.{block, number_at, check as block_check, checked as block_checked};
+ghost use Rattle.plan.specs.Inner.File.{put_number, sealed};
 ghost use Rattle.planfile.specs.Inner.Zeros.{zeros_in};
 
 // How long a block is, and where two of its fields stand: its kind, and its check, which is the last.
 pub const BLOCK: usize = 512;
 
+pub type Block = [u8; BLOCK];
+
 pub(crate) const KIND: usize = 0;
 
 pub(crate) const CHECK: usize = 510;
 
+// Block b of a file that has it in full.
+pub(crate) fn of(file: &[u8], b: usize) -> &Block
+    requires { b < length file.now / 512 }
+    ensures { result.now ≡ block file.now b }
+{
+    let (blocks, _) = file.as_chunks::<BLOCK>();
+    &blocks[b]
+}
+
 // ---- numbers: the low byte stands first
 
 // The number of two bytes from i on.
-pub(crate) fn two(block: &[u8], i: usize) -> usize
-    requires { i + 1 < length block.now }
-    ensures { (result ≡ number_at block.now i 2) × (result < 65536) }
+pub(crate) fn two(block: &Block, i: usize) -> u16
+    requires { i < 511 }
+    ensures { result ≡ number_at block.now i 2 }
 {
-    areas::wide(block[i]) + 256 * areas::wide(block[i + 1])
+    u16::from_le_bytes([block[i], block[i + 1]])
 }
 
 // The number of four bytes from i on.
-pub(crate) fn four(block: &[u8], i: usize) -> u32
-    requires { i + 3 < length block.now }
+pub(crate) fn four(block: &Block, i: usize) -> u32
+    requires { i < 509 }
     ensures { result ≡ number_at block.now i 4 }
 {
-    number_of(block[i], block[i + 1], block[i + 2], block[i + 3])
-}
-
-// The number of four bytes, for whoever has them, here or in a file of another kind.
-pub fn number_of(a: u8, b: u8, c: u8, d: u8) -> u32
-    ensures { result ≡ a + 256 * (b + 256 * (c + 256 * d)) }
-{
-    a as u32 + 256 * (b as u32 + 256 * (c as u32 + 256 * (d as u32)))
+    u32::from_le_bytes([block[i], block[i + 1], block[i + 2], block[i + 3]])
 }
 
 // Puts a number of so many bytes from i on; of a larger one the lowest bytes.
-pub(crate) fn put(block: &mut [u8], i: usize, width: usize, number: u32)
-    requires { i + width ≤ length block.old }
+pub(crate) fn put(block: &mut Block, i: usize, width: usize, number: u32)
+    requires { (width ≤ 4) × (i + width ≤ 512) }
     ensures { block.new ≡ put_number block.old i width number }
 {
-    let mut left = number;
-    for j in 0..width {
-        block[i + j] = (left % 256) as u8;
-        left = left / 256;
-    }
+    block[i..i + width].copy_from_slice(&number.to_le_bytes()[..width]);
 }
 
 // ---- the check
@@ -55,10 +55,10 @@ pub(crate) fn put(block: &mut [u8], i: usize, width: usize, number: u32)
 // so that in all of them together it counts i + 1 times, as its weight says. They come to 33,227,775
 // at most, which fits 32 bits.
 // Bytes are taken by two, which is quicker; 510 is even. The running sums of a pair are sum + high and
-// sum + both: sum goes to sums, which counts twice in the end, and the pair's own part to own.
-pub(crate) fn check(block: &[u8]) -> usize
-    requires { 510 ≤ length block.now }
-    ensures { (result ≡ block_check block.now) × (result < 65521) }
+// sum + both: sum goes to sums, which counts twice in the end, and the pair's own part to own. The index
+// goes down by two: an iterator over pairs, turned around, would be no plainer.
+pub(crate) fn check(block: &Block) -> u16
+    ensures { result ≡ block_check block.now }
 {
     let mut sum: u32 = 0;
     let mut sums: u32 = 0;
@@ -66,28 +66,28 @@ pub(crate) fn check(block: &[u8]) -> usize
     let mut i = CHECK;
     while i > 1 {
         i -= 2;
-        let high = areas::word(block[i + 1]);
-        let both = high + areas::word(block[i]);
+        let high = u32::from(block[i + 1]);
+        let both = high + u32::from(block[i]);
         sums += sum;
         own += high + both;
         sum += both;
     }
-    ((sums + sums + own) % 65521) as usize
+    ((sums + sums + own) % 65521) as u16
 }
 
-pub(crate) fn checked(block: &[u8]) -> bool
-    requires { length block.now ≡ 512 }
+#[tactic(auto, unfolding(plan::specs::Block::checked))]
+pub(crate) fn checked(block: &Block) -> bool
     ensures { result ≡ block_checked block.now }
 {
     two(block, CHECK) == check(block)
 }
 
 // Puts the check behind all other bytes.
-pub(crate) fn seal(block: &mut [u8])
-    requires { length block.old ≡ 512 }
+#[tactic(auto, unfolding(plan::specs::Inner::File::sealed))]
+pub(crate) fn seal(block: &mut Block)
     ensures { block.new ≡ sealed block.old }
 {
-    let sum = check(block) as u32;
+    let sum = u32::from(check(block));
     put(block, CHECK, 2, sum);
 }
 
@@ -95,25 +95,9 @@ pub(crate) fn seal(block: &mut [u8])
 
 // Are the bytes from one on up to another, which is not looked at, zero? All are merged into one, several
 // at a time, where a search for one that is not would look at each.
-pub(crate) fn zeros(from: usize, to: usize, block: &[u8]) -> bool
-    requires from_le_to { (from ≤ to) × (to ≤ 510) }
-    requires block_len { length block.now ≡ 512 }
+pub(crate) fn zeros(from: usize, to: usize, block: &Block) -> bool
+    requires { (from ≤ to) × (to ≤ 510) }
     ensures { result ≡ zeros_in from to block.now }
 {
-    let mut all: u8 = 0;
-    for i in from..to {
-        all = all | block[i];
-    }
-    all == 0
-}
-
-pub(crate) fn clear(block: &mut [u8])
-    requires { length block.old ≡ 512 }
-    ensures { block.new ≡ cleared }
-{
-    let mut i = 0;
-    while i < block.len() {
-        block[i] = 0;
-        i += 1;
-    }
+    block[from..to].iter().fold(0, |all, byte| all | *byte) == 0
 }

@@ -8,8 +8,8 @@ mod header;
 mod reader;
 mod writer;
 
-pub use block::{BLOCK, number_of};
+pub use block::BLOCK;
 pub use build::peer_at;
 pub use device::put_device;
-pub use reader::{front, read, refusal_at};
+pub use reader::{front, load, read, refusal_at};
 pub use writer::write;

@@ -1,36 +1,39 @@
 // A plan written as the bytes of its file.
 ghost use Rattle.std.specs.Prelude.{◌≡◌, ◌+◌, ◌*◌, ◌≤◌, length};
+ghost use Rattle.answers.specs.Refusals.{number_in};
 ghost use Rattle.plan.specs.Inner.File.{file_of};
 ghost use Rattle.plan.specs.Writing.{Writes};
 
 use crate::{block, device, header};
-use plan::{Core, Plan};
+use answers::Refusal;
+use plan::{DeviceNo, Plan};
 
-// Writes the plan's file over the whole area, and answers 0. A plan that no accepted file holds is
-// refused by 1, an area that is not of the file's length by 3, and the area is then as it was.
-pub fn write(plan: Plan, area: &mut [u8]) -> u32
-    ensures { Writes plan area.old result area.new }
+// Writes the plan's file over the whole area. A plan that no accepted file holds is refused as not held,
+// an area that is not of the file's length as a wrong one, and the area is then as it was. The plan comes
+// by value at the door.
+pub fn write(plan: Plan, area: &mut [u8]) -> Result<(), Refusal>
+    ensures { Writes plan area.old (number_in result) area.new }
 {
-    if !plan::is_held(plan) {
-        return 1;
+    if !plan.is_held() {
+        return Err(Refusal::NotHeld);
     }
-    let core = plan.core;
-    if area.len() != block::BLOCK * (1 + core.devices) {
-        return 3;
+    if area.len() != block::BLOCK * (1 + plan.core.devices) {
+        return Err(Refusal::WrongArea);
     }
-    put_file(core, plan::peers_of(plan), &plan.barred, area);
-    0
+    put_file(&plan, area);
+    Ok(())
 }
 
-// Writes the whole area.
-fn put_file(core: Core, peers: [[u16; 8]; 32], barred: &[u32; 512], area: &mut [u8])
-    requires { (core.devices ≤ 32) × (length area.old ≡ 512 * (1 + core.devices)) }
-    ensures { area.new ≡ file_of (record { core = core; peers = peers; barred = barred.now }) }
+// Writes the whole area, which is as long as the plan's file: a length that is reckoned, and no type has.
+fn put_file(plan: &Plan, area: &mut [u8])
+    requires { (plan.now.core.devices ≤ 32) × (length area.old ≡ 512 * (1 + plan.now.core.devices)) }
+    ensures { area.new ≡ file_of plan.now }
 {
-    header::put(plan::header_of(core), &mut area[0..block::BLOCK]);
-    for d in 0..core.devices {
+    area[..block::BLOCK].copy_from_slice(&header::made(&plan::header_of(plan.core)));
+    for d in 0..plan.core.devices {
         let start = block::BLOCK * (1 + d);
-        let end = start + block::BLOCK;
-        device::put(core, &peers, barred, d, &mut area[start..end]);
+        let device = DeviceNo::new(d).unwrap();
+        let made = device::made(&plan.core, &plan.peers, &plan.barred, device);
+        area[start..start + block::BLOCK].copy_from_slice(&made);
     }
 }

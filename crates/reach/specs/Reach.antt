@@ -1,13 +1,15 @@
 -- RULES, "Reach": what the call answers.
-use Rattle.std.specs.Prelude.{◌≡◌, cond, ◌&&◌, ◌||◌, List, [], ◌∷◌, ◌++◌, ℕ, ◌^◌, ◌<◌, eqb, get_or}
+use Rattle.std.specs.Prelude.{◌≡◌, cond, ◌&&◌, ◌||◌, List, [], ◌∷◌, ◌++◌, ℕ, ◌^◌, ◌<◌, eqb, get_or, Result, Ok, Err}
 use Rattle.lists.specs.Table.{sum}
 use Rattle.answers.specs.Ordered.{Condition, ask, Ordered}
+use Rattle.answers.specs.declared.Refusal.{Refusal}
 use Rattle.bits.specs.Set.{bit, size}
 use Rattle.plan.specs.declared.Plan.{Plan}
 use Rattle.state.specs.State.{State}
 use Rattle.state.specs.Network.{devices, router, ports_of}
 use Rattle.state.specs.Sound.{state_asks}
 use Rattle.reach.specs.Walk.{Walk}
+use Rattle.reach.specs.declared.answer.Reach.{Reach}
 
 -- the devices that interrupts of identifier k reach from device d, as a set
 pub record Reached (plan : Plan) (s : State) (d k set : ℕ) : Type 0 where
@@ -36,3 +38,16 @@ pub record Reaches (plan : Plan) (s : State) (d k number value set examined : �
   pub answers : Ordered (reach_asks plan s d k) number
   pub made : number ≡ 0 → Reached plan s d k set × (value ≡ size set) × (examined ≡ ports_examined plan d set)
   pub kept : (number ≡ 0 → ⊥) → (set ≡ 0) × (value ≡ 0) × (examined ≡ 0)
+
+-- what an answer has of each: 0 where it is refused
+abbrev pub devices_in : Result Reach Refusal → ℕ
+devices_in (Ok r) = r.value
+devices_in (Err r) = 0
+
+abbrev pub set_in : Result Reach Refusal → ℕ
+set_in (Ok r) = r.set
+set_in (Err r) = 0
+
+abbrev pub examined_in : Result Reach Refusal → ℕ
+examined_in (Ok r) = r.examined
+examined_in (Err r) = 0

@@ -2,65 +2,58 @@
 #![tactic(auto)]
 
 ghost use Rattle.answers.specs.Ordered.{Ordered};
-ghost use Rattle.reach.specs.Reach.{source_asks, Reaches};
+ghost use Rattle.answers.specs.Refusals.{number_in};
+ghost use Rattle.reach.specs.Reach.{source_asks, devices_in, set_in, examined_in, Reaches};
 
 pub mod answer;
 mod visits;
 
 use answer::Reach;
-use plan::Plan;
+use answers::Refusal;
+use plan::{DeviceNo, Plan};
+use visits::Net;
 pub use visits::ahead_all;
 
 // The devices that interrupts of identifier k reach from a device, by running and permitted links,
-// through routers, and how many ports were examined. Refused by 1, 2, 4, 5 and 6.
-pub fn reach(plan: Plan, state: &[u32], device: usize, k: u32) -> Reach
-    ensures { Reaches plan state.now device k result.number result.value result.set result.examined }
+// through routers, and how many ports were examined. Refused by 1, 2, 4, 5 and 6. The plan comes by value, as
+// at every public door of the project.
+pub fn reach(plan: Plan, state: &[u32], device: usize, k: u32) -> Result<Reach, Refusal>
+    ensures { Reaches plan state.now device k (number_in result) (devices_in result) (set_in result) (examined_in result) }
 {
-    let number = state::refusal(plan, state);
-    if number != 0 {
-        return answer::refused(number);
-    }
-    let asked = source_refusal(plan.core.devices, &plan.core.source, device, k);
-    if asked != 0 {
-        return answer::refused(asked);
-    }
+    state::refusal(&plan, state)?;
+    source_refusal(plan.core.devices, &plan.core.source, device, k)?;
     let alone = bits::join(0, device as u32);
-    let seen = visits::each_port(
-        &plan.core.role,
-        &plan.core.ports,
-        &plan.core.permissions,
-        &plan.peers,
-        &plan.barred,
-        state,
+    // A sound state has all its words, and a plan has room for 32 devices.
+    let net = Net {
+        plan: &plan,
+        state: state.as_array().unwrap(),
         k,
-        device,
-        alone,
-    );
-    Reach {
-        number: 0,
+    };
+    let seen = net.each_port(DeviceNo::new(device).unwrap(), alone);
+    Ok(Reach {
         value: bits::count(seen.set),
         set: seen.set,
         examined: seen.examined,
-    }
+    })
 }
 
 // The first of 4, 5 and 6 that a source and an identifier are refused by, where there are n devices and
-// these are the identifiers that each is a source of; 0 for none.
-pub fn source_refusal(n: usize, sources: &[u32], device: usize, k: u32) -> u32
-    ensures { Ordered (source_asks n sources.now device k) result }
+// these are the identifiers that each is a source of.
+pub fn source_refusal(n: usize, sources: &[u32], device: usize, k: u32) -> Result<(), Refusal>
+    ensures { Ordered (source_asks n sources.now device k) (number_in result) }
 {
     if n <= device {
-        return 4;
+        return Err(Refusal::NoSuchDevice);
     }
     if 31 < k {
-        return 5;
+        return Err(Refusal::NoSuchIdentifier);
     }
     // A device behind the list is a source of nothing.
     if sources.len() <= device {
-        return 6;
+        return Err(Refusal::NotItsOwn);
     }
     if bits::get(sources[device], k) != 1 {
-        return 6;
+        return Err(Refusal::NotItsOwn);
     }
-    0
+    Ok(())
 }

@@ -1,4 +1,3 @@
-pub mod Within
 pub mod Parts
 pub mod Words
 pub mod Told

@@ -2,12 +2,14 @@
 use mathlib.Core.Path.{◌≡◌, refl, sym, subst}
 use mathlib.Core.Bool.{cond, Bool, true, false}
 use mathlib.Core.List.{List, [], ◌∷◌}
-use mathlib.Core.Logic.{inl, inr}
+use mathlib.Core.Logic.{inl, inr, dite}
 use Prim.Native.Nat.{ℕ, zero, suc, ◌-◌, ◌≤◌, ◌<◌}
+use native.Mathlib.Decide.{dec_lt}
 use native.Mathlib.Omega.{arith}
 use lib.Dec.{eqb}
 use lib.ListN.{length, get_or, take, length-append}
-use lib.Seq.{take-append_seam, length-take-le, get_or-take}
+use lib.Seq.{take-append_seam}
+use Rattle.std.proofs.lemmas.List.{get_or_past}
 use Rattle.answers.specs.Ordered.{Ordered}
 use Rattle.answers.proofs.Outcomes.{Holds, holds, passed}
 use Rattle.answers.proofs.Unique.{ordered-once}
@@ -19,7 +21,7 @@ use Rattle.state.specs.State.{State}
 use Rattle.state.specs.Network.{devices}
 use Rattle.ways.specs.Calls.{way_asks}
 use Rattle.ways.specs.Chain.{Chain, Shown, ChainTo, reached, not-reached, TellsChain}
-use Rattle.ways.specs.Cut.{marks, AllCauses, TellsCut}
+use Rattle.ways.specs.Cut.{marks, go_asks, Cause, inside, out, AllCauses, TellsCut}
 use Rattle.ways.proofs.Counted.{away-small}
 use Rattle.ways.proofs.Agree.{shown-away}
 use Rattle.reasons.specs.Why.{why_asks}
@@ -60,7 +62,7 @@ told {plan} {s} {k} {d} {e} fits z t = (subst (Ordered (why_asks plan s d k e)) 
 
 module _ (plan : Plan) (s : State) (k : ℕ) where
   -- its ports, and those at their other ends, are ports of 32 devices
-  chain-joined : (ports : List ℕ) (d e : ℕ) → d < 32 → Chain plan s k d ports e → (i : ℕ) → i < length ports → Joined plan.peers (get_or ports i 0)
+  pub chain-joined : (ports : List ℕ) (d e : ℕ) → d < 32 → Chain plan s k d ports e → (i : ℕ) → i < length ports → Joined plan.peers (get_or ports i 0)
   chain-joined [] d e h c i l = absurd (omega (arith, l))
   chain-joined (q ∷ rest) d e h (m, go, c) zero l = (omega (arith, go.own), go.leads.joined)
   chain-joined (q ∷ rest) d e h (m, go, c) (suc i) l = chain-joined rest m e (omega (arith, go.leads.there, go.leads.joined)) c i (omega (arith, l))
@@ -69,11 +71,6 @@ module _ (plan : Plan) (s : State) (k : ℕ) where
   pub in-front : {d e n : ℕ} {area : List ℕ} → ChainTo plan s k d e n area → n < 32 → Shown plan s k d e (take n area) × (n ≤ length area)
   in-front {d} {e} (reached {ports} x) h = (subst (Shown plan s k d e) (sym (take-append_seam ports _)) x, omega (arith, length-append ports (table (32 - length ports) (λ _. nobody))))
   in-front (not-reached x) h = absurd (omega (arith, h))
-
-  pub all-joined : {d e n : ℕ} {area : List ℕ} → d < 32 → ChainTo plan s k d e n area → n < 32 → (i : ℕ) → i < n → Joined plan.peers (get_or area i 0)
-  all-joined {d} {e} {n} {area} small c h i l =
-      let f = in-front c h in
-      rw get_or-take at (chain-joined (take n area) d e small f.0.real i (omega (arith, l, length-take-le n area f.1)))
 
   -- and where the number says that there is none, there is none
   pub nowhere : {d e n : ℕ} {area : List ℕ} → Held plan → d < devices plan → ChainTo plan s k d e n area → 32 ≤ n → (ports : List ℕ) → Chain plan s k d ports e → ⊥
@@ -97,3 +94,20 @@ module _ {plan : Plan} {s : State} {d k number value : ℕ} {before after : List
 
 pub few-lead-out : {plan : Plan} {s : State} {d k value : ℕ} {causes : List ℕ} → AllCauses plan s d k value causes → value ≤ 256
 few-lead-out {causes = causes} a = omega (arith, a.many, marks-few 256 (λ q. get_or causes q 0))
+
+-- each cause has a number up to 5
+few-asked : (plan : Plan) (s : State) (d k q n : ℕ) → Ordered (go_asks plan s d k q) n → n ≤ 5
+few-asked plan s d k q n (inl p) = omega (arith, p.1)
+few-asked plan s d k q n (inr (_, inl p)) = omega (arith, p.1)
+few-asked plan s d k q n (inr (_, inr (_, inl p))) = omega (arith, p.1)
+few-asked plan s d k q n (inr (_, inr (_, inr (_, inl p)))) = omega (arith, p.1)
+few-asked plan s d k q n (inr (_, inr (_, inr (_, inr (_, inl p))))) = omega (arith, p.1)
+few-asked plan s d k q n (inr (_, inr (_, inr (_, inr (_, inr z))))) = omega (arith, z)
+
+cause-few : {plan : Plan} {s : State} {d k q n : ℕ} → Cause plan s d k q n → n ≤ 5
+cause-few (inside x) = omega arith
+cause-few {plan} {s} {d} {k} {q} {n} (out x o) = few-asked plan s d k q n o
+
+pub named-causes : {plan : Plan} {s : State} {d k value : ℕ} {causes : List ℕ} → AllCauses plan s d k value causes → (q : ℕ) → get_or causes q 0 ≤ 5
+named-causes {causes = causes} a q =
+    dite (dec_lt q 256) (λ l. cause-few (a.each q l)) (λ l. let e : get_or causes q 0 ≡ 0 = get_or_past causes q 0 (omega (arith, a.size)) in omega (arith, e))

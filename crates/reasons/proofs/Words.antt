@@ -1,6 +1,5 @@
 -- The state that is taken: the words that a file holds, that a file of another length holds none, and the start state.
-use mathlib.Core.Path.{◌≡◌, sym, subst}
-use mathlib.Core.Bool.{Bool}
+use mathlib.Core.Path.{◌≡◌}
 use mathlib.Core.List.{List}
 use Prim.Native.Nat.{ℕ, ◌*◌, ◌/◌, ◌%◌}
 use native.Mathlib.Decide.{ℕ_discrete}
@@ -10,11 +9,9 @@ use borrow.Author.Tests.{eq-eqb, ne_eqb}
 use Rattle.lists.specs.Table.{table}
 use Rattle.lists.proofs.Tables.{length-table}
 use Rattle.plan.specs.Block.{number_at}
-use Rattle.plan.specs.declared.Plan.{Plan}
-use Rattle.state.specs.State.{State, words}
+use Rattle.state.specs.State.{words}
 use Rattle.state.specs.Start.{start_of, begun}
-use Rattle.reasons.specs.Why.{state_in, state_for}
-use Rattle.reasons.specs.Inner.Pieces.{Takes}
+use Rattle.reasons.specs.Why.{state_in}
 
 module _ (bytes : List ℕ) where
   -- whole words
@@ -34,11 +31,6 @@ module _ (bytes : List ℕ) where
         | yes z ↦ n (omega (arith, e, rw (eq-eqb (length bytes % 4) 0 z, length-table) at e))
         | no z ↦ omega (arith, rw (ne_eqb (length bytes % 4) 0 z) at e)
       ]
-
--- by whether a file is given
-pub by-test : (plan : Plan) (given test : Bool) (bytes : List ℕ) {after : State} {r : Bool} → given ≡ test → Takes (state_for plan test bytes) after r
-    → Takes (state_for plan given bytes) after r
-by-test plan given test bytes {after} {r} e t = subst (λ (b : Bool). Takes (state_for plan b bytes) after r) (sym e) t
 
 pub begun-whole : (peers : List (List ℕ)) (area : List ℕ) → length area ≡ words → begun peers area ≡ start_of peers
 unfolding begun

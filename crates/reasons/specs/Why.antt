@@ -1,5 +1,6 @@
 -- RULES, "What why prints": the whole text.
-use Rattle.std.specs.Prelude.{◌≡◌, Bool, cond, List, [], ◌∷◌, ◌++◌, ℕ, ◌*◌, ◌/◌, ◌%◌, ◌≤◌, eqb, length, get_or}
+use Rattle.std.specs.Prelude.{◌≡◌, Bool, true, false, cond, Option, Some, None, List, [], ◌∷◌, ◌++◌, ℕ, ◌*◌, ◌/◌, ◌%◌, ◌≤◌, eqb, length, get_or}
+use Rattle.std.specs.Borrow.{Bor}
 use Rattle.answers.specs.Ordered.{Condition, ask, Ordered, Tells}
 use Rattle.areas.specs.Put.{over}
 use Rattle.lists.specs.Table.{table, joined}
@@ -54,6 +55,15 @@ why_asks plan s d k e = state_asks plan s ++ question_asks plan d k e
 -- the state that a file's bytes hold, four for each word, the low one first; other bytes hold no word
 unfoldable pub state_in : List ℕ → State
 state_in bytes = cond (eqb (length bytes % 4) 0) (table (length bytes / 4) (λ i. number_at bytes (4 * i) 4)) []
+
+-- whether the bytes of a state file are given, and these; none where none are
+abbrev pub is_given : Option (Bor (List ℕ)) → Bool
+is_given (Some bytes) = true
+is_given None = false
+
+abbrev pub bytes_of : Option (Bor (List ℕ)) → List ℕ
+bytes_of (Some bytes) = bytes.now
+bytes_of None = []
 
 -- a state that is given, by its file's bytes, or the start state
 abbrev pub state_for : Plan → Bool → List ℕ → State

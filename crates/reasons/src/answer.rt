@@ -1,55 +1,60 @@
-// What is said of a plan and a state: a refusal, a chain, or the ports that lead out of what is reached.
-ghost use Rattle.std.specs.Prelude.{◌++◌, ℕ, ◌≤◌, ◌<◌, length, take, get_or};
+// What is said of a plan and a state: a chain, or the ports that lead out of what is reached.
+ghost use Rattle.std.specs.Prelude.{◌++◌, ℕ, ◌+◌, ◌≤◌, ◌<◌, length, get_or};
 ghost use Rattle.answers.specs.Ordered.{Ordered};
 ghost use Rattle.plan.specs.Reading.{Held};
+ghost use Rattle.text.specs.Inner.Within.{WritesWithin};
 ghost use Rattle.text.specs.Text.{ascii, headed};
-ghost use Rattle.reasons.specs.Why.{why_asks, crossings_of, longest};
-ghost use Rattle.reasons.specs.Inner.Pieces.{Within, Joined, Answers, CutText, Writes};
+ghost use Rattle.reasons.specs.Why.{is_given, bytes_of, state_for, why_asks, crossings_of, longest};
+ghost use Rattle.reasons.specs.Inner.Pieces.{Joined, Answers, CutText, WritesSome};
 
-use crate::lines;
+use crate::{given, lines};
+use answers::Refusal;
 use plan::Plan;
+use state::Words;
+use text::Page;
 
-// A chain to the device is looked for first: it finds what is to be refused, and whether there is one.
+// A chain to the device is looked for first: it finds what is to be refused, and whether there is one. A
+// refusal puts nothing.
 pub(crate) fn put_answer(
-    plan: Plan,
-    state: &[u32],
+    plan: &Plan,
+    given: Option<&[u8]>,
     source: usize,
     k: u32,
     device: usize,
-    text: &mut [u8],
-) -> usize
-    requires { Held plan × (longest ≤ length text.old) }
-    ensures { Writes (Answers plan state.now source k device) text.old text.new result }
+    page: &mut Page,
+) -> Result<(), Refusal>
+    requires { Held plan.now × (page.old.at + longest ≤ length page.old.area.now) }
+    ensures { Answers plan.now (state_for plan.now (is_given given.entry) (bytes_of given.entry)) source k device page.old result page.new }
 {
-    let mut ports = [0u32; ways::CHAIN];
-    let found = ways::chain(plan, state, source, k, device, &mut ports);
-    if found.number != 0 {
-        return text::put_headed(text, 0, b"r", found.number);
+    let mut state = [0; state::WORDS];
+    given::take(plan, given, &mut state)?;
+    let mut ports = [0; ways::CHAIN];
+    let n = ways::chain(*plan, &state, source, k, device, &mut ports)?;
+    if n < ways::UNREACHED {
+        put_reached(plan, &ports[..n as usize], page);
+        return Ok(());
     }
-    if found.value < ways::UNREACHED {
-        return put_reached(plan, &ports, found.value, text);
-    }
-    put_cut(plan, state, source, k, text)
+    put_cut(plan, &state, source, k, page);
+    Ok(())
 }
 
-// The ports of a chain, the first n words of their area.
-fn put_reached(plan: Plan, ports: &[u32], n: u32, text: &mut [u8]) -> usize
-    requires { (n < 32) × (n ≤ length ports.now) × ((i : ℕ) → i < n → Joined plan.peers (get_or ports.now i 0)) × (longest ≤ length text.old) }
-    ensures { Within longest text.old 0 (headed (ascii "reached ") n ++ crossings_of plan (take n ports.now)) text.new result }
+// The ports of a chain.
+fn put_reached(plan: &Plan, ports: &[u32], page: &mut Page)
+    requires { (length ports.now < 32) × ((i : ℕ) → i < length ports.now → Joined plan.now.peers (get_or ports.now i 0)) × (page.old.at + longest ≤ length page.old.area.now) }
+    ensures { WritesWithin longest (headed (ascii "reached ") (length ports.now) ++ crossings_of plan.now ports.now) page.old page.new }
 {
-    let at = text::put_headed(text, 0, b"reached ", n);
-    let peers = plan::peers_of(plan);
-    lines::put_crossings(&peers, ports, n as usize, text, at)
+    page.headed(b"reached ", ports.len() as u32);
+    lines::put_crossings(&plan.peers, ports, page);
 }
 
 // The ports that lead out of what the source reaches. Nothing is refused here any more; plan and state are
 // tested again all the same, as cut is a call like any other.
-fn put_cut(plan: Plan, state: &[u32], source: usize, k: u32, text: &mut [u8]) -> usize
-    requires { Ordered (why_asks plan state.now source k source) 0 × (longest ≤ length text.old) }
-    ensures { Writes (CutText plan state.now source k) text.old text.new result }
+fn put_cut(plan: &Plan, state: &Words, source: usize, k: u32, page: &mut Page)
+    requires { Ordered (why_asks plan.now state.now source k source) 0 × (page.old.at + longest ≤ length page.old.area.now) }
+    ensures { WritesSome (CutText plan.now state.now source k) page.old page.new }
 {
-    let mut causes = [0u32; ways::CUT];
-    let cut = ways::cut(plan, state, source, k, &mut causes);
-    let at = text::put_headed(text, 0, b"cut ", cut.value);
-    lines::put_outwards(&causes, text, at)
+    let mut causes = [0; ways::CUT];
+    let count = ways::cut(*plan, state, source, k, &mut causes).unwrap();
+    page.headed(b"cut ", count);
+    lines::put_outwards(&causes, page);
 }

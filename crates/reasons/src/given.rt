@@ -1,37 +1,36 @@
 // The state that is asked about: the one that a file holds, or the start state.
-ghost use Rattle.std.specs.Prelude.{◌≡◌, true, length};
-ghost use Rattle.state.specs.State.{words};
-ghost use Rattle.reasons.specs.Why.{state_in, state_for};
+ghost use Rattle.reasons.specs.Why.{is_given, bytes_of, state_in, state_for};
 ghost use Rattle.reasons.specs.Inner.Pieces.{Takes};
 
 use crate::STATE;
+use answers::Refusal;
 use plan::Plan;
+use state::Words;
 
-// Takes the state into an area that is as long as one. False is for a file that is not: no state can
-// stand in it.
-pub(crate) fn take(plan: Plan, given: bool, bytes: &[u8], state: &mut [u32]) -> bool
-    requires { length state.old ≡ words }
-    ensures { Takes (state_for plan given bytes.now) state.new result }
+// Takes the state into words. A file that is not as long as one is refused: no state can stand in it.
+pub(crate) fn take(plan: &Plan, given: Option<&[u8]>, state: &mut Words) -> Result<(), Refusal>
+    ensures { Takes (state_for plan.now (is_given given.entry) (bytes_of given.entry)) result state.new }
 {
-    if given {
-        return take_file(bytes, state);
+    match given {
+        Some(bytes) => take_file(bytes, state),
+        None => {
+            state::begin(&plan.peers, state);
+            Ok(())
+        }
     }
-    let peers = plan::peers_of(plan);
-    state::begin(&peers, state);
-    true
 }
 
-// Takes it from the bytes of its file.
-fn take_file(bytes: &[u8], state: &mut [u32]) -> bool
-    requires { length state.old ≡ words }
-    ensures { Takes (state_in bytes.now) state.new result }
+// Takes it from the bytes of its file. The loop goes over the words and the file's bytes at once, by place:
+// two iterators side by side would be no plainer.
+fn take_file(bytes: &[u8], state: &mut Words) -> Result<(), Refusal>
+    ensures { Takes (state_in bytes.now) result state.new }
 {
     if bytes.len() != STATE {
-        return false;
+        return Err(Refusal::Unsound);
     }
+    let (words, _) = bytes.as_chunks::<4>();
     for i in 0..state::WORDS {
-        let at = 4 * i;
-        state[i] = planfile::number_of(bytes[at], bytes[at + 1], bytes[at + 2], bytes[at + 3]);
+        state[i] = u32::from_le_bytes(words[i]);
     }
-    true
+    Ok(())
 }

@@ -2,15 +2,17 @@
 // numbers go in, the whole text comes out, in a lent area.
 #![tactic(auto)]
 
-ghost use Rattle.std.specs.Prelude.{◌≤◌, length};
-ghost use Rattle.reasons.specs.Why.{Prints, longest, TellsWhy};
-ghost use Rattle.reasons.specs.Inner.Pieces.{Writes};
+ghost use Rattle.std.specs.Prelude.{◌+◌, ◌≤◌, length};
+ghost use Rattle.answers.specs.Refusals.{number_in, value_in};
+ghost use Rattle.reasons.specs.Why.{is_given, bytes_of, Prints, longest, TellsWhy};
+ghost use Rattle.reasons.specs.Inner.Pieces.{WritesSome};
 
 mod answer;
 mod given;
 mod lines;
 
-use ways::Answer;
+use answers::Refusal;
+use text::Page;
 
 // No text is longer: `cut 256`, and 256 lines like `31 7 does-not-forward`.
 pub const LONGEST: usize = 5640;
@@ -18,53 +20,43 @@ pub const LONGEST: usize = 5640;
 // The bytes of a state file: four for each word.
 pub const STATE: usize = 4 * state::WORDS;
 
-// Makes the text in front of its area; the value is its length. `bytes` are those of a state file, where
-// one is given; where none is, they are not looked at, and the start state is taken. Refused by 3.
+// Makes the text in front of its area; the value is its length. The bytes of a state file are given, or
+// none, and then the start state is taken. Refused by 3.
 pub fn why(
     file: &[u8],
-    given: bool,
-    bytes: &[u8],
+    given: Option<&[u8]>,
     source: u32,
     k: u32,
     device: u32,
     text: &mut [u8],
-) -> Answer
-    ensures { TellsWhy file.now given bytes.now source k device text.old result.number result.value text.new }
+) -> Result<u32, Refusal>
+    ensures { TellsWhy file.now (is_given given.entry) (bytes_of given.entry) source k device text.old (number_in result) (value_in result) text.new }
 {
     if text.len() < LONGEST {
-        return Answer {
-            number: 3,
-            value: 0,
-        };
+        return Err(Refusal::WrongArea);
     }
-    let length = put_why(file, given, bytes, source, k, device, text);
-    Answer {
-        number: 0,
-        value: length as u32,
-    }
+    let mut page = Page { area: text, at: 0 };
+    put_why(file, given, source, k, device, &mut page);
+    Ok(page.at as u32)
 }
 
-// The text, put at the front of an area that has room for the longest.
-fn put_why(
-    file: &[u8],
-    given: bool,
-    bytes: &[u8],
-    source: u32,
-    k: u32,
-    device: u32,
-    text: &mut [u8],
-) -> usize
-    requires { longest ≤ length text.old }
-    ensures { Writes (Prints file.now given bytes.now source k device) text.old text.new result }
+// The text, put on a page that has room for the longest.
+fn put_why(file: &[u8], given: Option<&[u8]>, source: u32, k: u32, device: u32, page: &mut Page)
+    requires { page.old.at + longest ≤ length page.old.area.now }
+    ensures { WritesSome (Prints file.now (is_given given.entry) (bytes_of given.entry) source k device) page.old page.new }
 {
-    let read = planfile::read(file);
-    if read.number != 0 {
-        return text::put_bad(text, 0, read.number, read.block);
+    let plan = match planfile::read(file) {
+        Ok(plan) => plan,
+        Err(fault) => return page.bad(u32::from(fault.refusal), fault.block),
+    };
+    if let Err(refusal) = answer::put_answer(
+        &plan,
+        given,
+        source as usize,
+        k,
+        device as usize,
+        page,
+    ) {
+        page.headed(b"r", u32::from(refusal));
     }
-    let plan = read.plan;
-    let mut state = [0u32; state::WORDS];
-    if !given::take(plan, given, bytes, &mut state) {
-        return text::put_headed(text, 0, b"r", 2);
-    }
-    answer::put_answer(plan, &state, source as usize, k, device as usize, text)
 }

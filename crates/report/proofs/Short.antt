@@ -1,21 +1,21 @@
 -- How long lines are, and the lines of one place more.
 use mathlib.Core.Path.{◌≡◌, refl, subst}
 use mathlib.Core.Logic.{inl, inr}
-use mathlib.Core.List.{List, [], ◌++◌, append-nil}
+use mathlib.Core.List.{[], ◌++◌, append-nil}
 use Prim.Native.Nat.{ℕ, ◌+◌, ◌/◌, ◌%◌, ◌≤◌, ◌<◌}
 use native.Mathlib.Numerals.{add-one}
 use native.Mathlib.Omega.{arith}
 use lib.ListN.{length, length-append}
-use Rattle.areas.specs.Put.{Puts}
-use Rattle.areas.proofs.Puts.{joined, same_size, next_place}
 use Rattle.bits.specs.Set.{bit}
 use Rattle.device.specs.Reaction.{is_used}
 use Rattle.plan.specs.Reading.{Held}
 use Rattle.plan.specs.declared.Plan.{Plan}
 use Rattle.plan.proofs.BothWays.{held-devices}
+use Rattle.text.specs.Page.{Writes}
 use Rattle.text.specs.Text.{ascii}
+use Rattle.text.specs.declared.page.Page.{Page}
 use Rattle.text.proofs.Decimal.{decimal-short}
-use Rattle.text.proofs.Parts.{puts-nothing}
+use Rattle.text.proofs.Within.{nothing, looser, room-behind, both, within}
 use Rattle.state.specs.Network.{devices, source}
 use Rattle.bench.specs.Settling.{rounds, most_rounds}
 use Rattle.bench.specs.Trials.{requested, Answered, Tries, refused, settled, waiting}
@@ -58,47 +58,42 @@ module _ (plan : Plan) (held : Held plan) (d k : ℕ) where
 
 module _ (plan : Plan) (i : ℕ) where
   -- it has no line
-  pub place-passed : (before : List ℕ) (at : ℕ) → (bit (source plan (i / 32)) (i % 32) ≡ 1 → ⊥) → PutsPlace plan i before at before at
-  place-passed before at h =
+  pub place-passed : (p : Page) → (bit (source plan (i / 32)) (i % 32) ≡ 1 → ⊥) → PutsPlace plan i p p
+  place-passed p h =
       record {
         added = [];
         right = λ lines l. rw (append-nil lines, add-one i) (pass l h);
-        short = omega arith;
-        put = puts-nothing before at;
+        within = looser (nothing p) (omega arith);
       }
 
   -- it has one
-  pub place-put : Held plan → i < 1024 → {number n count : ℕ} {before : List ℕ} {at : ℕ} {after : List ℕ} {place : ℕ} → bit (source plan (i / 32)) (i % 32) ≡ 1
-      → Tries plan (i / 32) (i % 32) number n count → Puts before at (line (i / 32) (i % 32) number n count) after place → PutsPlace plan i before at after place
-  place-put held h {number} {n} {count} e t p =
+  pub place-put : Held plan → i < 1024 → {number n count : ℕ} {p q : Page} → bit (source plan (i / 32)) (i % 32) ≡ 1
+      → Tries plan (i / 32) (i % 32) number n count → Writes (line (i / 32) (i % 32) number n count) p q → PutsPlace plan i p q
+  place-put held h {number} {n} {count} e t w =
       record {
         added = line (i / 32) (i % 32) number n count;
         right = λ lines l. rw (add-one i) (more l e t);
-        short = line-short plan held (i / 32) (i % 32) (omega arith) (omega arith) t;
-        put = p;
+        within = within (line-short plan held (i / 32) (i % 32) (omega arith) (omega arith) t) w;
       }
 
-module _ {plan : Plan} {before : List ℕ} {at : ℕ} where
-  pub lines_none : PutsLines plan 0 before at before at
-  lines_none = record { lines = []; right = none; short = omega arith; put = puts-nothing before at }
+module _ {plan : Plan} {p : Page} where
+  pub lines_none : PutsLines plan 0 p p
+  lines_none = record { lines = []; right = none; within = looser (nothing p) (omega arith) }
 
-  -- the lines of one place more, where there is room for all
-  pub lines_more : {i : ℕ} {text last : List ℕ} {end place : ℕ} → at + longest_lines ≤ length before → i < 1024
-      → PutsLines plan i before at text end → PutsPlace plan i text end last place → PutsLines plan (i + 1) before at last place
-  lines_more {i} room h v p =
-      let e = length-append v.lines p.added in
-      record {
-        lines = v.lines ++ p.added;
-        right = p.right v.lines v.right;
-        short = omega (arith, e, v.short, p.short);
-        put = joined v.put (omega (arith, e, room, v.short, p.short)) p.put;
-      }
+  module _ {i : ℕ} {q : Page} (v : PutsLines plan i p q) where
+    module _ (room : p.at + longest_lines ≤ length p.area.now) (h : i < 1024) where
+      -- there is room for a line more
+      pub lines-room : q.at + longest_line ≤ length q.area.now
+      lines-room = room-behind v.within longest_line (omega (arith, room, h))
 
-  -- the place and the area, as the loop goes on
-  module _ {i : ℕ} {text : List ℕ} {end : ℕ} (v : PutsLines plan i before at text end) where
-    pub lines-room : at + longest_lines ≤ length before → i < 1024 → end + longest_line ≤ length text
-    lines-room room h =
-        omega (arith, v.short, same_size v.put, next_place v.put (omega (arith, v.short, room)), room)
+      -- the lines of one place more
+      pub lines_more : {r : Page} → PutsPlace plan i q r → PutsLines plan (i + 1) p r
+      lines_more a =
+          record {
+            lines = v.lines ++ a.added;
+            right = a.right v.lines v.right;
+            within = looser (both v.within longest_line (omega (arith, room, h)) a.within) (omega arith);
+          }
 
-    pub lines-done : {n : ℕ} → i ≡ n → PutsLines plan n before at text end
-    lines-done e = subst (λ n. PutsLines plan n before at text end) e v
+    pub lines-done : {n : ℕ} → i ≡ n → PutsLines plan n p q
+    lines-done e = subst (λ n. PutsLines plan n p q) e v

@@ -1,72 +1,86 @@
 // The lines of the text, each put behind the one before it.
 ghost use Rattle.std.specs.Prelude.{◌≡◌, ◌+◌, ◌*◌, ◌≤◌, ◌<◌, length};
-ghost use Rattle.areas.specs.Put.{Puts};
 ghost use Rattle.plan.specs.Reading.{Held};
 ghost use Rattle.state.specs.Network.{devices};
-ghost use Rattle.bench.specs.Trials.{found_words, Finds};
-ghost use Rattle.report.specs.Report.{field, line};
+ghost use Rattle.bench.specs.Trials.{Finds};
+ghost use Rattle.text.specs.Page.{Writes};
+ghost use Rattle.report.specs.Report.{field, line as text_of};
 ghost use Rattle.report.specs.Inner.Pieces.{front, line_at, longest_lines, PutsLines};
 
+use bench::FOUND;
 use plan::Plan;
+use text::Page;
+
+// What a line says of a device and an identifier: what the request was answered with, as a number of
+// the table, the rounds, and the devices that hold the identifier then.
+#[derive(Clone, Copy, Debug, PartialEq, Eq)]
+struct Line {
+    device: u32,
+    identifier: u32,
+    number: u32,
+    rounds: u32,
+    held: u32,
+}
 
 // What stands for the rounds, of which there are n, by what the request was answered with.
-fn put_field(text: &mut [u8], at: usize, number: u32, n: u32) -> usize
-    requires { at + length (field number n) ≤ length text.old }
-    ensures { Puts text.old at (field number n) text.new result }
+fn put_field(page: &mut Page, number: u32, n: u32)
+    requires { page.old.at + length (field number n) ≤ length page.old.area.now }
+    ensures { Writes (field number n) page.old page.new }
 {
     if number == 0 {
-        return text::put_number(text, at, n);
+        return page.number(n);
     }
     if number == 12 {
-        return areas::put(text, at, b"-");
+        return page.word(b"-");
     }
-    let after = areas::put(text, at, b"r");
-    text::put_number(text, after, number)
+    page.word(b"r");
+    page.number(number);
 }
 
 // The first three fields of a line.
-fn put_front(text: &mut [u8], at: usize, d: u32, k: u32, number: u32, n: u32) -> usize
-    requires { at + length (front d k number n) ≤ length text.old }
-    ensures { Puts text.old at (front d k number n) text.new result }
+fn put_front(page: &mut Page, line: Line)
+    requires { page.old.at + length (front line.device line.identifier line.number line.rounds) ≤ length page.old.area.now }
+    ensures { Writes (front line.device line.identifier line.number line.rounds) page.old page.new }
 {
-    let second = text::put_then(text, at, d, b" ");
-    let third = text::put_then(text, second, k, b" ");
-    put_field(text, third, number, n)
+    page.then(line.device, b" ");
+    page.then(line.identifier, b" ");
+    put_field(page, line.number, line.rounds);
 }
 
-// The line of a source and an identifier.
-fn put_line(text: &mut [u8], at: usize, d: u32, k: u32, number: u32, n: u32, held: u32) -> usize
-    requires { at + length (line d k number n held) ≤ length text.old }
-    ensures { Puts text.old at (line d k number n held) text.new result }
+// A line.
+fn put_line(page: &mut Page, line: Line)
+    requires { page.old.at + length (text_of line.device line.identifier line.number line.rounds line.held) ≤ length page.old.area.now }
+    ensures { Writes (text_of line.device line.identifier line.number line.rounds line.held) page.old page.new }
 {
-    let space = put_front(text, at, d, k, number, n);
-    let last = areas::put(text, space, b" ");
-    text::put_then(text, last, held, b"\n")
+    put_front(page, line);
+    page.word(b" ");
+    page.then(line.held, b"\n");
 }
 
 // The line of place i, which is device i / 32 and identifier i % 32, by what is found of it.
-fn put_place(found: &[u32], i: usize, text: &mut [u8], at: usize) -> usize
-    requires { (i < 1024) × (length found.now ≡ found_words) × (at + length (line_at found.now i) ≤ length text.old) }
-    ensures { Puts text.old at (line_at found.now i) text.new result }
+fn put_place(found: &[u32; FOUND], i: usize, page: &mut Page)
+    requires { (i < 1024) × (page.old.at + length (line_at found.now i) ≤ length page.old.area.now) }
+    ensures { Writes (line_at found.now i) page.old page.new }
 {
-    let number = found[3 * i];
-    let n = found[3 * i + 1];
-    let held = found[3 * i + 2];
-    put_line(text, at, (i / 32) as u32, (i % 32) as u32, number, n, held)
+    let line = Line {
+        device: (i / 32) as u32,
+        identifier: (i % 32) as u32,
+        number: found[3 * i],
+        rounds: found[3 * i + 1],
+        held: found[3 * i + 2],
+    };
+    put_line(page, line);
 }
 
 // All lines, by device then identifier; a place has one where its device is a source of its
-// identifier.
-pub(crate) fn put_lines(plan: Plan, found: &[u32], text: &mut [u8], at: usize) -> usize
-    requires { Held plan × Finds plan found.now × (at + longest_lines ≤ length text.old) }
-    ensures { PutsLines plan (32 * devices plan) text.old at text.new result }
+// identifier. The place is the device and the identifier as well, so it is counted.
+pub(crate) fn put_lines(plan: &Plan, found: &[u32; FOUND], page: &mut Page)
+    requires { Held plan.now × Finds plan.now found.now × (page.old.at + longest_lines ≤ length page.old.area.now) }
+    ensures { PutsLines plan.now (32 * devices plan.now) page.old page.new }
 {
-    let core = plan.core;
-    let mut end = at;
-    for i in 0..32 * core.devices {
-        if bits::get(core.source[i / 32], (i % 32) as u32) == 1 {
-            end = put_place(found, i, text, end);
+    for i in 0..32 * plan.core.devices {
+        if bits::get(plan.core.source[i / 32], (i % 32) as u32) == 1 {
+            put_place(found, i, page);
         }
     }
-    end
 }

@@ -8,6 +8,5 @@ pub mod Tested
 pub mod Times
 pub mod Unique
 pub mod Waits
-pub mod Walks
 pub mod Words
 pub mod Written

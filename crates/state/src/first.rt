@@ -1,42 +1,43 @@
 // The state that every run starts from.
-ghost use Rattle.std.specs.Prelude.{◌≡◌, length};
+ghost use Rattle.std.specs.Prelude.{◌≡◌};
+ghost use Rattle.answers.specs.Refusals.{number_in};
 ghost use Rattle.state.specs.Start.{start_of, begun, Starts};
-ghost use Rattle.state.specs.State.{words};
 
-use crate::{PORT, PORTS, RUNNING, WORDS};
+use crate::{PORT, PORTS, RUNNING, WORDS, Words};
+use answers::Refusal;
 use plan::Plan;
 
-// The start state: every connected port runs, and all else is 0. Refused by 1, then by 3.
-pub fn start(plan: Plan, state: &mut [u32]) -> u32
-    ensures { Starts plan state.old result state.new }
+// The start state: every connected port runs, and all else is 0. The plan comes by value at the door.
+pub fn start(plan: Plan, state: &mut [u32]) -> Result<(), Refusal>
+    ensures { Starts plan state.old (number_in result) state.new }
 {
-    if !plan::is_held(plan) {
-        return 1;
+    if !plan.is_held() {
+        return Err(Refusal::NotHeld);
     }
-    if state.len() != WORDS {
-        return 3;
-    }
-    let peers = plan::peers_of(plan);
-    write_first(&peers, state);
-    0
+    let Some(words) = state.as_mut_array::<WORDS>() else {
+        return Err(Refusal::WrongArea);
+    };
+    write_first(&plan.peers, words);
+    Ok(())
 }
 
 // The start state of ports with these peers, for whoever has checked the plan. An area of another
 // length stays as it was.
+#[tactic(auto, unfolding(crate::specs::Start::begun))]
 pub fn begin(peers: &[[u16; 8]; 32], state: &mut [u32])
     ensures { state.new ≡ begun peers.now state.old }
 {
-    if state.len() != WORDS {
+    let Some(words) = state.as_mut_array::<WORDS>() else {
         return;
-    }
-    write_first(peers, state);
+    };
+    write_first(peers, words);
 }
 
-fn write_first(peers: &[[u16; 8]; 32], state: &mut [u32])
-    requires { length state.old ≡ words }
+// A port's flag is one word of its four, so the state is walked by ports.
+fn write_first(peers: &[[u16; 8]; 32], state: &mut Words)
     ensures { state.new ≡ start_of peers.now }
 {
-    areas::fill(state, 0);
+    state.fill(0);
     for q in 0..256 {
         if peers[q / 8][q % 8] != plan::NOBODY {
             state[PORTS + PORT * q + RUNNING] = 1;

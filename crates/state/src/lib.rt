@@ -14,10 +14,13 @@ mod port;
 mod sound;
 
 pub use first::{begin, start};
-pub use port::{queue_all, queue_time};
+pub use port::{queue, queue_all, queue_time};
 pub use sound::{is_sound, refusal, word};
 
 pub const WORDS: usize = 2880;
+
+// A state. The public functions that take an area of any length look once whether it is one.
+pub type Words = [u32; WORDS];
 
 // A device has its register and its 32 timers, from 33 x d on.
 pub const DEVICE: usize = 33;
@@ -62,11 +65,13 @@ pub fn both_fit(state: usize, second: usize) -> bool
 
 // What the timer of identifier k is loaded with at a device of the role, 0 or 1: the load of its own
 // pair, or the common one where that is 0.
+#[tactic(auto, unfolding(crate::specs::Network::load_for))]
 pub fn load_for(loads: &Loads, role: u8, k: u32) -> u32
     ensures { result ≡ load_for loads.now role k }
 {
-    let own = load_at(loads, 2 + (2 * k as usize + role as usize));
-    let common = load_at(loads, role as usize);
+    let role = usize::from(role);
+    let own = load_at(loads, 2 + (2 * k as usize + role));
+    let common = load_at(loads, role);
     if own != 0 {
         return own;
     }
@@ -74,11 +79,8 @@ pub fn load_for(loads: &Loads, role: u8, k: u32) -> u32
 }
 
 // Load i of a plan; past the end it is 0.
-fn load_at(loads: &[u16], i: usize) -> u32
+fn load_at(loads: &Loads, i: usize) -> u32
     ensures { result ≡ get_or loads.now i 0 }
 {
-    if i < loads.len() {
-        return areas::wide16(loads[i]) as u32;
-    }
-    0
+    loads.get(i).map_or(0, |load| u32::from(*load))
 }

@@ -1,4 +1,5 @@
 pub mod Decimal
+pub mod Pages
 pub mod Parts
 pub mod Reading
 pub mod Unique

@@ -7,8 +7,8 @@ use native.Mathlib.Omega.{arith}
 use lib.ListN.{length, get_or, take}
 use lib.Seq.{take-suc, take_all}
 use borrow.Author.Count.{below_more}
+use Rattle.std.specs.Prelude.{Some}
 use Rattle.text.specs.Text.{value, value_from, IsDigit, greatest, Says, number}
-use Rattle.text.specs.declared.reads.Number.TheVariants.{Is}
 use Rattle.text.proofs.Decimal.{value-last}
 
 pub record ReadTo (w : List ℕ) (v i : ℕ) : Type 0 where
@@ -33,7 +33,7 @@ module _ {w : List ℕ} {v i : ℕ} (so : ReadTo w v i) where
         so_far = omega (arith, so.so_far, e, l);
       }
 
-  pub read_all : length w ≤ i → Says w (Is v)
+  pub read_all : length w ≤ i → Says w (Some v)
   read_all h =
-      subst (λ (n : ℕ). Says w (Is n)) (sym (so.so_far ∙ ap (λ (l : List ℕ). min (value l) greatest) (take_all i w h)))
+      subst (λ (n : ℕ). Says w (Some n)) (sym (so.so_far ∙ ap (λ (l : List ℕ). min (value l) greatest) (take_all i w h)))
       (number (record { some = so.some; each = λ k l. so.each k (omega arith) }))

@@ -1,9 +1,7 @@
 -- RULES, "Text": words in ASCII and numbers in decimal, written and read.
-use Rattle.std.specs.Prelude.{cond, List, [], ◌∷◌, ◌++◌, ℕ, zero, suc, ◌+◌, ◌-◌, ◌*◌, ◌/◌, ◌%◌, ◌≤◌, ◌<◌, min, ltb, length, get_or}
+use Rattle.std.specs.Prelude.{cond, Option, Some, None, List, [], ◌∷◌, ◌++◌, ℕ, zero, suc, ◌+◌, ◌-◌, ◌*◌, ◌/◌, ◌%◌, ◌≤◌, ◌<◌, min, ltb, length, get_or}
 use Prim.Native.Char.{code}
 use Prim.Native.String.{String, [] as []ˢ, ◌∷◌ as ◌∷ˢ◌}
-use Rattle.text.specs.declared.reads.Number.{Number}
-use Rattle.text.specs.declared.reads.Number.TheVariants.{Is, Not}
 
 -- the bytes of a word in ASCII
 unfoldable pub ascii : String → List ℕ
@@ -64,6 +62,6 @@ abbrev pub greatest : ℕ
 greatest = 4294967295
 
 -- what bytes are read as
-pub data Says (w : List ℕ) : Number → Type 0 where
-  number : Digits w → Says w (Is (min (value w) greatest))
-  no_number : (Digits w → ⊥) → Says w Not
+pub data Says (w : List ℕ) : Option ℕ → Type 0 where
+  number : Digits w → Says w (Some (min (value w) greatest))
+  no_number : (Digits w → ⊥) → Says w None

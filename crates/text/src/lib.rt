@@ -8,9 +8,14 @@ ghost use Rattle.text.specs.Text.{decimal};
 ghost use Rattle.text.specs.Text.{headed, bad, joint};
 ghost use Rattle.text.specs.Text.{digit as text_digit};
 
+mod page;
 mod reads;
 
-pub use reads::{Number, read_number};
+pub use page::Page;
+pub use reads::read_number;
+
+// The functions over an area and a place are public, and a page is made of them. They put digits by
+// themselves, since a word is put whole or not at all (RULES, "Areas"), which `write!` does not do.
 
 // Puts the number's decimal digits at a place of the area, as `areas::put` does a word.
 pub fn put_number(area: &mut [u8], at: usize, n: u32) -> usize
@@ -81,9 +86,10 @@ pub fn put_joint(area: &mut [u8], at: usize, q: u32, p: u32) -> usize
     put_then(area, fourth, p % 8, b"\n")
 }
 
-// How many decimal digits the number has.
+// How many decimal digits the number has. There is no list to walk: it is divided until it is used up. A few such sizes have their sum in a word.
 fn places(n: u32) -> usize
-    ensures { result ≡ length (decimal n) }
+    ensures exact { result ≡ length (decimal n) }
+    ensures few { result ≤ 10 }
 {
     let mut k = 1;
     let mut rest = n;
@@ -116,5 +122,5 @@ fn digit(d: u32) -> u8
     requires { d < 10 }
     ensures { result ≡ text_digit d }
 {
-    48 + d as u8
+    b'0' + d as u8
 }

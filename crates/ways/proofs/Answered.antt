@@ -1,71 +1,79 @@
 -- What a call's conditions come to at its returns.
-use mathlib.Core.Path.{◌≡◌, refl, sym, subst, ◌∙◌}
-use mathlib.Core.Bool.{true}
-use mathlib.Core.List.{List}
+use mathlib.Core.Path.{◌≡◌, refl}
+use mathlib.Core.List.{List, ◌∷◌}
 use mathlib.Core.Logic.{inl, inr}
 use Prim.Native.Nat.{ℕ, ◌<◌}
 use native.Mathlib.Omega.{arith}
-use lib.Dec.{eqb}
 use lib.ListN.{length}
-use borrow.Author.Tests.{eqb-true, eq-eqb}
-use Rattle.answers.specs.Ordered.{Ordered, Tells}
-use Rattle.answers.proofs.Outcomes.{holds}
+use Rattle.std.specs.Prelude.{Result, Ok, Err, IsErrAnd}
+use Rattle.answers.specs.Ordered.{ask, Ordered, Tells}
+use Rattle.answers.specs.Refusals.{number_of, number_in, value_in}
+use Rattle.answers.specs.declared.Refusal.{Refusal}
+use Rattle.answers.proofs.Outcomes.{holds, passed, stopped}
+use Rattle.answers.proofs.Refusals.{positive}
 use Rattle.plan.specs.Reading.{Held}
 use Rattle.plan.specs.declared.Plan.{Plan}
 use Rattle.state.specs.State.{State}
-use Rattle.state.specs.Sound.{Sound}
+use Rattle.state.specs.Sound.{Sound, state_asks}
 use Rattle.state.specs.Network.{devices}
 use Rattle.state.proofs.Plans.{few}
-use Rattle.ways.specs.Calls.{way_asks}
+use Rattle.ways.specs.Calls.{question_asks, way_asks}
 
-module _ (plan : Plan) (s : State) (d k e size : ℕ) (before : List ℕ) where
-  -- the test of the area's length is the condition on it
-  abbrev Tested : ℕ → Type 0
-  Tested n = Ordered (way_asks plan s (eqb (length before) size ≡ true) d k e) n
+nonzero : (r : Refusal) → number_of r ≡ 0 → ⊥
+nonzero r z = omega (arith, positive r)
 
-  abbrev Asked : ℕ → Type 0
-  Asked n = Ordered (way_asks plan s (length before ≡ size) d k e) n
-
-  asked : (n : ℕ) → Tested n → Asked n
-  asked n (inl x) = inl x
-  asked n (inr (h, inl x)) = inr (h, inl x)
-  asked n (inr (h, inr (l, inl x))) = inr (h, inr (l, inl (λ b. x.0 (eq-eqb (length before) size b), x.1)))
-  asked n (inr (h, inr (l, inr (a, o)))) = inr (h, inr (l, inr (eqb-true (length before) size a, o)))
-
-  -- what holds behind them
+module _ (plan : Plan) (s : State) (d k e : ℕ) where
+  -- what holds where it is refused by none
   pub record Ready : Type 0 where
     pub held : Held plan
     pub sound : Sound plan s
-    pub fits : length before ≡ size
     pub device : e < devices plan
     pub source : d < devices plan
     -- a plan has no more than 32 of them
     pub device-small : e < 32
     pub source-small : d < 32
 
-  pub ready : (n : ℕ) → Tested n → n ≡ 0 → Ready
-  ready n o z =
-      let h = holds (way_asks plan s (eqb (length before) size ≡ true) d k e) refl o z in
-      let device = h.1.1.1.0 in
-      let source = h.1.1.1.1.0 in
-      let most = few plan h.0 in
+  pub ready : Ordered (state_asks plan s) 0 → Ordered (question_asks plan d k e) 0 → Ready
+  ready o q =
+      let plain = holds (state_asks plan s) refl o refl in
+      let asked = holds (question_asks plan d k e) refl q refl in
+      let most = few plan plain.0 in
       record {
-        held = h.0;
-        sound = h.1.0;
-        fits = eqb-true (length before) size h.1.1.0;
-        device = device;
-        source = source;
-        device-small = omega (arith, device, most);
-        source-small = omega (arith, source, most);
+        held = plain.0;
+        sound = plain.1.0;
+        device = asked.0;
+        source = asked.1.0;
+        device-small = omega (arith, asked.0, most);
+        source-small = omega (arith, asked.1.0, most);
       }
+
+module _ (plan : Plan) (s : State) (d k e size : ℕ) (before : List ℕ) where
+  abbrev Asked : ℕ → Type 0
+  Asked n = Ordered (way_asks plan s (length before ≡ size) d k e) n
+
+  -- refused by the plan or the state
+  pub by-state : (r : Refusal) → Ordered (state_asks plan s) (number_of r) → Asked (number_of r)
+  by-state r o = stopped (state_asks plan s) (ask 3 (length before ≡ size) ∷ question_asks plan d k e) o (nonzero r)
+
+  -- behind them
+  module _ (o : Ordered (state_asks plan s) 0) where
+    -- refused by the area
+    pub by-area : (length before ≡ size → ⊥) → Asked 3
+    by-area n = passed (state_asks plan s) (ask 3 (length before ≡ size) ∷ question_asks plan d k e) 3 (holds (state_asks plan s) refl o refl) (inl (n, refl))
+
+    module _ (fits : length before ≡ size) where
+      -- by what is asked
+      pub by-question : {n : ℕ} → Ordered (question_asks plan d k e) n → Asked n
+      by-question {n} q = passed (state_asks plan s) (ask 3 (length before ≡ size) ∷ question_asks plan d k e) n (holds (state_asks plan s) refl o refl) (inr (fits, q))
 
   module _ (Right : ℕ → List ℕ → Type 0) where
     abbrev Answers : ℕ → ℕ → List ℕ → Type 0
     Answers = Tells (way_asks plan s (length before ≡ size) d k e) Right before
 
-    pub answer-refused : (n number value : ℕ) → Tested n → (n ≡ 0 → ⊥) → (number ≡ n) × (value ≡ 0) → Answers number value before
-    answer-refused n number value o z e =
-        record { answers = asked number (subst Tested (sym e.0) o); made = λ y. absurd (z (sym e.0 ∙ y)); kept = λ _. (e.1, refl) }
+    -- a refusal that is passed on
+    pub answer-refused : (r : Result ℕ Refusal) (x : Refusal) → IsErrAnd r (λ y. y ≡ x) → Asked (number_of x) → Answers (number_in r) (value_in r) before
+    answer-refused (Ok v) x w o = absurd w
+    answer-refused (Err y) x w o = record { answers = rw w o; made = λ z. absurd (nonzero y z); kept = λ _. (refl, refl) }
 
-    pub answer-done : (n value : ℕ) (after : List ℕ) → Tested n → n ≡ 0 → Right value after → Answers 0 value after
-    answer-done n value after o z r = record { answers = asked 0 (subst Tested z o); made = λ _. r; kept = λ y. absurd (y refl) }
+    pub answer-done : (value : ℕ) (after : List ℕ) → Asked 0 → Right value after → Answers 0 value after
+    answer-done value after o r = record { answers = o; made = λ _. r; kept = λ y. absurd (y refl) }

@@ -51,10 +51,10 @@ module _ (plan : Plan) (held : Held plan) (s : State) (k d : ℕ) (h : d < devic
   walk-below w = omega (arith, walk-device plan held s 0 k d h w, few plan held)
 
   -- the layers of a table that is the plan's own have found them
-  pub walked : (sound : Sound plan s) (peers : List (List ℕ)) (to far : List ℕ) → peers ≡ plan.peers → to ≡ ahead_all plan.core.permissions peers plan.barred s k
-      → far ≡ layers to plan.core.role d → Found (ahead plan s k sound.size) plan.core.role d 31 far
-  walked sound peers to far p t f =
-      let same : far ≡ layers (ahead plan s k sound.size) plan.core.role d = f ∙ rw (t, p) in
+  pub walked : (sound : Sound plan s) (to far : List ℕ) → to ≡ ahead_all plan.core.permissions plan.peers plan.barred s k → far ≡ layers to plan.core.role d
+      → Found (ahead plan s k sound.size) plan.core.role d 31 far
+  walked sound to far t f =
+      let same : far ≡ layers (ahead plan s k sound.size) plan.core.role d = f ∙ rw t in
       subst (Found _ _ d 31) (sym same) (layers-found _ _ d small)
 
   -- ---- by what the layers have found

@@ -1,5 +1,5 @@
 -- RULES, "Why": the ports that lead out of what a source reaches, and why nothing goes over each.
-use Rattle.std.specs.Prelude.{◌≡◌, true, cond, List, [], ◌∷◌, ◌⊎◌, ℕ, zero, suc, ◌+◌, ◌/◌, ◌<◌, eqb, length, get_or}
+use Rattle.std.specs.Prelude.{◌≡◌, true, cond, List, [], ◌∷◌, ◌⊎◌, ℕ, zero, suc, ◌+◌, ◌/◌, ◌<◌, eqb, length, get_or, Result, MatchResult}
 use Rattle.answers.specs.Ordered.{Condition, ask, Ordered, Tells}
 use Rattle.bits.specs.Set.{bit}
 use Rattle.device.specs.Permissions.{may_send, may_receive}
@@ -9,6 +9,21 @@ use Rattle.state.specs.State.{State, running}
 use Rattle.state.specs.Network.{router, peer, permissions, bars}
 use Rattle.reach.specs.Walk.{Walk}
 use Rattle.ways.specs.Calls.{way_asks}
+use Rattle.ways.specs.declared.Cause.{Cause as Why}
+use Rattle.ways.specs.declared.Cause.TheVariants.{Stopped, MayNotSend, MayNotReceive, DoesNotForward, Barred}
+use Rattle.ways.specs.declared.UnknownCause.{UnknownCause}
+
+-- the number of a cause
+abbrev pub number_of : Why → ℕ
+number_of Stopped = 1
+number_of MayNotSend = 2
+number_of MayNotReceive = 3
+number_of DoesNotForward = 4
+number_of Barred = 5
+
+-- the cause that has the number, or the number itself where it is 0 or above 5 and no cause has it
+abbrev pub Names : ℕ → Result Why UnknownCause → Type 0
+Names n r = MatchResult r (λ cause. number_of cause ≡ n) (λ e. (e.0 ≡ n) × ((n ≡ 0) ⊎ (5 < n)))
 
 -- how many of the first n are not 0
 unfoldable pub marks : ℕ → (ℕ → ℕ) → ℕ

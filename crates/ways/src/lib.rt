@@ -7,18 +7,23 @@
 // to see what leads to its device, and on the devices of the chain up to seven ports once again.
 #![tactic(auto)]
 
-ghost use Rattle.std.specs.Prelude.{◌≡◌, true};
+ghost use Rattle.std.specs.Prelude.{◌≡◌};
 ghost use Rattle.answers.specs.Ordered.{Ordered};
-ghost use Rattle.ways.specs.Calls.{way_asks};
+ghost use Rattle.answers.specs.Refusals.{number_in, value_in};
+ghost use Rattle.ways.specs.Calls.{question_asks};
 ghost use Rattle.ways.specs.Crossings.{TellsCrossings};
 ghost use Rattle.ways.specs.Chain.{TellsChain};
-ghost use Rattle.ways.specs.Cut.{TellsCut};
+ghost use Rattle.ways.specs.Cut.{TellsCut, number_of, Names};
 
 mod causes;
 mod layers;
 mod picks;
 
-use plan::Plan;
+use answers::Refusal;
+use causes::Border;
+use layers::Roads;
+use picks::Slope;
+use plan::{DeviceNo, Plan};
 
 // The words of the areas: one for each device, one for each port of a chain and one behind them, and one
 // for each port.
@@ -28,80 +33,90 @@ pub const CHAIN: usize = 32;
 
 pub const CUT: usize = 256;
 
-// No device is so many crossings away: it stands for none.
+// No device is so many crossings away: it stands for none, as areas of C have no `Option` and the rules
+// have a number for it.
 pub const UNREACHED: u32 = 32;
 
-// What stands behind the ports of a chain.
+// What stands behind the ports of a chain, for the same reason.
 pub const NOBODY: u32 = 256;
 
-// The number for no peer, as wide as the number of a port is here.
-const NO_PEER: usize = plan::NOBODY as usize;
-
-// Causes: the port does not run, it may not send, the port at its other end may not receive, its device does
-// not forward, and the port at its other end bars the identifier. Numbers are names: the last is looked for
-// before the one in front of it.
-pub const STOPPED: u32 = 1;
-
-pub const MAY_NOT_SEND: u32 = 2;
-
-pub const MAY_NOT_RECEIVE: u32 = 3;
-
-pub const DOES_NOT_FORWARD: u32 = 4;
-
-pub const BARRED: u32 = 5;
-
-// What a call answers: 0 for done or a refusal's number, and the value beside it.
-#[derive(Clone, Copy)]
-pub struct Answer {
-    pub number: u32,
-    pub value: u32,
+// Why nothing goes over a port: it does not run, it may not send, the port at its other end may not
+// receive, its device does not forward, and the port at its other end bars the identifier. Numbers are
+// names: the last is looked for before the one in front of it.
+#[derive(Clone, Copy, Debug, PartialEq, Eq)]
+pub enum Cause {
+    Stopped = 1,
+    MayNotSend = 2,
+    MayNotReceive = 3,
+    DoesNotForward = 4,
+    Barred = 5,
 }
 
-fn refused(number: u32) -> Answer
-    ensures { (result.number ≡ number) × (result.value ≡ 0) }
+// A number that is no cause.
+#[derive(Clone, Copy, Debug, PartialEq, Eq)]
+pub struct UnknownCause(pub u32);
+
+// Its number in an area, where 0 stands for none.
+impl From<Cause> for u32 {
+    ghost from_gives = { λ cause number. number ≡ number_of cause };
+
+    fn from(cause: Cause) -> u32 {
+        cause as u32
+    }
+}
+
+impl TryFrom<u32> for Cause {
+    type Error = UnknownCause;
+
+    ghost try_from_gives = { Names };
+
+    fn try_from(number: u32) -> Result<Self, UnknownCause> {
+        match number {
+            1 => Ok(Cause::Stopped),
+            2 => Ok(Cause::MayNotSend),
+            3 => Ok(Cause::MayNotReceive),
+            4 => Ok(Cause::DoesNotForward),
+            5 => Ok(Cause::Barred),
+            _ => Err(UnknownCause(number)),
+        }
+    }
+}
+
+// What a source, an identifier and a device are refused by.
+fn question_refusal(plan: &Plan, source: usize, k: u32, device: usize) -> Result<(), Refusal>
+    ensures { Ordered (question_asks plan.now source k device) (number_in result) }
 {
-    Answer {
-        number: number,
-        value: 0,
+    if plan.core.devices <= device {
+        return Err(Refusal::NoSuchDevice);
     }
+    reach::source_refusal(plan.core.devices, &plan.core.source, source, k)
 }
 
-// The first number that a call is refused by; 0 for none. `fits` says whether its area does.
-fn refusal(plan: Plan, state: &[u32], fits: bool, source: usize, k: u32, device: usize) -> u32
-    ensures { Ordered (way_asks plan state.now (fits ≡ true) source k device) result }
-{
-    let number = state::refusal(plan, state);
-    if number != 0 {
-        return number;
-    }
-    if !fits {
-        return 3;
-    }
-    let core = plan.core;
-    if core.devices <= device {
-        return 4;
-    }
-    reach::source_refusal(core.devices, &core.source, source, k)
-}
+// In the three calls the plan comes by value, as at every public door of the project, and is lent from there
+// on.
 
 // The least number of crossings from a source to each device for interrupts of k, and the greatest of
 // them, D. Refused by 1, 2, 3, 4, 5 and 6.
-pub fn crossings(plan: Plan, state: &[u32], source: usize, k: u32, far: &mut [u32]) -> Answer
-    ensures { TellsCrossings plan state.now source k far.old result.number result.value far.new }
+pub fn crossings(
+    plan: Plan,
+    state: &[u32],
+    source: usize,
+    k: u32,
+    far: &mut [u32],
+) -> Result<u32, Refusal>
+    ensures { TellsCrossings plan state.now source k far.old (number_in result) (value_in result) far.new }
 {
-    let number = refusal(plan, state, far.len() == CROSSINGS, source, k, source);
-    if number != 0 {
-        return refused(number);
-    }
-    let core = plan.core;
-    let role = core.role;
-    let peers = plan::peers_of(plan);
-    let to = reach::ahead_all(&core.permissions, &peers, &plan.barred, state, k);
-    layers::walk(&role, &to, source, far);
-    Answer {
-        number: 0,
-        value: layers::greatest(far),
-    }
+    state::refusal(&plan, state)?;
+    let Some(far) = far.as_mut_array::<CROSSINGS>() else {
+        return Err(Refusal::WrongArea);
+    };
+    question_refusal(&plan, source, k, source)?;
+    let roads = Roads {
+        role: &plan.core.role,
+        to: &reach::ahead_all(&plan, state, k),
+    };
+    roads.walk(DeviceNo::new(source).unwrap(), far);
+    Ok(layers::greatest(far))
 }
 
 // A shortest chain of ports from a source to a device for interrupts of k, of several the first by port
@@ -114,56 +129,62 @@ pub fn chain(
     k: u32,
     device: usize,
     ports: &mut [u32],
-) -> Answer
-    ensures { TellsChain plan state.now k source device ports.old result.number result.value ports.new }
+) -> Result<u32, Refusal>
+    ensures { TellsChain plan state.now k source device ports.old (number_in result) (value_in result) ports.new }
 {
-    let number = refusal(plan, state, ports.len() == CHAIN, source, k, device);
-    if number != 0 {
-        return refused(number);
-    }
-    let core = plan.core;
-    let role = core.role;
-    let peers = plan::peers_of(plan);
-    let to = reach::ahead_all(&core.permissions, &peers, &plan.barred, state, k);
-    let back = layers::behind_all(&peers, &to);
+    state::refusal(&plan, state)?;
+    let Some(ports) = ports.as_mut_array::<CHAIN>() else {
+        return Err(Refusal::WrongArea);
+    };
+    question_refusal(&plan, source, k, device)?;
+    let to = reach::ahead_all(&plan, state, k);
+    let back = Roads {
+        role: &plan.core.role,
+        to: &layers::behind_all(&plan.peers, &to),
+    };
     let mut far = [UNREACHED; CROSSINGS];
-    layers::walk(&role, &back, device, &mut far);
-    areas::fill(ports, NOBODY);
+    back.walk(DeviceNo::new(device).unwrap(), &mut far);
+    *ports = [NOBODY; CHAIN];
     let n = far[source];
     if n < UNREACHED {
-        picks::follow(&role, &to, &far, source, n, ports);
+        let slope = Slope {
+            role: &plan.core.role,
+            to: &to,
+            far: &far,
+        };
+        slope.follow(DeviceNo::new(source).unwrap(), ports);
     }
-    Answer {
-        number: 0,
-        value: n,
-    }
+    Ok(n)
 }
 
 // The cause at each port that leads out of what a source reaches for interrupts of k, 0 at all others, and
 // how many lead out. Refused by 1, 2, 3, 4, 5 and 6.
-pub fn cut(plan: Plan, state: &[u32], source: usize, k: u32, causes: &mut [u32]) -> Answer
-    ensures { TellsCut plan state.now source k causes.old result.number result.value causes.new }
+pub fn cut(
+    plan: Plan,
+    state: &[u32],
+    source: usize,
+    k: u32,
+    causes: &mut [u32],
+) -> Result<u32, Refusal>
+    ensures { TellsCut plan state.now source k causes.old (number_in result) (value_in result) causes.new }
 {
-    let number = refusal(plan, state, causes.len() == CUT, source, k, source);
-    if number != 0 {
-        return refused(number);
-    }
-    let core = plan.core;
-    let role = core.role;
-    let peers = plan::peers_of(plan);
-    let to = reach::ahead_all(&core.permissions, &peers, &plan.barred, state, k);
+    state::refusal(&plan, state)?;
+    let Some(causes) = causes.as_mut_array::<CUT>() else {
+        return Err(Refusal::WrongArea);
+    };
+    question_refusal(&plan, source, k, source)?;
+    let roads = Roads {
+        role: &plan.core.role,
+        to: &reach::ahead_all(&plan, state, k),
+    };
     let mut far = [UNREACHED; CROSSINGS];
-    layers::walk(&role, &to, source, &mut far);
-    Answer {
-        number: 0,
-        value: causes::put_causes(
-            &core.permissions,
-            &peers,
-            &plan.barred,
-            state,
-            &far,
-            k,
-            causes,
-        ),
-    }
+    roads.walk(DeviceNo::new(source).unwrap(), &mut far);
+    // A sound state has all its words.
+    let border = Border {
+        plan: &plan,
+        state: state.as_array().unwrap(),
+        far: &far,
+        k,
+    };
+    Ok(border.put_causes(causes))
 }

@@ -1,13 +1,11 @@
-use mathlib.Core.Path.{refl}
-use native.Mathlib.Omega.{arith}
-use Rattle.areas.proofs.Written.{none, turn, done}
+use lib.ListN.{length}
+use mathlib.Core.Path.{◌∙◌}
+use Rattle.std.proofs.lemmas.List.{get_or-replicate, length-replicate}
+use Rattle.lists.proofs.Tables.{is-table}
 use Rattle.areas.proofs.fill.Goals as goal
 
-pub loop-i-init : goal.loop-i-init
-loop-i-init c = none refl
-
-pub loop-i-preserved : goal.loop-i-preserved
-loop-i-preserved c = turn c.loop-i.invariant (omega arith)
-
 pub returns : goal.returns
-returns c = done c.loop-i.invariant (omega arith)
+returns c =
+    let n = length c.args.area.now in
+    let v = c.args.value in
+    c.fill.ensures.after (λ y e. e) ∙ is-table n (λ _. v) _ 0 (length-replicate n v) (λ i h. get_or-replicate n i v 0 h)

@@ -1,5 +1,5 @@
 -- No rules: what a round passes over, since nothing happens there. `Idles` proves it of every sound state of a held plan.
-use Rattle.std.specs.Prelude.{◌≡◌, List, [], ℕ, ◌+◌, ◌*◌, ◌/◌, ◌≤◌, ◌<◌, length, get_or}
+use Rattle.std.specs.Prelude.{◌≡◌, List, ℕ, ◌+◌, ◌*◌, ◌/◌, ◌≤◌, ◌<◌, length, get_or}
 use Rattle.bits.specs.Set.{bit}
 use Rattle.plan.specs.Fields.{nobody}
 use Rattle.plan.specs.declared.Plan.{Plan}
@@ -41,16 +41,6 @@ pub record Laid (plan : Plan) : Type 0 where
   pub few : devices plan ≤ 32
   pub most : (d : ℕ) → d < devices plan → ports_of plan d ≤ 8
   pub nowhere : (d p : ℕ) → d < devices plan → ports_of plan d ≤ p → p < 8 → peer plan (8 * d + p) ≡ nobody
-
--- a plan of no more than arrivals look at
-abbrev pub lent : ℕ → ℕ → List ℕ → List ℕ → List ℕ → List ℕ → List (List ℕ) → List ℕ → Plan
-lent n events loads role ports permissions peers barred =
-    record {
-      core =
-          record { devices = n; master = 0; events = events; loads = loads; role = role; ports = ports; source = []; handler = []; permissions = permissions };
-      peers = peers;
-      barred = barred;
-    }
 
 -- from place to place, all words are as in another state; the others are as before
 pub record Copies (from to : ℕ) (old before after : State) : Type 0 where

@@ -1,8 +1,8 @@
 -- `calls::advance` meets its contract: the counter is stored, and the Time-Code queued. Assumes nothing.
 use mathlib.Core.Path.{◌≡◌, ◌∙◌}
 use Prim.Native.Nat.{ℕ, ◌<◌}
+use lib.ListN.{length}
 use native.Mathlib.Omega.{arith}
-use lib.ListN.{length, length-set}
 use borrow.Author.Rules.{rules}
 use Rattle.device.specs.Reaction.{next_time}
 use Rattle.plan.specs.Fields.{nobody}
@@ -18,9 +18,6 @@ is-advanced : (d v : ℕ) (s t : State) → length s ≡ words → d < 32 → v 
 unfolding advanced
 is-advanced d v s t long h e q = q ∙ timed-in v d nobody (put s (counter_at d) v) (length-put s (counter_at d) v ∙ long) h ∙ rw e
 
-pub shape_of-state : goal.shape_of-state
-shape_of-state c = c.queue_time.auto.state ∙ length-set c.args.state.now _ _
-
 pub returns : goal.returns
 unfolding word put
-returns c = is-advanced _ _ _ _ (search rules) (omega arith) c.next_time-v.ensures c.queue_time.ensures
+returns c = rw c.index-d.ensures.equal at (is-advanced _ _ _ _ (search rules) (omega arith) c.next_time-v.ensures c.queue_time.ensures)

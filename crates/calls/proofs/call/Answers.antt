@@ -1,14 +1,14 @@
--- `calls::call` meets its contract: a refusal changes nothing, and else the call is taken. Assumes nothing.
-use mathlib.Core.Path.{◌∙◌}
-use Rattle.answers.proofs.Outcomes.{outcome-refused, outcome-done}
+-- `calls::call` meets its contract: a refusal changes nothing, and else the code is marked and queued. Assumes nothing.
+use mathlib.Core.Path.{refl, ◌∙◌}
+use Rattle.answers.proofs.Outcomes.{outcome-done}
+use Rattle.device.proofs.Numbers.{kind-small}
+use Rattle.std.proofs.option.Match.{if_some}
 use Rattle.calls.proofs.Asked.{call-ready, called-in}
 use Rattle.calls.proofs.call.Goals as goal
 
-pub returns-then-number-ne0 : goal.returns-then-number-ne0
-returns-then-number-ne0 c = outcome-refused c.call_refusal-number.ensures c.if-number-ne0.true
-
 pub returns : goal.returns
 returns c =
-    let r = call-ready _ _ _ _ _ c.call_refusal-number.ensures c.if-number-ne0.false in
-    outcome-done c.call_refusal-number.ensures c.if-number-ne0.false
-    (c.take.ensures c.args.plan.peers c.args.plan.barred ∙ called-in _ _ _ _ _ r.0 r.1 r.2 c.requires)
+    let words = if_some _ _ _ c.unwrap-words.ensures c.as_mut_array.ensures.cases in
+    let r = call-ready _ _ _ _ _ c.in_ok-call_refusal.ensures refl in
+    outcome-done c.in_ok-call_refusal.ensures refl
+    (rw words.same at (c.mark_and_queue.ensures c.args.plan.now.peers c.args.plan.now.barred) ∙ called-in _ _ _ _ _ r.0 r.1 r.2 (kind-small c.args.kind))

@@ -1,7 +1,6 @@
 -- `calls::empty` meets its contract. The invariant: the ports before port p are emptied, and all else is as it was. Assumes nothing.
 use mathlib.Core.Path.{◌≡◌}
 use native.Mathlib.Omega.{arith}
-use lib.ListN.{length-set}
 use borrow.Author.Rules.{rules}
 use Rattle.state.specs.State.{put}
 use Rattle.calls.proofs.Zeros.{emptied-none, emptied-more, is-emptied}
@@ -10,12 +9,6 @@ use Rattle.calls.proofs.empty.Goals as goal
 pub loop-p-init : goal.loop-p-init
 loop-p-init c = (omega arith, search rules, emptied-none)
 
-pub bounds-state-at-in-loop-p : goal.bounds-state-at-in-loop-p
-bounds-state-at-in-loop-p c = simp length-set (omega arith)
-
-pub bounds-state-at-in-loop-p-2 : goal.bounds-state-at-in-loop-p-2
-bounds-state-at-in-loop-p-2 c = simp length-set (omega arith)
-
 pub loop-p-preserved : goal.loop-p-preserved
 unfolding put
 loop-p-preserved c =
@@ -23,4 +16,6 @@ loop-p-preserved c =
 
 pub returns : goal.returns
 returns c =
-    let e : c.loop-p.p ≡ 8 = omega arith in is-emptied _ _ c.loop-p.invariant.1 (omega arith) (rw e at c.loop-p.invariant.2)
+    let e : c.loop-p.p ≡ 8 = omega arith in
+    let v = c.loop-p.invariant in
+    rw c.index-d.ensures.equal at (is-emptied _ _ v.1 (omega arith) (rw e at v.2))

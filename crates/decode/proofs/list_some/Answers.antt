@@ -1,4 +1,5 @@
 use Rattle.std.proofs.Common.{◌≡◌, refl, ap, ◌∙◌, subst, le_refl, List, [], ℕ, arith, length, take, take_all}
+use borrow.Author.Tests.{ltb-true}
 use Rattle.std.proofs.KnownBytes.{Consumes-kept, Consumes-nil}
 use Rattle.std.proofs.Math.Seq.{take-append_seam}
 use Rattle.std.specs.Io.KnownBytes.{Appends}
@@ -24,13 +25,13 @@ whole {piece} {before} {after} {used} l =
     let size = l.size ∙ ap (λ (bytes : List ℕ). length (lines bytes)) all in
     (text, ap (take used) text ∙ ap (λ n. take n (over (lines piece) before)) size ∙ front (lines piece) before)
 
-pub returns-in-Err : goal.returns-in-Err
-returns-in-Err g c =
-    ([], omega arith, omega arith, none-listed _, Consumes-kept _ _ _ _ (Consumes-nil _) c.in-Err.ensures.bytes, λ h. absurd (omega (arith, h)))
+pub returns-in_default : goal.returns-in_default
+returns-in_default g c =
+    ([], omega arith, none-listed _, Consumes-kept _ _ _ _ (Consumes-nil _) c.in_default.ensures.bytes, λ h. absurd (cc h))
 
-pub returns-in-Ok-write_all : goal.returns-in-Ok-write_all
-returns-in-Ok-write_all g c =
+pub returns : goal.returns
+returns g c =
     let piece = take c.in-Ok.n c.read.new.buf in
     let count = c.in-Ok.ensures.bound in
     let put = whole c.list_piece-length.ensures in
-    (piece, omega (arith, count.0, count.1, c.read.auto.buf), omega (arith, count.1), put.0, c.in-Ok.ensures.bytes.0, λ h. subst (Appends _ _) put.1 c.in-Ok-write_all.ensures.bytes)
+    (piece, omega (arith, count.0, count.1, c.read.auto.buf), put.0, c.in-Ok.ensures.bytes.0, λ h. (omega (arith, count.1, ltb-true 0 c.in-Ok.n h), subst (Appends _ _) put.1 c.in-Ok-write_all.ensures.bytes))

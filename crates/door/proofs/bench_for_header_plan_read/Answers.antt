@@ -1,8 +1,9 @@
-use Rattle.plan.specs.Reading.{reads}
-use Rattle.plan.specs.declared.Read.{Read}
-use mathlib.Core.Path.{ap}
+use mathlib.Core.Path.{ap, ◌∙◌}
+use Rattle.plan.specs.Refusals.{Verdict}
+use Rattle.door.proofs.Told.{verdict-loaded}
 use Rattle.door.proofs.bench_for_header_plan_read.Goals as goal
 
 pub returns : goal.returns
-unfolding reads
-returns c = (ap (λ (r : Read). r.number) c.read-read.ensures, ap (λ (r : Read). r.block) c.read-read.ensures)
+returns c =
+    let says = c.number_and_block.ensures ∙ verdict-loaded _ _ _ _ c.load.ensures in
+    (ap (λ (v : Verdict). v.number) says, ap (λ (v : Verdict). v.at) says)

@@ -23,8 +23,8 @@ pub loop-n-preserved : goal.loop-n-preserved
 loop-n-preserved g c =
     let from = c.loop-n.n in
     let room = length c.loop-n.area - from in
-    let more = c.in-Ok.more in
+    let more = c.in_ok-more.more in
     let within = c.loop-n.invariant.0 in
-    let part = part-read from room more c.loop-n.area c.read.new.buf within c.in-Ok.ensures.bound.0 in
+    let part = part-read from room more c.loop-n.area c.read.new.buf within c.in_ok-more.ensures.bound.0 in
     let joined = take-split from (from + more) c.loop-n.area (put_mid from room c.loop-n.area c.read.new.buf) (omega arith) (take-put_mid_below _ _ _ _ _ (le_refl _) within) in
-    (search rules, search rules, subst (Consumes _ _) (ap (λ l. take from c.loop-n.area ++ l) (sym part) ∙ joined) (Consumes-trans _ _ _ _ _ c.loop-n.invariant.2 c.in-Ok.ensures.bytes.0))
+    (search rules, search rules, subst (Consumes _ _) (ap (λ l. take from c.loop-n.area ++ l) (sym part) ∙ joined) (Consumes-trans _ _ _ _ _ c.loop-n.invariant.2 c.in_ok-more.ensures.bytes.0))

@@ -1,6 +1,6 @@
 use mathlib.Core.Path.{◌≡◌, sym, ap, ◌∙◌}
 use mathlib.Core.List.{List}
-use Prim.Native.Nat.{ℕ, ◌+◌, ◌-◌, ◌≤◌, ◌<◌}
+use Prim.Native.Nat.{ℕ, ◌+◌, ◌≤◌, ◌<◌}
 use native.Mathlib.Omega.{arith}
 use lib.ListN.{length, take, get_or, length-append}
 use borrow.Author.Count.{below_more}
@@ -42,7 +42,5 @@ module _ {bytes before page : List ℕ} {taken at : ℕ} (v : Listing bytes befo
   done h = record { within = v.within; size = v.size; room = v.room; text = v.text; went_on = v.went_on; stopped = h }
 
 abbrev pub invariant-loop-taken : goal.invariant-loop-taken
-invariant-loop-taken l = Listing l.bytes l.initial.page l.page l.taken l.at
-
-abbrev pub decreases-loop-taken : goal.decreases-loop-taken
-decreases-loop-taken l = length l.bytes - l.taken
+invariant-loop-taken l =
+    Listing l.bytes l.initial.page.area.now l.page.area.now l.taken l.page.at × (l.page.area.ghost_name ≡ l.initial.page.area.ghost_name)

@@ -1,6 +1,5 @@
-use Rattle.areas.proofs.Puts.{joined}
+use Rattle.text.proofs.Pages.{then}
 use Rattle.listing.proofs.put_valued.Goals as goal
 
 pub returns : goal.returns
-returns c =
-    joined c.put-after.ensures c.requires c.put_number.ensures
+returns c = then c.word.ensures c.requires (rw c.from.ensures at c.number.ensures)

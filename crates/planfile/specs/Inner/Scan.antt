@@ -3,7 +3,7 @@ use Rattle.std.specs.Prelude.{cond, List, [], ◌∷◌, ◌++◌, ℕ, zero, su
 use Rattle.lists.specs.Table.{joined}
 use Rattle.plan.specs.Block.{block}
 use Rattle.plan.specs.Refusals.{test, Test, first, length_fits, header_tests, device_tests, count_in, master_in, device_block}
-use Rattle.plan.specs.declared.Verdict.{Verdict}
+use Rattle.plan.specs.Refusals.{Verdict, accepts}
 
 -- the tests of a device's block by itself, and of block b
 abbrev pub of_device : List ℕ → ℕ → List Test
@@ -16,6 +16,10 @@ block_tests file (suc d) = of_device file d
 -- the number that block b is refused with, and 20 where the file has no such block
 unfoldable pub refusal_in : List ℕ → ℕ → ℕ
 refusal_in file b = cond (ltb b (length file / 512)) (first (block_tests file b)).number 20
+
+-- such a number, with the block that it is at
+abbrev pub at_block : ℕ → ℕ → Verdict
+at_block b number = cond (eqb number 0) accepts (record { number = number; at = b })
 
 -- the blocks of the devices
 unfoldable pub device_scan : List ℕ → Verdict

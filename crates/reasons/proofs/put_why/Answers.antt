@@ -1,22 +1,20 @@
+use mathlib.Core.Path.{refl}
 use native.Mathlib.Omega.{arith}
 use Rattle.text.specs.Text.{ascii}
+use Rattle.answers.proofs.Refusals.{positive}
 use Rattle.planfile.proofs.WasRead.{plan-held}
-use Rattle.reasons.proofs.Texts.{writes-bad, writes-none, writes-answer}
+use Rattle.reasons.proofs.Texts.{writes-bad, writes-refusal, writes-answer}
 use Rattle.reasons.proofs.put_why.Goals as goal
 
-pub returns-then-read-ne0 : goal.returns-then-read-ne0
-returns-then-read-ne0 c =
-    writes-bad c.read-read.ensures c.if-read-ne0.true (omega arith) (omega arith) c.put_bad.ensures
-
-pub returns-then-not-take : goal.returns-then-not-take
-unfolding ascii
-returns-then-not-take c =
-    writes-none c.read-read.ensures c.if-read-ne0.false (plan-held _ c.read-read.ensures c.if-read-ne0.false (λ i. omega (arith, c.shared_slice_known-1.given i))) (c.take.ensures.none c.if-not-take.true) c.put_headed.ensures
+pub returns-in-Err : goal.returns-in-Err
+returns-in-Err c = let p = positive c.in-Err.fault.refusal in writes-bad c.in-Err.ensures (λ z. omega arith) (omega arith) (omega arith) (rw c.from.ensures at c.bad.ensures)
 
 pub put_answer-requires : goal.put_answer-requires
-put_answer-requires c =
-    (plan-held _ c.read-read.ensures c.if-read-ne0.false (λ i. omega (arith, c.shared_slice_known-1.given i)), c.requires)
+put_answer-requires c = (plan-held _ c.in-Ok.ensures refl (λ i. omega (arith, c.type_inv.file i)), c.requires)
 
-pub returns : goal.returns
-returns c =
-    writes-answer c.read-read.ensures c.if-read-ne0.false (c.take.ensures.taken c.if-not-take.false) c.put_answer.ensures
+pub returns-in_default : goal.returns-in_default
+returns-in_default c = let x = c.in_default.ensures in writes-answer c.in-Ok.ensures refl x.0 x.1
+
+pub returns-in-Err-put_answer : goal.returns-in-Err-put_answer
+unfolding ascii
+returns-in-Err-put_answer c = let x = c.in-Err-put_answer.ensures in let p = positive c.in-Err-put_answer.refusal in writes-refusal c.in-Ok.ensures refl x.0 (λ z. omega arith) (omega arith) (rw (c.from-in-Err-put_answer.ensures, x.1) at c.headed.ensures)

@@ -1,25 +1,19 @@
 -- No rules: what private functions promise. Nothing here has to be believed.
-use Rattle.std.specs.Prelude.{◌≡◌, Bool, true, false, List, [], ◌∷◌, ◌++◌, ℕ, ◌<◌, ◌≤◌, length, get_or}
+use Rattle.std.specs.Prelude.{◌≡◌, Result, Ok, Err, List, [], ◌∷◌, ◌++◌, ℕ, ◌<◌, length, get_or}
 use Rattle.answers.specs.Ordered.{Ordered}
-use Rattle.areas.specs.Put.{Puts}
+use Rattle.answers.specs.Refusals.{number_of}
+use Rattle.answers.specs.declared.Refusal.{Refusal}
 use Rattle.lists.specs.Table.{joined}
-use Rattle.text.specs.Text.{ascii, headed}
+use Rattle.text.specs.Inner.Within.{WritesWithin}
+use Rattle.text.specs.Text.{ascii, headed, joint}
+use Rattle.text.specs.declared.page.Page.{Page}
 use Rattle.plan.specs.declared.Plan.{Plan}
 use Rattle.state.specs.State.{State, words}
 use Rattle.state.specs.Network.{peer_in}
 use Rattle.ways.specs.Cut.{AllCauses}
-use Rattle.reasons.specs.Why.{port, outward, Explains, why_asks, longest}
-
--- a word was put, and is no longer than so many bytes
-pub record Within (most : ℕ) (before : List ℕ) (at : ℕ) (word after : List ℕ) (place : ℕ) : Type 0 where
-  pub short : length word ≤ most
-  pub put : Puts before at word after place
+use Rattle.reasons.specs.Why.{outward, Explains, why_asks, longest}
 
 -- ---- lines
-
--- two ports that a crossing joins
-unfoldable pub joint : ℕ → ℕ → List ℕ
-joint q p = port q ++ ascii " " ++ port p ++ ascii "\n"
 
 -- the lines of some ports, by the peers of a plan
 unfoldable pub joints : List (List ℕ) → List ℕ → List ℕ
@@ -51,24 +45,24 @@ longest_reached = 11
 
 -- ---- texts
 
--- what is said of a plan and a state
-pub data Answers (plan : Plan) (s : State) (d k e : ℕ) : List ℕ → Type 0 where
-  refused : {number : ℕ} → Ordered (why_asks plan s d k e) number → (number ≡ 0 → ⊥) → Answers plan s d k e (headed (ascii "r") number)
-  explained : {text : List ℕ} → Ordered (why_asks plan s d k e) 0 → Explains plan s d k e text → Answers plan s d k e text
-
 -- the ports that lead out, with their causes
 pub data CutText (plan : Plan) (s : State) (d k : ℕ) : List ℕ → Type 0 where
   cut-text : {n : ℕ} {causes : List ℕ} → AllCauses plan s d k n causes → CutText plan s d k (headed (ascii "cut ") n ++ outwards 256 causes)
 
--- some such text was put at the front
-pub record Writes (Right : List ℕ → Type 0) (before after : List ℕ) (place : ℕ) : Type 0 where
+-- some such text was put
+pub record WritesSome (Right : List ℕ → Type 0) (page after : Page) : Type 0 where
   pub text : List ℕ
   pub right : Right text
-  pub within : Within longest before 0 text after place
+  pub within : WritesWithin longest text page after
+
+-- what is said of a plan and a state, or the number of a refusal, which puts nothing
+abbrev pub Answers : Plan → State → ℕ → ℕ → ℕ → Page → Result (Unit {0}) Refusal → Page → Type 0
+Answers plan s d k e page (Ok v) after = Ordered (why_asks plan s d k e) 0 × WritesSome (Explains plan s d k e) page after
+Answers plan s d k e page (Err r) after = Ordered (why_asks plan s d k e) (number_of r) × (after ≡ page)
 
 -- ---- the state
 
 -- the one that is due was taken, or what is due is none
-pub record Takes (due after : State) (r : Bool) : Type 0 where
-  pub taken : r ≡ true → after ≡ due
-  pub none : r ≡ false → length due ≡ words → ⊥
+abbrev pub Takes : State → Result (Unit {0}) Refusal → State → Type 0
+Takes due (Ok v) after = after ≡ due
+Takes due (Err r) after = (number_of r ≡ 2) × (length due ≡ words → ⊥)

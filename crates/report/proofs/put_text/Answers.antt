@@ -1,33 +1,37 @@
+use mathlib.Core.Path.{refl}
 use native.Mathlib.Omega.{arith}
 use borrow.Author.Rules.{rules}
-use Rattle.areas.proofs.Puts.{same_size, next_place}
 use Rattle.plan.proofs.BothWays.{held-devices}
 use Rattle.planfile.proofs.WasRead.{plan-held}
 use Rattle.text.specs.Text.{ascii}
-use Rattle.report.proofs.Texts.{heading-short, was-found, network-text, refused-text}
+use Rattle.text.proofs.Pages.{as_long, goes_on}
+use Rattle.bench.proofs.Tried.{not-done}
+use Rattle.report.proofs.Texts.{heading-short, was-done, was-found, network-text, refused-text}
 use Rattle.report.proofs.put_text.Goals as goal
 
-pub returns-then-read-ne0 : goal.returns-then-read-ne0
-returns-then-read-ne0 c =
-    let r = c.read-read in
-    refused-text _ r.ensures c.if-read-ne0.true (omega arith) (omega arith) c.put_bad.ensures
+pub returns-in-Err : goal.returns-in-Err
+returns-in-Err c =
+    refused-text _ c.in-Err.ensures (not-done _) (omega (arith, c.from.ensures, c.from.type_inv)) (omega arith) (rw c.from.ensures at c.bad.ensures)
 
-pub overflow_cast-core : goal.overflow_cast-core
-overflow_cast-core c =
-    omega (arith, (held-devices _ (plan-held _ c.read-read.ensures c.if-read-ne0.false (λ i. omega (arith, c.shared_slice_known-1.given i)))).1)
+pub unwrap-requires : goal.unwrap-requires
+unwrap-requires c =
+    was-done _ c.trials.ensures (plan-held _ c.in-Ok.ensures refl (λ i. omega (arith, c.type_inv.file i))) (c.requires.0, search rules)
+
+pub overflow_cast-plan : goal.overflow_cast-plan
+overflow_cast-plan c = omega (arith, (held-devices _ (plan-held _ c.in-Ok.ensures refl (λ i. omega (arith, c.type_inv.file i)))).1)
 
 pub put_lines-requires : goal.put_lines-requires
 unfolding ascii
 put_lines-requires c =
-    let held = plan-held _ c.read-read.ensures c.if-read-ne0.false (λ i. omega (arith, c.shared_slice_known-1.given i)) in
-    let h = c.put_headed-at.ensures in
+    let held = plan-held _ c.in-Ok.ensures refl (λ i. omega (arith, c.type_inv.file i)) in
+    let h = c.headed.ensures in
     let short = heading-short _ (held-devices _ held).1 in (
       held,
       was-found c.trials.ensures held (c.requires.0, search rules),
-      omega (arith, short, same_size h, next_place h (omega (arith, short, c.requires.1)), c.requires.1),
+      omega (arith, short, as_long h, goes_on h (omega (arith, short, c.requires.1)), c.requires.1),
     )
 
 pub returns : goal.returns
 unfolding ascii
 returns c =
-    network-text _ c.read-read.ensures c.if-read-ne0.false (plan-held _ c.read-read.ensures c.if-read-ne0.false (λ i. omega (arith, c.shared_slice_known-1.given i))) c.requires.1 c.put_headed-at.ensures c.put_lines.ensures
+    network-text _ c.in-Ok.ensures refl (plan-held _ c.in-Ok.ensures refl (λ i. omega (arith, c.type_inv.file i))) c.requires.1 c.headed.ensures c.put_lines.ensures

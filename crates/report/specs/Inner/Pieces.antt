@@ -1,7 +1,8 @@
 -- No rules: what private functions promise. Nothing here has to be believed.
-use Rattle.std.specs.Prelude.{List, ◌++◌, ℕ, ◌+◌, ◌*◌, ◌/◌, ◌%◌, ◌≤◌, length, get_or}
-use Rattle.areas.specs.Put.{Puts}
+use Rattle.std.specs.Prelude.{List, ◌++◌, ℕ, ◌+◌, ◌*◌, ◌/◌, ◌%◌, get_or}
+use Rattle.text.specs.Inner.Within.{WritesWithin}
 use Rattle.text.specs.Text.{ascii, decimal}
+use Rattle.text.specs.declared.page.Page.{Page}
 use Rattle.plan.specs.declared.Plan.{Plan}
 use Rattle.report.specs.Report.{field, line, Lines, Prints, longest}
 
@@ -22,22 +23,19 @@ abbrev pub longest_lines : ℕ
 longest_lines = 14336
 
 -- what place i adds to the lines of the places before it was put, and is no longer than a line can be
-pub record PutsPlace (plan : Plan) (i : ℕ) (before : List ℕ) (at : ℕ) (after : List ℕ) (place : ℕ) : Type 0 where
+pub record PutsPlace (plan : Plan) (i : ℕ) (page after : Page) : Type 0 where
   pub added : List ℕ
   pub right : (lines : List ℕ) → Lines plan i lines → Lines plan (i + 1) (lines ++ added)
-  pub short : length added ≤ longest_line
-  pub put : Puts before at added after place
+  pub within : WritesWithin longest_line added page after
 
 -- the lines of the first i places were put
-pub record PutsLines (plan : Plan) (i : ℕ) (before : List ℕ) (at : ℕ) (after : List ℕ) (place : ℕ) : Type 0 where
+pub record PutsLines (plan : Plan) (i : ℕ) (page after : Page) : Type 0 where
   pub lines : List ℕ
   pub right : Lines plan i lines
-  pub short : length lines ≤ longest_line * i
-  pub put : Puts before at lines after place
+  pub within : WritesWithin (longest_line * i) lines page after
 
 -- the whole text of a file was put
-pub record PutsText (file before : List ℕ) (at : ℕ) (after : List ℕ) (place : ℕ) : Type 0 where
+pub record PutsText (file : List ℕ) (page after : Page) : Type 0 where
   pub text : List ℕ
   pub right : Prints file text
-  pub short : length text ≤ longest
-  pub put : Puts before at text after place
+  pub within : WritesWithin longest text page after

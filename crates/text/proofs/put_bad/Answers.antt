@@ -5,27 +5,18 @@ use native.Mathlib.Omega.{arith}
 use lib.ListN.{length}
 use Rattle.areas.proofs.Puts.{puts_none}
 use Rattle.text.specs.Text.{ascii}
-use Rattle.text.proofs.Decimal.{decimal-short}
 use Rattle.text.proofs.Parts.{no_room, has_room, length-bad, bad-parts, three}
 use Rattle.text.proofs.put_bad.Goals as goal
-
-pub overflow_add-size : goal.overflow_add-size
-overflow_add-size c =
-    omega (arith, c.places.ensures, decimal-short 9 c.args.number (omega arith), decimal-short 9 c.args.block (omega arith))
-
-pub overflow_add-size-2 : goal.overflow_add-size-2
-overflow_add-size-2 c =
-    omega (arith, c.places.ensures, c.places-2.ensures, decimal-short 9 c.args.number (omega arith), decimal-short 9 c.args.block (omega arith))
 
 pub returns-then-not-has_room : goal.returns-then-not-has_room
 returns-then-not-has_room c =
     let a = c.args in
-    puts_none _ _ _ (omega (arith, no_room a.at (6 + c.places.result + c.places-2.result) (length a.area.now) c.has_room.ensures (ap not c.if-not-has_room.true), c.places.ensures, c.places-2.ensures, length-bad a.number a.block))
+    puts_none _ _ _ (omega (arith, no_room a.at (6 + c.places.result + c.places-2.result) (length a.area.now) c.has_room.ensures (ap not c.if-not-has_room.true), c.places.ensures.exact, c.places-2.ensures.exact, length-bad a.number a.block))
 
 pub returns : goal.returns
 unfolding ascii
 returns c =
     let a = c.args in
     three (bad-parts a.number a.block) c.put-first.ensures
-    (omega (arith, has_room a.at (6 + c.places.result + c.places-2.result) (length a.area.now) c.has_room.ensures (ap not c.if-not-has_room.false), c.places.ensures, c.places-2.ensures, length-bad a.number a.block))
+    (omega (arith, has_room a.at (6 + c.places.result + c.places-2.result) (length a.area.now) c.has_room.ensures (ap not c.if-not-has_room.false), c.places.ensures.exact, c.places-2.ensures.exact, length-bad a.number a.block))
     c.put_then-second.ensures c.put_then.ensures

@@ -12,23 +12,12 @@ use Rattle.text.proofs.put_number.Goals as goal
 pub returns-then-not-has_room : goal.returns-then-not-has_room
 returns-then-not-has_room c =
     let a = c.args in
-    puts_none _ _ _ (omega (arith, no_room a.at c.places-size.result (length a.area.now) c.has_room.ensures (ap not c.if-not-has_room.true), c.places-size.ensures))
-
-pub overflow_add-end : goal.overflow_add-end
-overflow_add-end c =
-    let a = c.args in
-    omega (arith, has_room a.at c.places-size.result (length a.area.now) c.has_room.ensures (ap not c.if-not-has_room.false))
-
-pub spell-requires : goal.spell-requires
-spell-requires c =
-    let a = c.args in
-    let h : a.at + c.places-size.result ≤ length a.area.now = has_room _ _ _ c.has_room.ensures (ap not c.if-not-has_room.false) in
-    record { n_len_bound = omega (arith, c.places-size.ensures); end_in_bounds = h }
+    puts_none _ _ _ (omega (arith, no_room a.at c.places-size.result (length a.area.now) c.has_room.ensures (ap not c.if-not-has_room.true), c.places-size.ensures.exact))
 
 pub returns : goal.returns
 returns c =
     let a = c.args in
-    let e : c.places-size.result ≡ length (decimal a.n) = c.places-size.ensures in
+    let e : c.places-size.result ≡ length (decimal a.n) = c.places-size.ensures.exact in
     let h : a.at + c.places-size.result ≤ length a.area.now = has_room _ _ _ c.has_room.ensures (ap not c.if-not-has_room.false) in
     let p : a.at + c.places-size.result - length (decimal a.n) ≡ a.at = omega arith in
     rw e

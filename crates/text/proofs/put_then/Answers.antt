@@ -11,21 +11,16 @@ use Rattle.text.proofs.put_then.Goals as goal
 pub returns-then-not-has_room : goal.returns-then-not-has_room
 returns-then-not-has_room c =
     let a = c.args in
-    puts_none _ _ _ (omega (arith, no_room a.at c.places-size.result (length a.area.now) c.has_room.ensures (ap not c.if-not-has_room.true), c.places-size.ensures, length-append (decimal a.n) a.word.now))
-
-pub overflow_add-at : goal.overflow_add-at
-overflow_add-at c =
-    let a = c.args in
-    omega (arith, has_room a.at c.places-size.result (length a.area.now) c.has_room.ensures (ap not c.if-not-has_room.false))
+    puts_none _ _ _ (omega (arith, no_room a.at c.places-size.result (length a.area.now) c.has_room.ensures (ap not c.if-not-has_room.true), c.places-size.ensures.exact, length-append (decimal a.n) a.word.now))
 
 pub returns-then-not-has_room-2 : goal.returns-then-not-has_room-2
 returns-then-not-has_room-2 c =
     let a = c.args in
-    puts_none _ _ _ (omega (arith, no_room (a.at + c.places-size.result) (length a.word.now) (length a.area.now) c.has_room-2.ensures (ap not c.if-not-has_room-2.true), c.places-size.ensures, length-append (decimal a.n) a.word.now))
+    puts_none _ _ _ (omega (arith, no_room (a.at + c.places-size.result) (length a.word.now) (length a.area.now) c.has_room-2.ensures (ap not c.if-not-has_room-2.true), c.places-size.ensures.exact, length-append (decimal a.n) a.word.now))
 
 pub returns : goal.returns
 returns c =
     let a = c.args in
     joined c.put_number-after.ensures
-    (omega (arith, has_room (a.at + c.places-size.result) (length a.word.now) (length a.area.now) c.has_room-2.ensures (ap not c.if-not-has_room-2.false), c.places-size.ensures, length-append (decimal a.n) a.word.now))
+    (omega (arith, has_room (a.at + c.places-size.result) (length a.word.now) (length a.area.now) c.has_room-2.ensures (ap not c.if-not-has_room-2.false), c.places-size.ensures.exact, length-append (decimal a.n) a.word.now))
     c.put.ensures

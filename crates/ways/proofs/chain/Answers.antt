@@ -4,7 +4,7 @@ use mathlib.Core.List.{List, [], ◌++◌}
 use mathlib.Core.Logic.{inl, inr}
 use Prim.Native.Nat.{ℕ, ◌+◌, ◌-◌, ◌<◌}
 use native.Mathlib.Omega.{arith}
-use lib.ListN.{length, drop}
+use lib.ListN.{length, drop, replicate}
 use lib.Seq.{drop_at}
 use Rattle.lists.specs.Table.{table}
 use Rattle.lists.proofs.Tables.{length-table, table-add}
@@ -24,7 +24,7 @@ use Rattle.ways.proofs.LayerLaws.{Found, layers-found}
 use Rattle.ways.proofs.Steps.{ahead, back, chain-walk, walk-chain}
 use Rattle.ways.proofs.Shortest.{no-shorter, downhill, length-picked, picked-shown}
 use Rattle.ways.proofs.Counted.{few-crossings}
-use Rattle.ways.proofs.Answered.{ready, answer-refused, answer-done}
+use Rattle.ways.proofs.Answered.{ready, by-question, answer-refused, answer-done}
 use Rattle.ways.proofs.chain.Goals as goal
 
 -- what is behind n places of an area that was filled
@@ -34,16 +34,14 @@ rest n l =
     ap (λ (m : ℕ). drop n (table m (λ _. nobody))) (sym whole) ∙ ap (drop n) (table-add n (32 - n) (λ _. nobody))
     ∙ drop_at (table n (λ _. nobody)) (table (32 - n) (λ _. nobody)) n (length-table n (λ _. nobody))
 
--- the whole area was filled
-filled : (area before : List ℕ) → area ≡ table (length before) (λ _. nobody) → length before ≡ 32 → area ≡ table 32 (λ _. nobody)
-filled area before e l = e ∙ ap (λ (n : ℕ). table n (λ _. nobody)) l
+-- an area in which nobody stands
+blank : replicate {A = ℕ} 32 256 ≡ table 32 (λ _. nobody)
+unfolding table
+blank = refl
 
 -- by the layers of the plan's own table, from device e back
-module _ (plan : Plan) (s : State) (k d e : ℕ) (peers : List (List ℕ)) (to from far : List ℕ) (held : Held plan) (sound : Sound plan s) (h : d < devices plan) (g : e < devices plan)
-    (p : peers ≡ plan.peers) (t : to ≡ ahead_all plan.core.permissions peers plan.barred s k) (b : from ≡ table 256 (behind peers to)) (f : far ≡ layers from plan.core.role e) where
-  own : to ≡ ahead plan s k sound.size
-  own = t ∙ rw p
-
+module _ (plan : Plan) (s : State) (k d e : ℕ) (to from far : List ℕ) (held : Held plan) (sound : Sound plan s) (h : d < devices plan) (g : e < devices plan)
+    (t : to ≡ ahead_all plan.core.permissions plan.peers plan.barred s k) (b : from ≡ table 256 (behind plan.peers to)) (f : far ≡ layers from plan.core.role e) where
   first : d < 32
   first = omega (arith, few plan held, h)
 
@@ -52,18 +50,18 @@ module _ (plan : Plan) (s : State) (k d e : ℕ) (peers : List (List ℕ)) (to f
 
   found : Found (back plan s k sound.size held) plan.core.role e 31 far
   found =
-      let same : far ≡ layers (back plan s k sound.size held) plan.core.role e = f ∙ rw (b, own, p) in
+      let same : far ≡ layers (back plan s k sound.size held) plan.core.role e = f ∙ rw (b, t) in
       subst (Found _ _ e 31) (sym same) (layers-found _ _ e last)
 
   goes_down : Downhill plan.core.role to far
-  goes_down = rw own (downhill plan s k sound.size held e last far found)
+  goes_down = rw t (downhill plan s k sound.size held e last far found)
 
   shows : (area blank : List ℕ) → at far d < 32 → area ≡ picked plan.core.role to far (at far d) d ++ drop (at far d) blank → blank ≡ table 32 (λ _. nobody)
       → ChainTo plan s k d e (at far d) area
   shows area blank l a z =
       let ports : List ℕ = picked plan.core.role (ahead plan s k sound.size) far (at far d) d in
       let size : length ports ≡ at far d = length-picked plan s k sound.size held e last far found (at far d) d in
-      let same : area ≡ padded ports = a ∙ rw (own, z) (ap (λ (r : List ℕ). ports ++ r) (rest (at far d) (omega (arith, l)) ∙ ap (λ (m : ℕ). table (32 - m) (λ _. nobody)) (sym size))) in
+      let same : area ≡ padded ports = a ∙ rw (t, z) (ap (λ (r : List ℕ). ports ++ r) (rest (at far d) (omega (arith, l)) ∙ ap (λ (m : ℕ). table (32 - m) (λ _. nobody)) (sym size))) in
       subst (λ (r : List ℕ). ChainTo plan s k d e (at far d) r) (sym same)
       (subst (λ (n : ℕ). ChainTo plan s k d e n (padded ports)) size (reached (picked-shown plan s k sound.size held e last far found (at far d) d first l refl)))
 
@@ -77,33 +75,44 @@ module _ (plan : Plan) (s : State) (k d e : ℕ) (peers : List (List ℕ)) (to f
       omega (arith, no-shorter plan s k sound.size held e last far found d first short.0 short.2, short.1, w.1, l) in
       subst (λ (r : List ℕ). ChainTo plan s k d e (at far d) r) (sym a) (subst (λ (n : ℕ). ChainTo plan s k d e n (padded [])) (sym z) (not-reached out))
 
-pub returns-then-number-ne0 : goal.returns-then-number-ne0
-returns-then-number-ne0 c =
-    answer-refused _ _ _ _ _ _ _ _ _ _ _ c.refusal-number.ensures c.if-number-ne0.true c.refused.ensures
+pub returns-in_err-question_refusal : goal.returns-in_err-question_refusal
+returns-in_err-question_refusal c =
+    let some = c.in-Some.ensures.cases in
+    rw some.same
+    (answer-refused _ _ _ _ _ _ _ _ _ _ c.from_residual-in_err-question_refusal.ensures.1
+    (by-question _ _ _ _ _ _ _ c.in_ok-refusal.ensures some.long c.in_err-question_refusal.ensures))
 
-pub walk-requires : goal.walk-requires
-walk-requires c = (refl, (ready _ _ _ _ _ _ _ _ c.refusal-number.ensures c.if-number-ne0.false).device-small)
+pub unwrap-requires : goal.unwrap-requires
+unwrap-requires c = c.new.ensures.there.1 (ready _ _ _ _ _ c.in_ok-refusal.ensures c.in_ok-question_refusal.ensures).device-small
 
 pub offset_bounds-far-source : goal.offset_bounds-far-source
-offset_bounds-far-source c = record { fits = omega (arith, (ready _ _ _ _ _ _ _ _ c.refusal-number.ensures c.if-number-ne0.false).source-small) }
+offset_bounds-far-source c = record { fits = omega (arith, (ready _ _ _ _ _ c.in_ok-refusal.ensures c.in_ok-question_refusal.ensures).source-small) }
 
 pub bounds-far-source : goal.bounds-far-source
-bounds-far-source c = (ready _ _ _ _ _ _ _ _ c.refusal-number.ensures c.if-number-ne0.false).source-small
+bounds-far-source c = (ready _ _ _ _ _ c.in_ok-refusal.ensures c.in_ok-question_refusal.ensures).source-small
+
+pub unwrap-requires-then-n-lt-UNREACHED : goal.unwrap-requires-then-n-lt-UNREACHED
+unwrap-requires-then-n-lt-UNREACHED c =
+    c.new-then-n-lt-UNREACHED.ensures.there.1 (ready _ _ _ _ _ c.in_ok-refusal.ensures c.in_ok-question_refusal.ensures).source-small
 
 pub follow-requires : goal.follow-requires
 follow-requires c =
-    let r = ready _ _ _ _ _ _ _ _ c.refusal-number.ensures c.if-number-ne0.false in
-    (c.fill.auto.area ∙ r.fits, r.source-small, c.if-n-lt-UNREACHED.true, goes_down _ _ _ _ _ _ _ _ _ r.held r.sound r.source r.device c.peers_of-peers.ensures c.ahead_all-to.ensures c.behind_all-back.ensures c.walk.ensures, refl)
+    let r = ready _ _ _ _ _ c.in_ok-refusal.ensures c.in_ok-question_refusal.ensures in
+    let walked = rw (rw c.unwrap.ensures at c.new.ensures.number) at c.walk.ensures in
+    let source = rw c.unwrap-then-n-lt-UNREACHED.ensures at c.new-then-n-lt-UNREACHED.ensures.number in
+    rw source (c.if-n-lt-UNREACHED.true, goes_down _ _ _ _ _ _ _ _ r.held r.sound r.source r.device c.ahead_all-to.ensures c.behind_all.ensures walked)
 
 pub returns-then-n-lt-UNREACHED : goal.returns-then-n-lt-UNREACHED
 returns-then-n-lt-UNREACHED c =
-    let r = ready _ _ _ _ _ _ _ _ c.refusal-number.ensures c.if-number-ne0.false in
-    answer-done _ _ _ _ _ _ _ _ _ _ _ c.refusal-number.ensures c.if-number-ne0.false
-    (shows _ _ _ _ _ _ _ _ _ r.held r.sound r.source r.device c.peers_of-peers.ensures c.ahead_all-to.ensures c.behind_all-back.ensures c.walk.ensures _ _ c.if-n-lt-UNREACHED.true
-    c.follow.ensures (filled _ c.args.ports.now c.fill.ensures r.fits))
+    let r = ready _ _ _ _ _ c.in_ok-refusal.ensures c.in_ok-question_refusal.ensures in
+    let walked = rw (rw c.unwrap.ensures at c.new.ensures.number) at c.walk.ensures in
+    let followed = rw (rw c.unwrap-then-n-lt-UNREACHED.ensures at c.new-then-n-lt-UNREACHED.ensures.number) at c.follow.ensures in
+    answer-done _ _ _ _ _ _ _ _ _ _ (by-question _ _ _ _ _ _ _ c.in_ok-refusal.ensures c.in-Some.ensures.cases.long c.in_ok-question_refusal.ensures)
+    (shows _ _ _ _ _ _ _ _ r.held r.sound r.source r.device c.ahead_all-to.ensures c.behind_all.ensures walked _ _ c.if-n-lt-UNREACHED.true followed blank)
 
 pub returns-else-n-lt-UNREACHED : goal.returns-else-n-lt-UNREACHED
 returns-else-n-lt-UNREACHED c =
-    let r = ready _ _ _ _ _ _ _ _ c.refusal-number.ensures c.if-number-ne0.false in
-    answer-done _ _ _ _ _ _ _ _ _ _ _ c.refusal-number.ensures c.if-number-ne0.false
-    (hides _ _ _ _ _ _ _ _ _ r.held r.sound r.source r.device c.peers_of-peers.ensures c.ahead_all-to.ensures c.behind_all-back.ensures c.walk.ensures _ (λ l. omega (arith, l, c.if-n-lt-UNREACHED.false)) (filled _ c.args.ports.now c.fill.ensures r.fits))
+    let r = ready _ _ _ _ _ c.in_ok-refusal.ensures c.in_ok-question_refusal.ensures in
+    let walked = rw (rw c.unwrap.ensures at c.new.ensures.number) at c.walk.ensures in
+    answer-done _ _ _ _ _ _ _ _ _ _ (by-question _ _ _ _ _ _ _ c.in_ok-refusal.ensures c.in-Some.ensures.cases.long c.in_ok-question_refusal.ensures)
+    (hides _ _ _ _ _ _ _ _ r.held r.sound r.source r.device c.ahead_all-to.ensures c.behind_all.ensures walked _ (λ l. omega (arith, l, c.if-n-lt-UNREACHED.false)) blank)

@@ -1,23 +1,25 @@
 -- `ways::crossings` meets its contract: the numbers of the layers are those of crossings. Assumes nothing.
-use mathlib.Core.Path.{◌∙◌}
 use Rattle.ways.proofs.Counted.{walked, all-crossings}
-use Rattle.ways.proofs.Answered.{ready, answer-refused, answer-done}
+use Rattle.ways.proofs.Answered.{ready, by-state, by-question, answer-refused, answer-done}
 use Rattle.ways.proofs.crossings.Goals as goal
 
-pub returns-then-number-ne0 : goal.returns-then-number-ne0
-returns-then-number-ne0 c =
-    answer-refused _ _ _ _ _ _ _ _ _ _ _ c.refusal-number.ensures c.if-number-ne0.true c.refused.ensures
+pub returns-in_err-refusal : goal.returns-in_err-refusal
+returns-in_err-refusal c =
+    answer-refused _ _ _ _ _ _ _ _ _ _ c.from_residual.ensures.1 (by-state _ _ _ _ _ 32 _ c.in_err-refusal.field-0.0 c.in_err-refusal.ensures)
 
-pub walk-requires : goal.walk-requires
-walk-requires c = ((ready _ _ _ _ _ _ _ _ c.refusal-number.ensures c.if-number-ne0.false).fits, (ready _ _ _ _ _ _ _ _ c.refusal-number.ensures c.if-number-ne0.false).source-small)
+pub returns-in_err-question_refusal : goal.returns-in_err-question_refusal
+returns-in_err-question_refusal c =
+    let some = c.in-Some.ensures.cases in
+    rw some.same
+    (answer-refused _ _ _ _ _ _ _ _ _ _ c.from_residual-in_err-question_refusal.ensures.1
+    (by-question _ _ _ _ _ _ _ c.in_ok-refusal.ensures some.long c.in_err-question_refusal.ensures))
 
-pub greatest-requires : goal.greatest-requires
-greatest-requires c =
-    c.walk.auto.far ∙ (ready _ _ _ _ _ _ _ _ c.refusal-number.ensures c.if-number-ne0.false).fits
+pub unwrap-requires : goal.unwrap-requires
+unwrap-requires c = c.new.ensures.there.1 (ready _ _ _ _ _ c.in_ok-refusal.ensures c.in_ok-question_refusal.ensures).source-small
 
 pub returns : goal.returns
 returns c =
-    let r = ready _ _ _ _ _ _ _ _ c.refusal-number.ensures c.if-number-ne0.false in
-    answer-done _ _ _ _ _ _ _ _ _ _ _ c.refusal-number.ensures c.if-number-ne0.false
+    let r = ready _ _ _ _ _ c.in_ok-refusal.ensures c.in_ok-question_refusal.ensures in
+    answer-done _ _ _ _ _ _ _ _ _ _ (by-question _ _ _ _ _ _ _ c.in_ok-refusal.ensures c.in-Some.ensures.cases.long c.in_ok-question_refusal.ensures)
     (all-crossings _ r.held _ _ _ r.source r.sound.size _
-    (walked _ r.held _ _ _ r.source r.sound _ _ _ c.peers_of-peers.ensures c.ahead_all-to.ensures c.walk.ensures) _ c.greatest.ensures)
+    (walked _ r.held _ _ _ r.source r.sound _ _ c.ahead_all.ensures (rw (rw c.unwrap.ensures at c.new.ensures.number) at c.walk.ensures)) _ c.greatest.ensures)

@@ -25,6 +25,6 @@ pub slice_bounds-write_all-end : goal.slice_bounds-write_all-end
 slice_bounds-write_all-end g c = sym (length-take-le _ _ (made-room c.make-length.ensures))
 
 pub returns-in-Ok : goal.returns-in-Ok
-returns-in-Ok g c = λ e.
+returns-in-Ok g c =
     let made = made-text c.make-length.ensures in
     (made.0, made.1, subst (Appends _ _) made.2 c.in-Ok.ensures.bytes)

@@ -4,4 +4,4 @@ use Rattle.bench.proofs.rounds.choice.Goals as goal
 
 pub returns : goal.returns
 unfolding word
-returns c = first-is _ _ c.first.ensures
+returns c = first-is _ _ (rw c.index.ensures.equal at c.first.ensures)

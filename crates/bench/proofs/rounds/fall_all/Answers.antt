@@ -1,37 +1,32 @@
-use mathlib.Core.Path.{◌∙◌}
-use Prim.Native.Nat.{◌*◌}
+use Prim.Native.Nat.{◌+◌, ◌*◌}
 use native.Mathlib.Omega.{arith}
-use Rattle.bench.specs.Round.{fall}
-use Rattle.bench.proofs.Following.{follows-none, follows-block, follows-done}
-use Rattle.bench.proofs.Idles.{falls_of, rests-yet}
-use borrow.Author.Rules.{rules}
-use Rattle.bench.proofs.rounds.fall_all.Invariants.{router}
+use Rattle.bench.specs.Round.{fall, fallen}
+use Rattle.state.specs.Network.{router}
+use Rattle.bench.proofs.Following.{turns-none, turns-block, turns-done}
+use Rattle.bench.proofs.Idles.{falls, falls_of, rests-yet}
 use Rattle.bench.proofs.rounds.fall_all.Goals as goal
 
 pub loop-d-init : goal.loop-d-init
-loop-d-init c = record { within = omega arith; count = omega arith; state = search rules; area = search rules; follows = follows-none _ }
+loop-d-init c = record { within = omega arith; leads = turns-none _ }
 
-pub fall_device-count-requires : goal.fall_device-count-requires
-fall_device-count-requires c =
+pub fall_device-requires : goal.fall_device-requires
+fall_device-requires c =
     let l = c.loop-d in
-    (l.invariant.state, omega arith, omega arith, rests-yet (router c.args.role.now) l.d (c.requires.2 l.d (omega arith)) l.invariant.follows)
+    let d = rw c.unwrap-device.ensures at c.new.ensures.number in
+    (omega (arith, l.invariant.leads.more, c.requires.0.few, c.requires.2), rw d (rests-yet (router c.args.plan.now) l.d c.requires.2 (c.requires.1.resting l.d (omega arith)) l.invariant.leads))
 
 pub loop-d-preserved : goal.loop-d-preserved
 loop-d-preserved c =
     let l = c.loop-d in
-    let is_router = router c.args.role.now in
+    let is_router = router c.args.plan.now in
+    let d = rw c.unwrap-device.ensures at c.new.ensures.number in
     record {
       within = omega arith;
-      count = omega (arith, c.fall_device-count.ensures.1);
-      state = c.fall_device-count.auto.state ∙ l.invariant.state;
-      area = c.fall_device-count.auto.told ∙ l.invariant.area;
-      follows =
-          follows-done _
-          (follows-block _ (fall (is_router l.d) l.d) (32 * l.d) 32 l.invariant.follows c.fall_device-count.ensures.0 (falls_of is_router l.d))
-          (omega arith);
+      leads = turns-done (falls is_router) _ (turns-block (falls is_router) (32 * l.d) l.invariant.leads (fall (is_router l.d) l.d) 32 {k = 32 * (l.d + 1)} (rw d at c.fall_device.ensures) (falls_of is_router l.d) (omega arith)) (omega arith) (omega arith);
     }
 
 pub returns : goal.returns
+unfolding fallen
 returns c =
     let l = c.loop-d.invariant in
-    (follows-done _ l.follows (omega arith), omega arith)
+    turns-done _ _ l.leads (omega (arith, l.within)) (omega (arith, c.requires.0.few, l.within))

@@ -1,35 +1,32 @@
-use mathlib.Core.Path.{◌≡◌, sym, ap, ◌∙◌}
+use mathlib.Core.Path.{◌≡◌, refl, sym, ap, ◌∙◌}
 use mathlib.Core.Bool.{Bool}
 use mathlib.Core.Logic.{dite}
 use Prim.Native.Nat.{ℕ, ◌+◌, ◌^◌, ◌≤◌, ◌<◌}
 use native.Mathlib.Decide.{dec_lt}
 use native.Mathlib.Omega.{arith}
 use lib.Count.{count_trailing_zeros}
-use lib.ListN.{length}
 use Rattle.lists.specs.Loop.{up_to}
 use Rattle.bits.specs.Set.{bit, leave}
 use Rattle.bits.proofs.Sets.{bit-zero, leave_same, leave-other, leave-lt, leave-less}
 use Rattle.bits.proofs.Trailing.{trailing_below, trailing_at, trailing_lt}
-use Rattle.state.specs.State.{words, timer}
+use Rattle.state.specs.State.{State, timer}
 use Rattle.bench.specs.Round.{fall}
-use Rattle.bench.specs.Inner.Shown.{Seen, seen, Follows}
-use Rattle.bench.proofs.Following.{follows-more}
-use Rattle.bench.proofs.Idles.{rests-follows}
+use Rattle.bench.specs.Inner.Shown.{Leads}
+use Rattle.bench.specs.declared.rounds.Told.{Told}
+use Rattle.bench.proofs.Following.{turns-more, turns-done}
+use Rattle.bench.proofs.Idles.{rests-lead}
 use Rattle.bench.proofs.rounds.fall_device.Given as goal
 
 -- the timers before `at` have fallen; of the others only those run that are left in `rest`
-pub record Falling (router : Bool) (d size : ℕ) (x : Seen) (rest : ℕ) (y : Seen) : Type 0 where
+pub record Falling (router : Bool) (d : ℕ) (s : State) (told : Told) (rest : ℕ) (t : State) (now : Told) : Type 0 where
   pub at : ℕ
   pub within : at ≤ 32
   pub fits : rest < 2 ^ 32
   pub past : (k : ℕ) → k < at → bit rest k ≡ 0
-  pub idle : (k : ℕ) → at ≤ k → k < 32 → bit rest k ≡ 0 → timer x.state d k ≡ 0
-  pub count : y.count ≤ x.count + at
-  pub state : length y.state ≡ words
-  pub area : length y.area ≡ size
-  pub follows : Follows (up_to (fall router d) at) x y
+  pub idle : (k : ℕ) → at ≤ k → k < 32 → bit rest k ≡ 0 → timer s d k ≡ 0
+  pub leads : Leads (up_to (fall router d) at) at s told t now
 
-module _ {router : Bool} {d size : ℕ} {x : Seen} {rest : ℕ} {y : Seen} (v : Falling router d size x rest y) where
+module _ {router : Bool} {d : ℕ} {s : State} {told : Told} {rest : ℕ} {t : State} {now : Told} (v : Falling router d s told rest t now) where
   -- the next timer that runs
   module _ (some : 0 < rest) where
     abbrev pub k : ℕ
@@ -44,9 +41,8 @@ module _ {router : Bool} {d size : ℕ} {x : Seen} {rest : ℕ} {y : Seen} (v : 
     pub less : leave rest k < rest
     less = leave-less rest k low (trailing_at 32 rest low)
 
-    pub again : {z : Seen} → Follows (fall router d k) y z → z.count ≤ y.count + 1 → length z.state ≡ length y.state → length z.area ≡ length y.area
-        → Falling router d size x (leave rest k) z
-    again p n s a =
+    pub again : {u : State} {after : Told} → Leads (fall router d k) 1 t now u after → Falling router d s told (leave rest k) u after
+    again p =
         record {
           at = k + 1;
           within = omega (arith, low);
@@ -54,21 +50,18 @@ module _ {router : Bool} {d size : ℕ} {x : Seen} {rest : ℕ} {y : Seen} (v : 
           past = λ j h. dite (dec_lt j k) (λ l. leave-other rest k j (omega (arith, low)) (omega arith) ∙ trailing_below 32 rest j l)
               (λ l. let e : j ≡ k = omega arith in ap (bit (leave rest k)) e ∙ leave_same rest k low);
           idle = λ j h l z. v.idle j (omega (arith, ahead)) l (sym (leave-other rest k j l (omega arith)) ∙ z);
-          count = omega (arith, v.count, ahead);
-          state = s ∙ v.state;
-          area = a ∙ v.area;
-          follows =
-              follows-more _
-              (rests-follows router d ahead (λ j h l. v.idle j h (omega (arith, low)) (trailing_below 32 rest j l)) v.follows)
-              p;
+          leads =
+              turns-more (fall router d) k
+              (rests-lead router d ahead (λ j h l. v.idle j h (omega (arith, low)) (trailing_below 32 rest j l)) v.leads)
+              p (omega (arith, ahead));
         }
 
   -- none is left
-  pub done : rest ≡ 0 → Follows (up_to (fall router d) 32) x y
-  done e = rests-follows router d v.within (λ k h l. v.idle k h l (ap (λ (w : ℕ). bit w k) e ∙ bit-zero k)) v.follows
+  pub done : rest ≡ 0 → Leads (up_to (fall router d) 32) 32 s told t now
+  done e = turns-done (fall router d) 32 (rests-lead router d v.within (λ k h l. v.idle k h l (ap (λ (w : ℕ). bit w k) e ∙ bit-zero k)) v.leads) refl v.within
 
 abbrev pub invariant-loop-rest : goal.invariant-loop-rest
-invariant-loop-rest l = Falling l.router l.d (length l.initial.told) (seen l.initial.state l.initial.told l.count-2) l.rest (seen l.state l.told l.count)
+invariant-loop-rest l = Falling l.router l.d l.initial.state l.initial.told l.rest l.state l.told
 
 abbrev pub decreases-loop-rest : goal.decreases-loop-rest
 decreases-loop-rest l = l.rest

@@ -1,5 +1,4 @@
 use native.Mathlib.Omega.{arith}
-use lib.ListN.{length-set}
 use Rattle.state.specs.State.{word, put}
 use Rattle.bench.proofs.Following.{silent, noted}
 use Rattle.bench.proofs.Stepped.{fall-idle, fall-on, fall_ends, fall-tells}
@@ -8,32 +7,23 @@ use Rattle.bench.proofs.rounds.fall_one.Goals as goal
 pub returns-then-left-eq0 : goal.returns-then-left-eq0
 unfolding word
 returns-then-left-eq0 c =
-    let a = c.args in
-    (silent (λ told. fall-idle a.router a.d a.k a.state.now told c.if-left-eq0.true), omega arith)
+    let d = c.index-home.ensures.equal in
+    silent (λ l. fall-idle _ _ _ _ l (rw d at c.if-left-eq0.true))
 
 pub returns-then-left-ne1 : goal.returns-then-left-ne1
 unfolding word put
 returns-then-left-ne1 c =
-    let a = c.args in
-    (silent (λ told. fall-on a.router a.d a.k a.state.now told c.if-left-eq0.false c.if-left-ne1.true), omega arith)
-
-pub bounds-state-at-2 : goal.bounds-state-at-2
-bounds-state-at-2 c = simp length-set (omega arith)
-
-pub shape_of-state-then-router : goal.shape_of-state-then-router
-shape_of-state-then-router c = simp length-set
+    let d = c.index-home.ensures.equal in
+    rw d (silent (λ l. fall-on _ _ _ _ l (rw d at c.if-left-eq0.false) (rw d at c.if-left-ne1.true)))
 
 pub returns-then-router : goal.returns-then-router
 unfolding word put
 returns-then-router c =
-    let a = c.args in
-    (silent (λ told. fall_ends a.router a.d a.k a.state.now told c.leave.result c.if-left-ne1.false c.leave.ensures c.if-router.true), omega arith)
-
-pub shape_of-state : goal.shape_of-state
-shape_of-state c = simp length-set
+    let d = c.index-home.ensures.equal in
+    rw d (silent (λ l. fall_ends _ _ _ _ l c.leave.result (rw d at c.if-left-ne1.false) (rw d at c.leave.ensures) c.if-router.true))
 
 pub returns : goal.returns
 unfolding word put
 returns c =
-    let a = c.args in
-    (noted (λ told. fall-tells a.router a.d a.k a.state.now told c.leave.result c.if-left-ne1.false c.leave.ensures c.if-router.false) c.tell.ensures.0, omega (arith, c.tell.ensures.1))
+    let d = c.index-home.ensures.equal in
+    noted (λ l. rw d (fall-tells _ _ _ _ l c.leave.result (rw d at c.if-left-ne1.false) (rw d at c.leave.ensures) c.if-router.false)) (omega arith) c.tell.ensures

@@ -13,8 +13,9 @@ use borrow.Author.Tests.{lt-ltb, le-ltb}
 use Rattle.lists.specs.Table.{table}
 use Rattle.lists.proofs.Loops.{After, none, turn, still}
 use Rattle.lists.proofs.Tables.{is-table}
-use Rattle.bits.specs.declared.Found.TheVariants.{Nowhere}
-use Rattle.state.specs.State.{State, words, waiting, time}
+use Rattle.std.specs.Prelude.{None}
+use Rattle.state.specs.State.{State, waiting, time}
+use Rattle.state.specs.Network.{devices}
 use Rattle.bench.specs.Round.{nothing, sent_words, time_goes, chosen, sends, posts}
 use Rattle.bench.specs.Inner.Idle.{Silent}
 use Rattle.bench.proofs.Stepped.{goes-not, chosen_none, post-nothing, post-same}
@@ -27,22 +28,20 @@ Lacking n ports j = j < 8 * n → 8 * (j / 8) + get_or ports (j / 8) 0 ≤ j
 -- the ports before q have sent: what waited there has left, and their bytes stand in front
 pub record Posted (n : ℕ) (ports : List ℕ) (old next₀ : State) (q : ℕ) (next : State) (sent : List ℕ) : Type 0 where
   pub after : After (posts old) (8 * n) q next₀ next
-  pub long : length next ≡ words
   pub room : length sent ≡ sent_words
   pub front : (j : ℕ) → j < q → get_or sent j nothing ≡ sends old j
   pub rest : (j : ℕ) → q ≤ j → j < sent_words → Lacking n ports j → get_or sent j nothing ≡ nothing
 
-pub begun : (n : ℕ) (ports : List ℕ) (old next : State) (sent : List ℕ) → length next ≡ words → Silent n ports sent → Posted n ports old next 0 next sent
-begun n ports old next sent l x =
-    record { after = none; long = l; room = x.size; front = λ j h. absurd (omega arith); rest = λ j a b h. x.unsent j b h }
+pub begun : (n : ℕ) (ports : List ℕ) (old next : State) (sent : List ℕ) → Silent n ports sent → Posted n ports old next 0 next sent
+begun n ports old next sent x =
+    record { after = none; room = x.size; front = λ j h. absurd (omega arith); rest = λ j a b h. x.unsent j b h }
 
 module _ {n : ℕ} {ports : List ℕ} {old next₀ : State} {q : ℕ} {next : State} {sent : List ℕ} (few : n ≤ 32) (v : Posted n ports old next₀ q next sent) where
-  pub again : q < 8 * n → {byte : ℕ} → byte ≡ sends old q → {t : State} → t ≡ posts old q next → length t ≡ length next
+  pub again : q < 8 * n → {byte : ℕ} → byte ≡ sends old q → {t : State} → t ≡ posts old q next
       → Posted n ports old next₀ (q + 1) t (set sent q byte)
-  again h {byte} p e l =
+  again h {byte} p e =
       record {
         after = turn v.after h e;
-        long = l ∙ v.long;
         room = length-set sent q byte ∙ v.room;
         front = λ j m. elim (ℕ_discrete j q) [
           | yes z ↦ rw z (get_or-set_same sent q byte nothing (omega (arith, v.room)) ∙ p)
@@ -55,11 +54,10 @@ module _ {n : ℕ} {ports : List ℕ} {old next₀ : State} {q : ℕ} {next : St
   pub skip : {e : ℕ} → q ≤ e → e ≤ 8 * n → ((j kind : ℕ) → q ≤ j → j < e → kind < 2 → waiting old kind j ≡ 0) → ((j : ℕ) → q ≤ j → j < e → time old j ≡ 0)
       → ((j : ℕ) → q ≤ j → j < e → Lacking n ports j) → Posted n ports old next₀ e next sent
   skip {e} l h w x lacks =
-      let nowhere : (j : ℕ) → q ≤ j → j < e → chosen old j ≡ Nowhere = λ j a b. chosen_none old j (λ kind k. w j kind a b k) in
+      let nowhere : (j : ℕ) → q ≤ j → j < e → chosen old j ≡ None = λ j a b. chosen_none old j (λ kind k. w j kind a b k) in
       let no-time : (j : ℕ) → q ≤ j → j < e → time_goes old j ≡ false = λ j a b. goes-not old j (rw (x j a b)) in
       record {
         after = still (posts old) v.after l h (λ j a b. post-same old j (no-time j a b) (nowhere j a b) next);
-        long = v.long;
         room = v.room;
         front = λ j m. dite (dec_lt j q) (v.front j)
             (λ n. v.rest j (omega arith) (omega arith) (lacks j (omega arith) m) ∙ sym (post-nothing old j (no-time j (omega arith) m) (nowhere j (omega arith) m)));
@@ -75,13 +73,16 @@ module _ {n : ℕ} {ports : List ℕ} {old next₀ : State} {q : ℕ} {next : St
 
 abbrev pub invariant-loop-q : goal.invariant-loop-q
 invariant-loop-q l =
-    ((start : State) → Posted l.n l.ports l.old start l.first l.initial.next l.initial.sent → Posted l.n l.ports l.old start l.q l.next l.sent) × (l.q ≤ l.end) × (l.end ≤ 8 * l.n)
+    ((start : State) → Posted (devices l.plan) l.plan.core.ports l.old start l.first l.initial.next l.initial.sent
+    → Posted (devices l.plan) l.plan.core.ports l.old start l.q l.next l.sent)
+    × (l.q ≤ l.end)
+    × (l.end ≤ 8 * devices l.plan)
 
 abbrev pub decreases-loop-q : goal.decreases-loop-q
 decreases-loop-q l = l.end - l.q
 
 abbrev pub invariant-loop-d : goal.invariant-loop-d
-invariant-loop-d l = Posted l.n l.ports l.old l.initial.next (8 * l.d) l.next l.sent × (l.d ≤ l.n)
+invariant-loop-d l = Posted (devices l.plan) l.plan.core.ports l.old l.initial.next (8 * l.d) l.next l.sent × (l.d ≤ devices l.plan)
 
 abbrev pub decreases-loop-d : goal.decreases-loop-d
-decreases-loop-d l = l.n - l.d
+decreases-loop-d l = devices l.plan - l.d

@@ -1,27 +1,23 @@
-use mathlib.Core.Path.{refl, ap, ◌∙◌}
-use Prim.Native.Nat.{ℕ}
-use native.Mathlib.Omega.{arith}
-use Rattle.answers.proofs.Outcomes.{holds}
-use Rattle.lists.specs.Table.{table}
-use Rattle.state.specs.Sound.{state_asks}
-use Rattle.bench.proofs.SettlingLoop.{not-ready, second-long, too_many, ends, held-parts, sound-parts, ends-plan}
+use Rattle.std.proofs.Common.{ap, ◌∙◌, arith, length}
+use Rattle.bench.proofs.SettlingLoop.{ready, cleared, not-ready, too_many, ends}
 use Rattle.bench.proofs.settling.settle.Goals as goal
 
-pub returns-then-number-ne0 : goal.returns-then-number-ne0
-returns-then-number-ne0 c = rw c.refused.ensures (not-ready _ _ _ c.refusal-number.ensures c.if-number-ne0.true)
-
-pub returns-then-second-ne-WORDS : goal.returns-then-second-ne-WORDS
-returns-then-second-ne-WORDS c = rw c.refused-then-second-ne-WORDS.ensures (second-long _ _ _ (holds (state_asks _ _) refl c.refusal-number.ensures c.if-number-ne0.false) c.if-second-ne-WORDS.true)
+pub returns-in_err-refusal : goal.returns-in_err-refusal
+returns-in_err-refusal c = not-ready _ _ _ _ _ c.from_residual.ensures.1 c.in_err-refusal.ensures
 
 pub returns-then-allowance-gt-ROUNDS : goal.returns-then-allowance-gt-ROUNDS
-returns-then-allowance-gt-ROUNDS c = rw c.refused-then-allowance-gt-ROUNDS.ensures (too_many _ _ _ (holds (state_asks _ _) refl c.refusal-number.ensures c.if-number-ne0.false) c.if-second-ne-WORDS.false (λ l. omega arith))
+returns-then-allowance-gt-ROUNDS c =
+    let second = c.in-Some.ensures.cases in
+    rw second.same (too_many _ _ _ (ready _ _ c.in_ok-refusal.ensures) second.long (λ l. omega arith))
 
 pub run-requires : goal.run-requires
 run-requires c =
-    let e = c.peers_of.ensures in
-    let r = (holds (state_asks _ _) refl c.refusal-number.ensures c.if-number-ne0.false) in
-    (held-parts _ e r.0, sound-parts e r.1.0, c.fill.ensures ∙ ap (λ (k : ℕ). table k (λ _. 0)) c.if-second-ne-WORDS.false, omega arith)
+    let r = ready _ _ c.in_ok-refusal.ensures in
+    let second = c.in-Some.ensures.cases in
+    let state = rw c.unwrap-state.ensures at c.as_mut_array-2.ensures.cases in
+    (r.0, rw state.same r.1.0, cleared (ap length second.same ∙ second.long) (c.fill.ensures.after (λ y e. e)), omega arith)
 
 pub returns : goal.returns
 returns c =
-    ends _ _ _ (holds (state_asks _ _) refl c.refusal-number.ensures c.if-number-ne0.false) c.if-second-ne-WORDS.false (omega arith) (ends-plan c.peers_of.ensures c.run.ensures)
+    let state = rw c.unwrap-state.ensures at c.as_mut_array-2.ensures.cases in
+    ends _ _ _ (ready _ _ c.in_ok-refusal.ensures) c.in-Some.ensures.cases.long (omega arith) (rw state.same at c.run.ensures)

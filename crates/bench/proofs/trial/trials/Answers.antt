@@ -1,25 +1,27 @@
-use mathlib.Core.Bool.{not}
-use mathlib.Core.Path.{ap, ◌∙◌}
-use Rattle.answers.proofs.Outcomes.{granted, denied}
-use Rattle.lists.specs.Table.{table}
-use Rattle.bench.proofs.SettlingLoop.{held-parts}
-use Rattle.bench.proofs.Tried.{not-held, misfits, finds}
+use Rattle.std.proofs.Common.{ap, ◌∙◌, arith, length}
+use Rattle.bench.proofs.SettlingLoop.{cleared}
+use Rattle.bench.proofs.Tried.{misfits, finds}
 use Rattle.bench.proofs.trial.trials.Goals as goal
 
-pub returns-then-not-is_held : goal.returns-then-not-is_held
-returns-then-not-is_held c = not-held _ _ _ _ (denied c.is_held.ensures (ap not c.if-not-is_held.true))
+pub returns-in_default-as_mut_array : goal.returns-in_default-as_mut_array
+returns-in_default-as_mut_array c =
+    let state = c.in-Some.ensures.cases in
+    rw state.same (misfits _ _ _ _ (c.is_held.ensures.only c.if-not-is_held.false) (λ f. c.in_default-as_mut_array.ensures.cases f.0.1))
 
-pub returns-then-not-fits : goal.returns-then-not-fits
-returns-then-not-fits c = misfits _ _ _ _ (granted c.is_held.ensures (ap not c.if-not-is_held.false)) (denied c.fits.ensures (ap not c.if-not-fits.true))
+pub returns-in_default-as_mut_array-2 : goal.returns-in_default-as_mut_array-2
+returns-in_default-as_mut_array-2 c =
+    let state = c.in-Some.ensures.cases in
+    let second = c.in-Some-as_mut_array.ensures.cases in
+    rw (state.same, second.same) (misfits _ _ _ _ (c.is_held.ensures.only c.if-not-is_held.false) (λ f. c.in_default-as_mut_array-2.ensures.cases f.1))
 
 pub try_all-requires : goal.try_all-requires
 try_all-requires c =
-    let f = granted c.fits.ensures (ap not c.if-not-fits.false) in
-    (held-parts _ c.peers_of.ensures (granted c.is_held.ensures (ap not c.if-not-is_held.false)), f.0.0, c.fill.ensures ∙ ap (λ n. table n (λ _. 0)) f.0.1, f.1)
+    let second = c.in-Some-as_mut_array.ensures.cases in
+    (c.is_held.ensures.only c.if-not-is_held.false, cleared (ap length second.same ∙ second.long) (c.fill.ensures.after (λ y e. e)))
 
 pub returns : goal.returns
 returns c =
-    let f = granted c.fits.ensures (ap not c.if-not-fits.false) in
-    finds _ _ _ _ (granted c.is_held.ensures (ap not c.if-not-is_held.false)) c.peers_of.ensures f c.try_all.ensures.0
-    (c.fill-2.ensures ∙ ap (λ n. table n (λ i. 0)) (c.try_all.auto.state ∙ f.0.0))
+    let state = c.in-Some.ensures.cases in
+    finds _ _ _ _ (c.is_held.ensures.only c.if-not-is_held.false) ((state.long, c.in-Some-as_mut_array.ensures.cases.long), c.in-Some-as_mut_array-2.ensures.cases.long) c.try_all.ensures.0
+    (cleared (omega arith) (c.fill-2.ensures.after (λ y e. e)))
     c.try_all.ensures.1

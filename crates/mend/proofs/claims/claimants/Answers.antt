@@ -5,7 +5,7 @@ pub loop-q-init : goal.loop-q-init
 loop-q-init c = claimed-none _
 
 pub loop-q-preserved : goal.loop-q-preserved
-loop-q-preserved c = claimed-more c.loop-q.invariant c.loop-q-test.true (rw c.wide16.ensures.0 at c.claim.ensures)
+loop-q-preserved c = claimed-more c.loop-q.invariant c.loop-q-test.true (rw c.from.ensures at c.claim.ensures)
 
 pub returns : goal.returns
 returns c = claimed-all c.loop-q.invariant c.loop-q-test.false

@@ -1,12 +1,9 @@
-use native.Mathlib.Omega.{arith}
-use Rattle.lists.proofs.Filled.{filled_none, filled_more, filled-whole}
+-- `mend::routers::peers` meets its contract: the row of each device. Assumes nothing.
+use mathlib.Core.List.{[]}
+use Rattle.std.proofs.Common.{rules}
+use Rattle.plan.proofs.Ranges.{made}
+use Rattle.mend.specs.Inner.Steps.{peers_in, row_in}
 use Rattle.mend.proofs.routers.peers.Goals as goal
 
-pub loop-d-init : goal.loop-d-init
-loop-d-init c = filled_none (omega arith)
-
-pub loop-d-preserved : goal.loop-d-preserved
-loop-d-preserved c = filled_more c.loop-d.invariant c.loop-d-test.true c.row.ensures
-
 pub returns : goal.returns
-returns c = filled-whole c.loop-d.invariant c.loop-d-test.false
+returns c = made (row_in (peers_in c.args.claimants.now)) [] c.from_fn.ensures.items (λ d y q l k. search rules)

@@ -1,12 +1,8 @@
-use native.Mathlib.Omega.{arith}
-use Rattle.lists.proofs.Filled.{filled_none, filled_more, filled-whole}
+-- `mend::routers::ports` meets its contract: the number of each device. Assumes nothing.
+use Rattle.std.proofs.Common.{rules}
+use Rattle.plan.proofs.Ranges.{made}
+use Rattle.mend.specs.Inner.Steps.{peers_in, ports_in}
 use Rattle.mend.proofs.routers.ports.Goals as goal
 
-pub loop-d-init : goal.loop-d-init
-loop-d-init c = filled_none (omega arith)
-
-pub loop-d-preserved : goal.loop-d-preserved
-loop-d-preserved c = filled_more c.loop-d.invariant c.loop-d-test.true c.ports_of.ensures
-
 pub returns : goal.returns
-returns c = filled-whole c.loop-d.invariant c.loop-d-test.false
+returns c = made (ports_in (peers_in c.args.claimants.now)) 0 c.from_fn.ensures.items (λ d y q l k. search rules)

@@ -7,6 +7,7 @@ use lib.Dec.{eqb}
 use Rattle.plan.specs.Fields.{nobody}
 use Rattle.plan.specs.Inner.Memory.{at}
 use Rattle.mend.specs.Claims.{last}
+use Rattle.mend.specs.Inner.Steps.{peers_in}
 use Rattle.mend.proofs.routers.ports_of.Given as goal
 
 -- the last of n of a device's ports at which a test is true, or port 0
@@ -26,7 +27,7 @@ highest-more {f} {n} v h e =
     record { within = omega arith; small = rw e (either-below (f n) h v.small); same = rw add-one (e ∙ ap (cond (f n) n) v.same) }
 
 abbrev pub invariant-loop-p : goal.invariant-loop-p
-invariant-loop-p l = Highest (λ q. not (eqb (at l.claimants (8 * l.d + q)) nobody)) l.p l.port
+invariant-loop-p l = Highest (λ q. not (eqb (at (peers_in l.claimants) (8 * l.d + q)) nobody)) l.p l.port
 
 abbrev pub decreases-loop-p : goal.decreases-loop-p
 decreases-loop-p l = 8 - l.p

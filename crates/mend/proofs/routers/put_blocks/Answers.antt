@@ -7,11 +7,12 @@ pub loop-d-init : goal.loop-d-init
 loop-d-init c = over_none (omega arith)
 
 pub put_block-requires : goal.put_block-requires
-put_block-requires c = (omega arith, omega arith)
+put_block-requires c = let d = rw c.unwrap.ensures at c.new.ensures.number in omega arith
 
 pub loop-d-preserved : goal.loop-d-preserved
 loop-d-preserved c =
-    over-more c.loop-d.invariant c.loop-d-test.true (omega arith) c.core-core.ensures c.peers-peers.ensures c.put_block.ensures
+    let d = rw c.unwrap.ensures at c.new.ensures.number in
+    over-more c.loop-d.invariant c.loop-d-test.true (omega arith) c.core-core.ensures c.peers-peers.ensures (rw d at c.put_block.ensures)
     (search rules)
 
 pub returns : goal.returns

@@ -1,24 +1,27 @@
-use mathlib.Core.Logic.{inl, inr}
+-- `mend::scan::scan` meets its contract. The invariant: the good blocks of the devices before d pass, and the damaged ones are marked. Assumes nothing.
 use native.Mathlib.Omega.{arith}
+use Rattle.std.proofs.lemmas.Result.{err_from_is_err_and}
 use Rattle.lists.proofs.Filled.{filled_none}
 use Rattle.mend.proofs.Marked.{stops-good, marks-more, marks-all}
 use Rattle.mend.proofs.scan.scan.Goals as goal
-use Rattle.mend.proofs.scan.scan.Goals.{then-number-ne0+else-marked-eq0, else-number-ne0}
 
 pub loop-d-init : goal.loop-d-init
-loop-d-init c = let p = c.requires in record { counted = omega arith; filled = filled_none (omega arith); pass = λ e h. absurd (omega arith) }
+loop-d-init c =
+    let p = c.args.blocks.now.fronted in
+    let few = p.few in
+    let long = p.long in
+    record { counted = omega arith; filled = filled_none (omega arith); pass = λ e h. absurd (omega arith) }
 
-pub returns-then-marked-eq0 : goal.returns-then-marked-eq0
-returns-then-marked-eq0 c =
-    stops-good c.requires c.loop-d.invariant
-    c.loop-d-test.true c.refusal_at-number.ensures c.mark-marked.ensures
-    c.if-number-ne0.true c.if-marked-eq0.true
+pub returns-in_err-damaged : goal.returns-in_err-damaged
+returns-in_err-damaged c =
+    let d = rw c.unwrap.ensures at c.new.ensures.number in
+    let p = err_from_is_err_and c.from_residual.result c.from_residual.ensures.1 in
+    rw (p.1, p.2) (stops-good c.args.blocks.now.fronted c.loop-d.invariant c.loop-d-test.true (rw d at c.in_err-damaged.ensures))
 
 pub loop-d-preserved : goal.loop-d-preserved
 loop-d-preserved c =
-    marks-more c.requires c.loop-d.invariant c.loop-d-test.true
-    c.refusal_at-number.ensures c.mark-marked.ensures
-    (elim c.if-number-ne0.branch [ then-number-ne0+else-marked-eq0 w ↦ inl w.if-marked-eq0.false | else-number-ne0 w ↦ inr w.if-number-ne0.false ])
+    let d = rw c.unwrap.ensures at c.new.ensures.number in
+    marks-more c.args.blocks.now.fronted c.loop-d.invariant c.loop-d-test.true _ (rw d at c.in_ok-damaged.ensures)
 
 pub returns : goal.returns
-returns c = marks-all c.requires c.loop-d.invariant c.loop-d-test.false
+returns c = marks-all c.args.blocks.now.fronted c.loop-d.invariant c.loop-d-test.false

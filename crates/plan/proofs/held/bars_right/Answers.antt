@@ -25,6 +25,8 @@ behind barred role ports d free long h e l =
 
 pub returns : goal.returns
 returns c =
-    let a = c.args in
+    let plan = c.args.plan.now in
+    let d = c.index-d.result in
     let f = c.free_masks.ensures in
-    c.zeros.ensures ∙ behind a.barred.now a.role a.ports a.d _ (omega arith) (omega arith) f.0 f.1
+    rw (← c.index-d.ensures.equal)
+    (c.zeros.ensures ∙ behind plan.barred (get_or plan.core.role d 0) (get_or plan.core.ports d 0) d _ (omega arith) (omega arith) f.0 f.1)

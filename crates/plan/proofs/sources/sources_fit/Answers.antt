@@ -1,13 +1,18 @@
 -- `plan::sources::sources_fit` meets its contract. The loop's invariant: the devices before d fit, and what was seen of them shares events alone
 -- with a mask exactly where each of theirs does. Assumes nothing.
-use mathlib.Core.Path.{◌≡◌, sym}
-use mathlib.Core.Bool.{true, false}
-use Prim.Native.Nat.{ℕ}
+use mathlib.Core.Path.{◌≡◌, sym, ap, ◌∙◌}
+use mathlib.Core.Bool.{Bool, true, false}
+use mathlib.Core.List.{List}
+use Prim.Native.Nat.{ℕ, min, ◌<◌, ◌≤◌}
 use native.Mathlib.Omega.{arith}
 use lib.Bits.{bit_and}
+use lib.ListN.{get_or, take}
 use borrow.Author.Tests.{eq-eqb, ne_eqb}
-use Rattle.plan.specs.Fields.{share_events}
-use Rattle.plan.proofs.Shared.{sources-fewer}
+use Rattle.std.specs.Ordering.{ord_min, nat_cmp}
+use Rattle.std.proofs.lemmas.Bool.Decides.{nat_tests}
+use Rattle.std.proofs.lemmas.List.{get_or-take, length-take}
+use Rattle.plan.specs.Fields.{share_events, sources_fit}
+use Rattle.plan.proofs.Shared.{sources-fewer, sources-same}
 use Rattle.plan.proofs.sources.sources_fit.Invariants.{none, one-bad, one_more_lem}
 use Rattle.plan.proofs.sources.sources_fit.Goals as goal
 
@@ -20,17 +25,31 @@ agree : (events a b : ℕ) → bit_and (bit_and a b) events ≡ bit_and a b → 
 unfolding share_events
 agree events a b e = eq-eqb _ _ e
 
-pub loop-d-init : goal.loop-d-init
-loop-d-init c = (omega arith, none _ _)
+-- the first of the sources, and then all of them
+all-of : (events n low : ℕ) (source : List ℕ) (r : Bool) → low ≡ min n 32 → sources_fit events (λ d. get_or (take low source) d 0) low ≡ r
+    → r ≡ sources_fit events (λ d. get_or source d 0) (min n 32)
+all-of events n low source r m e =
+    sym e ∙ sources-same events low _ _ (λ d h. get_or-take low source d 0 h) ∙ ap (sources_fit events (λ d. get_or source d 0)) m
 
-pub returns-then-n-d : goal.returns-then-n-d
-returns-then-n-d c = sym (sources-fewer _ _ _ _ (omega arith) c.loop-d.invariant.1.fits)
+least : (n low : ℕ) → low ≡ ord_min nat_cmp n 32 → low ≡ min n 32
+least n low e = grind (arith, nat_tests)
+
+pub loop-mask-init : goal.loop-mask-init
+loop-mask-init c = none _ _
 
 pub returns-then-again-events : goal.returns-then-again-events
-returns-then-again-events c = sym (one-bad _ _ _ _ _ c.loop-d.invariant.1 (differ _ _ _ c.if-again-events.true) (omega arith))
+returns-then-again-events c =
+    let a = c.args in
+    let m = least a.n _ c.min.ensures in
+    let d : c.loop-mask.mask-index < c.min.result = omega (arith, length-take c.min.result a.source) in
+    all-of a.events a.n _ a.source false m (one-bad _ _ _ _ _ c.loop-mask.invariant (differ _ _ _ c.if-again-events.true) d)
 
-pub loop-d-preserved : goal.loop-d-preserved
-loop-d-preserved c = (omega arith, one_more_lem _ _ _ _ c.loop-d.invariant.1 (agree _ _ _ c.if-again-events.false))
+pub loop-mask-preserved : goal.loop-mask-preserved
+loop-mask-preserved c = one_more_lem _ _ _ _ c.loop-mask.invariant (agree _ _ _ c.if-again-events.false)
 
 pub returns : goal.returns
-returns c = sym (sources-fewer _ _ _ _ (omega arith) c.loop-d.invariant.1.fits)
+returns c =
+    let a = c.args in
+    let m = least a.n _ c.min.ensures in
+    let d : c.min.result ≤ c.loop-mask.mask-index = omega (arith, length-take c.min.result a.source) in
+    all-of a.events a.n _ a.source true m (sources-fewer _ _ _ _ d c.loop-mask.invariant.fits)

@@ -2,7 +2,7 @@
 -- with a mask exactly where each of theirs does. Assumes nothing.
 use mathlib.Core.Path.{◌≡◌, refl, sym, ap, ap₂, ◌∙◌}
 use mathlib.Core.Bool.{true, false, ◌&&◌}
-use Prim.Native.Nat.{ℕ, ◌+◌, ◌-◌, ◌<◌, ◌≤◌}
+use Prim.Native.Nat.{ℕ, ◌+◌, ◌<◌}
 use native.Mathlib.Numerals.{add-one}
 use lib.Bits.{bit_or}
 use lib.ListN.{get_or}
@@ -35,8 +35,5 @@ module _ (events : ℕ) (source : ℕ → ℕ) where
   unfolding sources_fit
   one-bad seen d n s e l = every-not n _ d l (sym (s.shares (source d)) ∙ e)
 
-abbrev pub invariant-loop-d : goal.invariant-loop-d
-invariant-loop-d l = (l.d ≤ 32) × Seen l.events (λ e. get_or l.source e 0) l.seen l.d
-
-abbrev pub decreases-loop-d : goal.decreases-loop-d
-decreases-loop-d l = 32 - l.d
+abbrev pub invariant-loop-mask : goal.invariant-loop-mask
+invariant-loop-mask l = Seen l.events (λ e. get_or l.mask-items e 0) l.seen l.mask-index

@@ -2,6 +2,7 @@
 use mathlib.Core.Path.{◌≡◌, ap}
 use Prim.Native.Nat.{ℕ, suc, ◌+◌, ◌-◌, ◌%◌}
 use native.Mathlib.Omega.{arith}
+use borrow.Author.Rules.{rules}
 use Rattle.plan.specs.Block.{check}
 use Rattle.planfile.proofs.Running.{running, running-weighted}
 use Rattle.planfile.proofs.block.check.Invariants.{down}
@@ -24,12 +25,11 @@ loop-i-preserved c =
     let l = c.loop-i in
     let e : l.i ≡ suc (suc (l.i - 2)) = omega arith in
     let n : l.i - 2 + 1 ≡ suc (l.i - 2) = omega arith in
-    let high = c.word-high.ensures in
-    down (rw e at l.invariant) (rw n at high.0) high.1 c.word.ensures.0 c.word.ensures.1
+    down (rw e at l.invariant) (rw n at c.from-high.ensures) (search rules) c.from.ensures (search rules)
 
 pub returns : goal.returns
 unfolding check running
 returns c =
     let v = c.loop-i.invariant in
     let e : c.loop-i.i ≡ 0 = omega (arith, v.twice) in
-    (ap (λ (x : ℕ). x % 65521) (rw e at v.comes-to), omega arith)
+    ap (λ (x : ℕ). x % 65521) (rw e at v.comes-to)

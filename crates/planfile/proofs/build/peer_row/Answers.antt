@@ -1,12 +1,13 @@
-use native.Mathlib.Omega.{arith}
-use Rattle.lists.proofs.Filled.{filled_none, filled_more, filled-whole}
+use mathlib.Core.Path.{ap, ◌∙◌}
+use mathlib.Core.List.{List}
+use Prim.Native.Nat.{ℕ}
+use Rattle.std.proofs.Common.{rules}
+use Rattle.plan.specs.Fields.{peer_number}
+use Rattle.plan.specs.Refusals.{device_block}
+use Rattle.planfile.proofs.Made.{made-whole}
 use Rattle.planfile.proofs.build.peer_row.Goals as goal
 
-pub loop-p-init : goal.loop-p-init
-loop-p-init c = filled_none (omega arith)
-
-pub loop-p-preserved : goal.loop-p-preserved
-loop-p-preserved c = filled_more c.loop-p.invariant c.loop-p-test.true c.peer.ensures
-
 pub returns : goal.returns
-returns c = filled-whole c.loop-p.invariant c.loop-p-test.false
+returns c =
+    made-whole 256 (peer_number (device_block c.args.file.now c.args.d)) c.each.ensures.long
+    (λ k h. let e = c.each.ensures.made k h in search rules ∙ ap (λ (s : List ℕ). peer_number s k) c.of-block.ensures)

@@ -10,4 +10,4 @@ pub loop-j-preserved : goal.loop-j-preserved
 loop-j-preserved c = turn c.loop-j.invariant (omega arith) c.put.ensures
 
 pub returns : goal.returns
-returns c = done c.loop-j.invariant (omega arith)
+returns c = rw c.index-d.ensures.equal at (done c.loop-j.invariant (omega arith))

@@ -10,4 +10,4 @@ pub loop-p-preserved : goal.loop-p-preserved
 loop-p-preserved c = turn c.loop-p.invariant (omega arith) c.put_entry.ensures
 
 pub returns : goal.returns
-returns c = done c.loop-p.invariant (omega arith)
+returns c = rw c.index-d.ensures.equal at (done c.loop-p.invariant (omega arith))

@@ -19,14 +19,14 @@ module _ (s : List ℕ) (k v : ℕ) (h : k < 32) where
   router e = rw (← router-at k) (e ∙ sym (pair-at s k 1 h (omega arith)))
 
 pub loop-k-init : goal.loop-k-init
-loop-k-init c = filled_more (filled_more (filled_none (omega arith)) (omega arith) c.two.ensures.0) (omega arith) c.two-2.ensures.0
+loop-k-init c = filled_more (filled_more (filled_none (omega arith)) (omega arith) c.two.ensures) (omega arith) c.two-2.ensures
 
 pub loop-k-preserved : goal.loop-k-preserved
 loop-k-preserved c =
     let s = c.args.block.now in
     let k = c.loop-k.k in
     let next : 2 + 2 * k + 1 + 1 ≡ 2 + 2 * (k + 1) = omega arith in
-    rw next at (filled_more (filled_more c.loop-k.invariant (omega arith) (node s k _ (omega arith) c.two-in-loop-k.ensures.0)) (omega arith) (router s k _ (omega arith) c.two-in-loop-k-2.ensures.0))
+    rw next at (filled_more (filled_more c.loop-k.invariant (omega arith) (node s k _ (omega arith) c.two-in-loop-k.ensures)) (omega arith) (router s k _ (omega arith) c.two-in-loop-k-2.ensures))
 
 pub returns : goal.returns
 returns c =

@@ -1,30 +1,19 @@
-use mathlib.Core.Path.{◌≡◌, sym, ◌∙◌}
-use mathlib.Core.List.{List}
-use Prim.Native.Nat.{ℕ}
+use mathlib.Core.Path.{refl, ◌∙◌}
 use native.Mathlib.Omega.{arith}
-use Rattle.plan.specs.Block.{byte}
-use Rattle.plan.specs.Refusals.{count_in}
+use Rattle.answers.proofs.Refusals.{positive}
 use Rattle.planfile.proofs.Scans.{front-refuses, front-passes, front-counts, front-few, devices-decide}
-use Rattle.planfile.proofs.Places.{count-in}
+use Rattle.std.proofs.Common.{rules}
 use Rattle.planfile.proofs.reader.scan.Goals as goal
 
--- byte 1 is the number of devices
-number : (file : List ℕ) {n : ℕ} → n ≡ byte file 1 → n ≡ count_in file
-number file e = e ∙ sym (count-in file)
+pub returns-in_err-front-clause-refusal : goal.returns-in_err-front-clause-refusal
+returns-in_err-front-clause-refusal c = search rules ∙ front-refuses _ c.in_err-front.ensures (λ z. let p = positive c.in_err-front.field-0.0.refusal in omega arith)
 
-pub returns-then-verdict-ne0 : goal.returns-then-verdict-ne0
-returns-then-verdict-ne0 c = front-refuses _ c.front-verdict.ensures c.if-verdict-ne0.true
+pub invariant_of-blocks : goal.invariant_of-blocks
+invariant_of-blocks c = let p = front-passes _ c.in_ok-front.ensures refl in record { few = front-few _ p; whole = front-counts _ p }
 
-pub bounds-file-1 : goal.bounds-file-1
-bounds-file-1 c = let h = front-counts _ (front-passes _ c.front-verdict.ensures c.if-verdict-ne0.false) in omega arith
+pub returns-in_err-scan_devices-clause-refusal : goal.returns-in_err-scan_devices-clause-refusal
+returns-in_err-scan_devices-clause-refusal c =
+    search rules ∙ c.in_err-scan_devices.ensures ∙ devices-decide _ (front-passes _ c.in_ok-front.ensures refl)
 
-pub scan_devices-requires : goal.scan_devices-requires
-scan_devices-requires c =
-    let p = front-passes _ c.front-verdict.ensures c.if-verdict-ne0.false in
-    let e = number c.args.file.now c.wide-n.ensures.0 in
-    let h = front-counts _ p in
-    let l = front-few _ p in
-    (omega arith, omega arith, e)
-
-pub returns : goal.returns
-returns c = c.scan_devices.ensures ∙ devices-decide _ (front-passes _ c.front-verdict.ensures c.if-verdict-ne0.false)
+pub returns-clause-refusal : goal.returns-clause-refusal
+returns-clause-refusal c = c.in_ok-scan_devices.ensures ∙ devices-decide _ (front-passes _ c.in_ok-front.ensures refl)

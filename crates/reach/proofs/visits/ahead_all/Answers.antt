@@ -1,15 +1,15 @@
--- `reach::visits::ahead_all` meets its contract. The invariant: the ports before port q are filled in. Assumes nothing.
+-- `reach::visits::ahead_all` meets its contract: what is ahead of each port, or no state. Assumes nothing.
 use mathlib.Core.Path.{◌≡◌, ◌∙◌}
 use mathlib.Core.List.{List}
-use Prim.Native.Nat.{ℕ, ◌≤◌}
-use native.Mathlib.Omega.{arith}
+use Prim.Native.Nat.{ℕ}
 use lib.ListN.{length, replicate, length-replicate, get_or-replicate}
-use borrow.Author.Rules.{rules}
 use borrow.Author.Tests.{eq-eqb, ne_eqb}
+use Rattle.std.proofs.Common.{rules}
+use Rattle.lists.specs.Table.{table}
 use Rattle.lists.proofs.Tables.{is-table, same-table}
-use Rattle.lists.proofs.Filled.{Filled, filled_none, filled_more, filled-whole}
+use Rattle.plan.proofs.Ranges.{made}
 use Rattle.state.specs.State.{State, words}
-use Rattle.reach.specs.Visits.{ahead, ahead_all}
+use Rattle.reach.specs.Visits.{ahead, ahead_in, ahead_all}
 use Rattle.reach.proofs.visits.ahead_all.Goals as goal
 
 module _ (permissions : List ℕ) (peers : List (List ℕ)) (barred : List ℕ) (s : State) (k : ℕ) where
@@ -17,18 +17,14 @@ module _ (permissions : List ℕ) (peers : List (List ℕ)) (barred : List ℕ) 
   unfolding ahead_all
   no-state n = is-table 256 _ (replicate 256 32) 0 (length-replicate {A = ℕ} 256 32) (λ i h. get_or-replicate 256 i 32 0 h ∙ rw (ne_eqb (length s) words n))
 
-  a-state : length s ≡ words → {q : ℕ} {out : List ℕ} → Filled 256 256 32 (ahead permissions peers barred s k) q out → 256 ≤ q → out ≡ ahead_all permissions peers barred s k
+  a-state : (out : List ℕ) → length s ≡ words → out ≡ table 256 (ahead permissions peers barred s k) → out ≡ ahead_all permissions peers barred s k
   unfolding ahead_all
-  a-state e f h = filled-whole f h ∙ same-table 256 _ _ (λ i l. rw (eq-eqb (length s) words e))
+  a-state out e f = f ∙ same-table 256 _ _ (λ i l. rw (eq-eqb (length s) words e))
 
-pub returns-then-state-ne-WORDS : goal.returns-then-state-ne-WORDS
-returns-then-state-ne-WORDS c = no-state _ _ _ _ _ c.if-state-ne-WORDS.true
-
-pub loop-q-init : goal.loop-q-init
-loop-q-init c = filled_none (omega arith)
-
-pub loop-q-preserved : goal.loop-q-preserved
-loop-q-preserved c = filled_more c.loop-q.invariant c.loop-q-test.true c.ahead.ensures
+pub returns-in_default : goal.returns-in_default
+returns-in_default c = no-state _ _ _ _ _ (search rules)
 
 pub returns : goal.returns
-returns c = a-state _ _ _ _ _ (search rules) c.loop-q.invariant c.loop-q-test.false
+returns c =
+    let a = c.args in
+    a-state _ _ _ _ _ c.from_fn.result (search rules) (made (ahead_in a.plan.now a.state.now a.k) 0 c.from_fn.ensures.items (λ i y q l k. search rules))

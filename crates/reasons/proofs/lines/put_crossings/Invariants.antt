@@ -1,9 +1,7 @@
-use Prim.Native.Nat.{◌-◌}
-use Rattle.reasons.proofs.Parts.{Crossed}
+use lib.ListN.{length, take}
+use Rattle.text.proofs.Within.{Lined}
+use Rattle.reasons.specs.Inner.Pieces.{joints, longest_crossing}
 use Rattle.reasons.proofs.lines.put_crossings.Given as goal
 
-abbrev pub invariant-loop-i : goal.invariant-loop-i
-invariant-loop-i l = Crossed l.peers l.ports l.n l.initial.text l.at l.i l.text l.end
-
-abbrev pub decreases-loop-i : goal.decreases-loop-i
-decreases-loop-i l = l.n - l.i
+abbrev pub invariant-loop-q : goal.invariant-loop-q
+invariant-loop-q l = Lined (λ i. joints l.peers (take i l.ports)) longest_crossing (length l.ports) l.initial.page l.q-index l.page

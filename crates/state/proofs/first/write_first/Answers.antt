@@ -1,15 +1,20 @@
 -- `state::write_first` meets its contract. The invariant: the ports before port q are written, in an area that is 0 otherwise. Assumes nothing.
-use mathlib.Core.Path.{◌∙◌, ap}
+use mathlib.Core.Path.{◌≡◌, ◌∙◌, ap}
 use mathlib.Core.Logic.{inl, inr}
+use Prim.Native.Nat.{ℕ}
 use native.Mathlib.Omega.{arith}
-use Rattle.lists.specs.Table.{table}
-use Rattle.state.specs.State.{put}
+use lib.ListN.{length, replicate}
+use Rattle.std.proofs.lemmas.List.{get_or-replicate, length-replicate}
+use Rattle.lists.proofs.Tables.{is-table}
+use Rattle.state.specs.State.{words, put}
 use Rattle.state.proofs.Written.{begins, again, all-begun}
 use Rattle.state.proofs.first.write_first.Goals as goal
 use Rattle.state.proofs.first.write_first.Goals.{then-peers-q-ne-NOBODY, else-peers-q-ne-NOBODY}
 
 pub loop-q-init : goal.loop-q-init
-loop-q-init c = (omega arith, begins _ (c.fill.ensures ∙ ap (λ n. table n (λ _. 0)) c.requires))
+loop-q-init c =
+    let long : length c.args.state.now ≡ words = omega arith in
+    (omega arith, begins _ (c.fill.ensures.after (λ y e. e) ∙ ap (λ n. replicate n 0) long ∙ is-table words (λ _. 0) _ 0 (length-replicate {A = ℕ} words 0) (λ i h. get_or-replicate words i 0 0 h)))
 
 pub loop-q-preserved : goal.loop-q-preserved
 unfolding put

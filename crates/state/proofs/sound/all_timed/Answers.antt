@@ -1,28 +1,23 @@
--- `state::all_timed` meets its contract. The invariant: the timers of the devices before d are sound. Assumes nothing.
-use mathlib.Core.Path.{sym, ◌∙◌}
-use native.Mathlib.Omega.{arith}
-use borrow.Author.Count.{below_none, below_more}
-use Rattle.lists.proofs.Tests.{every-all, every-not}
-use Rattle.state.specs.Inner.Tests.{all_timed}
+-- `state::all_timed` meets its contract: it asks each device. Assumes nothing.
+use mathlib.Core.Path.{◌≡◌, refl, ◌∙◌}
+use mathlib.Core.List.{List}
+use Prim.Native.Nat.{ℕ, min}
+use lib.ListN.{get_or}
+use borrow.Author.Tests.{tests}
+use Rattle.std.proofs.Common.{rules}
+use Rattle.lists.specs.Table.{every}
+use Rattle.plan.proofs.Ranges.{every-asked}
+use Rattle.state.specs.State.{State}
+use Rattle.state.specs.Inner.Tests.{device_timed, all_timed}
 use Rattle.state.proofs.sound.all_timed.Goals as goal
 
-pub loop-d-init : goal.loop-d-init
-loop-d-init c = (omega arith, below_none _)
-
-pub returns-then-n-d : goal.returns-then-n-d
+-- as many as a state has room for
+room : (n m : ℕ) (loads roles : List ℕ) (s : State) → m ≡ min n 32 → every m (λ d. device_timed loads (get_or roles d 0) s d) ≡ all_timed n loads roles s
 unfolding all_timed
-returns-then-n-d c = sym (every-all _ _ (λ i l. c.loop-d.invariant.1 i (omega arith)))
-
-pub returns-then-not-device_timed : goal.returns-then-not-device_timed
-unfolding all_timed
-returns-then-not-device_timed c = sym (every-not _ _ _ (omega arith) (sym c.device_timed.ensures ∙ c.if-not-device_timed.true))
-
-pub loop-d-smaller : goal.loop-d-smaller
-loop-d-smaller c = omega arith
-
-pub loop-d-preserved : goal.loop-d-preserved
-loop-d-preserved c = (omega arith, below_more _ _ c.loop-d.invariant.1 (sym c.device_timed.ensures ∙ c.if-not-device_timed.false))
+room n m loads roles s e = rw e
 
 pub returns : goal.returns
-unfolding all_timed
-returns c = sym (every-all _ _ (λ i l. c.loop-d.invariant.1 i (omega arith)))
+returns c =
+    let core = c.args.plan.now.core in
+    every-asked _ (λ d. device_timed core.loads (get_or core.role d 0) c.args.state.now d) _ _ _ c.all.ensures.ran refl (λ x b q k. search (rules, tests))
+    ∙ room core.devices _ core.loads core.role c.args.state.now c.min-n.ensures

@@ -45,12 +45,14 @@ module _ (s : State) (d own : ℕ) (long : length s ≡ words) (h : d < 32) (l :
       let n : own + (16 - own) ≡ 16 = omega arith in
       rw (p, q, front, back) (sym (every-add own (16 - own) sound) ∙ ap (λ m. every m sound) n)
 
-pub returns-then-not-short : goal.returns-then-not-short
-returns-then-not-short c =
+pub returns-then-short : goal.returns-then-short
+returns-then-short c =
     let a = c.args in
-    both a.state.now a.d a.own (omega arith) (omega arith) (omega arith) false _ (sym c.if-not-short.true ∙ c.short.ensures) refl
+    let is : c.index.result ≡ a.device = c.index.ensures.equal in
+    rw is at (both a.state.now c.index.result a.own (omega arith) (omega arith) (omega arith) true _ (sym c.if-short.true ∙ c.short.ensures) c.zeros.ensures)
 
-pub returns : goal.returns
-returns c =
+pub returns-else-short : goal.returns-else-short
+returns-else-short c =
     let a = c.args in
-    both a.state.now a.d a.own (omega arith) (omega arith) (omega arith) true _ (sym c.if-not-short.false ∙ c.short.ensures) c.zeros.ensures
+    let is : c.index.result ≡ a.device = c.index.ensures.equal in
+    c.if-short.false ∙ rw is at (both a.state.now c.index.result a.own (omega arith) (omega arith) (omega arith) false _ (sym c.if-short.false ∙ c.short.ensures) refl)

@@ -1,27 +1,23 @@
-use mathlib.Core.Path.{ap}
-use mathlib.Core.Bool.{not}
+use mathlib.Core.Path.{sym}
 use native.Mathlib.Omega.{arith}
-use Rattle.answers.proofs.Outcomes.{granted, denied}
+use borrow.Author.Tests.{eqb-true, eqb-false}
 use Rattle.text.specs.Text.{no_number}
 use Rattle.text.proofs.Reading.{read_none, read_more, read_all}
 use Rattle.text.proofs.reads.read_number.Goals as goal
 
-pub returns-then-digits-eq0 : goal.returns-then-digits-eq0
-returns-then-digits-eq0 c = no_number (λ d. omega (arith, d.some))
+pub returns-then-is_empty : goal.returns-then-is_empty
+returns-then-is_empty c = no_number (λ d. omega (arith, d.some, eqb-true _ _ (sym c.if-is_empty.ensures)))
 
-pub loop-i-init : goal.loop-i-init
-loop-i-init c = read_none (omega arith)
+pub loop-b-init : goal.loop-b-init
+loop-b-init c = read_none (omega (arith, eqb-false _ _ (sym c.if-is_empty.ensures)))
 
-pub returns-then-not-is_digit : goal.returns-then-not-is_digit
-returns-then-not-is_digit c =
-    no_number (λ d. denied c.is_digit.ensures (ap not c.if-not-is_digit.true) (d.each c.loop-i.i (omega arith)))
+pub returns-then-not-is_ascii_digit : goal.returns-then-not-is_ascii_digit
+returns-then-not-is_ascii_digit c =
+    no_number (λ d. omega (arith, (d.each c.loop-b.b-index (omega arith)).0, (d.each c.loop-b.b-index (omega arith)).1, c.if-not-is_ascii_digit.ensures.cases))
 
-pub with_digit-v-requires : goal.with_digit-v-requires
-with_digit-v-requires c = granted c.is_digit.ensures (ap not c.if-not-is_digit.false)
-
-pub loop-i-preserved : goal.loop-i-preserved
-loop-i-preserved c =
-    read_more c.loop-i.invariant (omega arith) (granted c.is_digit.ensures (ap not c.if-not-is_digit.false)) c.with_digit-v.ensures
+pub loop-b-preserved : goal.loop-b-preserved
+loop-b-preserved c =
+    read_more c.loop-b.invariant (omega arith) (omega (arith, c.if-not-is_ascii_digit.ensures.cases.0), omega (arith, c.if-not-is_ascii_digit.ensures.cases.1)) c.with_digit-v.ensures
 
 pub returns : goal.returns
-returns c = read_all c.loop-i.invariant (omega arith)
+returns c = read_all c.loop-b.invariant (omega arith)

@@ -1,2 +1,0 @@
--- No rules: what the contracts of private functions say. Nothing below has to be believed; public promises do not speak of it.
-pub mod Merged
