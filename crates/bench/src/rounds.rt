@@ -115,7 +115,8 @@ fn fall_device(router: bool, d: DeviceNo, state: &mut Words, told: &mut Told)
     }
 }
 
-// All timers, by device then identifier.
+// All timers, by device then identifier. Here and below devices and ports are counted: their words stand by
+// their numbers in several areas and in the plan.
 fn fall_all(plan: &Plan, state: &mut Words, told: &mut Told)
     requires { Laid plan.now × Idles plan.now state.old × (told.old.count ≡ 0) }
     ensures { Leads (fallen plan.now) 1024 state.old told.old state.new told.new }
@@ -341,7 +342,7 @@ fn copy(from: usize, to: usize, old: &Words, next: &mut Words)
     next[from..to].copy_from_slice(&old[from..to]);
 }
 
-// The words of n devices and of their ports, those of Time-Codes and drops too. Both areas are 0
+// The words of n devices, 32 at most in a held plan, and of their ports, those of Time-Codes and drops too. Both areas are 0
 // elsewhere, so the states are then equal.
 fn bring(n: usize, old: &Words, next: &mut Words)
     requires { (n ≤ 32) × Blank n old.now × Blank n next.old }

@@ -40,7 +40,8 @@ pub fn list(bytes: &[u8], area: &mut [u8]) -> Listed
     }
 }
 
-// The line of a byte, where the page has room for it.
+// The line of a byte, where the page has room for it: how much is left depends on all that stands there, so
+// that it is asked for here and below by a clause.
 fn put_line(page: &mut Page, byte: u8)
     requires { page.old.at + length (line byte) ≤ length page.old.area.now }
     ensures { Writes (line byte) page.old page.new }

@@ -1,4 +1,5 @@
-// The lines of the text: each block that was rebuilt, and behind it its ports that are connected back.
+// The lines of the text: each block that was rebuilt, and behind it its ports that are connected back. Room is
+// asked for by clauses: how much is left depends on all that stands on the page.
 ghost use Rattle.std.specs.Prelude.{◌+◌, ◌*◌, ◌≤◌, ◌<◌, length};
 ghost use Rattle.text.specs.Inner.Within.{WritesWithin};
 ghost use Rattle.mend.specs.Rescue.{longest};

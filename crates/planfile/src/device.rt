@@ -195,7 +195,8 @@ fn put_entry(p: usize, peer: u16, permissions: u8, block: &mut Block)
     block::put(block, at + SPARE, 1, 0);
 }
 
-// Puts the entries of the ports of device d.
+// Puts the entries of the ports of device d. The parts of a plan come apart here and below, as a rescue has
+// them, which makes no plan; and a port is counted, since its number is its place in each of them.
 fn put_entries(device: DeviceNo, permissions: &[u8; 256], peers: &[[u16; 8]; 32], block: &mut Block)
     ensures { block.new ≡ filled block.old (joined 8 (λ p. entry_holdings p (peer_at peers.now device p) (at permissions.now (8 * device + p)))) }
 {

@@ -116,6 +116,7 @@ fn put_pair(k: usize, loads: &Loads, block: &mut Block)
     block::put(block, NODE_PAIRS + 4 * k, 2, u32::from(loads[at]));
 }
 
+// The pairs of all identifiers, each at its own place of both.
 fn put_pairs(loads: &Loads, block: &mut Block)
     ensures { block.new ≡ filled block.old (joined 32 (pair_holdings loads.now)) }
 {

@@ -1,4 +1,5 @@
-// The lines of the text, each put behind the one before it.
+// The lines of the text, each put behind the one before it. Room is asked for by clauses: how much is left
+// depends on all that stands on the page.
 ghost use Rattle.std.specs.Prelude.{◌≡◌, ◌++◌, ℕ, ◌+◌, ◌*◌, ◌≤◌, ◌<◌, length, get_or};
 ghost use Rattle.text.specs.Inner.Within.{WritesWithin};
 ghost use Rattle.ways.specs.Cut.{number_of};

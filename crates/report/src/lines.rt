@@ -1,4 +1,5 @@
-// The lines of the text, each put behind the one before it.
+// The lines of the text, each put behind the one before it. Room is asked for by clauses: how much is left
+// depends on all that stands on the page.
 ghost use Rattle.std.specs.Prelude.{◌≡◌, ◌+◌, ◌*◌, ◌≤◌, ◌<◌, length};
 ghost use Rattle.plan.specs.Reading.{Held};
 ghost use Rattle.state.specs.Network.{devices};
