@@ -16,9 +16,11 @@ pub fn put(area: &mut [u8], at: usize, word: &[u8]) -> usize
     if !has_room(area.len(), at, word.len()) {
         return at;
     }
-    let end = at + word.len();
-    area[at..end].copy_from_slice(word);
-    end
+    // Byte by byte: `copy_from_slice` would have the archive for C ask for `memmove`.
+    for i in 0..word.len() {
+        area[at + i] = word[i];
+    }
+    at + word.len()
 }
 
 // Whether an area of `length` bytes has `size` of them from `at` on. The sum could wrap, so it
@@ -40,7 +42,10 @@ pub fn copy(src: &[u32], dst: &mut [u32])
     if dst.len() != src.len() {
         return;
     }
-    dst.copy_from_slice(src);
+    // Word by word, for the same reason as in `put`.
+    for i in 0..src.len() {
+        dst[i] = src[i];
+    }
 }
 
 // Makes every word of the area the value.

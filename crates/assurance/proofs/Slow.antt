@@ -1,4 +1,4 @@
--- The slowest that a code can be. Some a node's port all identifiers wait, the last of them 31, and a Time-Code waits before each round: then 31 waits on
+-- The slowest that a code can be. At a node's port all identifiers wait, the last of them 31, and a Time-Code waits before each round: then 31 waits on
 -- for 63 rounds, and nothing happens that concerns it.
 use mathlib.Core.Path.{◌≡◌, refl, sym, ap, ◌∙◌}
 use mathlib.Core.Bool.{Bool, true, false, false≢true}

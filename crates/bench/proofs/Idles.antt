@@ -1,10 +1,10 @@
 -- What a round passes over: it is so in every sound state of a held plan, and passing over it changes nothing.
-use mathlib.Core.Path.{◌≡◌, sym, ap, subst, ◌∙◌}
+use mathlib.Core.Path.{◌≡◌, refl, sym, ap, subst, ◌∙◌}
 use mathlib.Core.Bool.{Bool}
 use mathlib.Core.List.{List, [], ◌++◌}
 use mathlib.Core.Logic.{dite}
 use Prim.Native.Nat.{ℕ, ◌+◌, ◌-◌, ◌*◌, ◌/◌, ◌%◌, ◌≤◌, ◌<◌}
-use native.Mathlib.Decide.{dec_lt}
+use native.Mathlib.Decide.{dec_lt, ℕ_discrete}
 use native.Mathlib.Omega.{arith}
 use lib.ListN.{length, get_or, take, drop, replicate, length-replicate, get_or-replicate, get_or-eq_default}
 use lib.Seq.{ext_get_or}
@@ -20,7 +20,7 @@ use Rattle.plan.specs.Fields.{nobody}
 use Rattle.plan.specs.Reading.{Held}
 use Rattle.plan.specs.declared.Plan.{Plan}
 use Rattle.plan.proofs.BothWays.{held-few}
-use Rattle.state.specs.State.{State, words, word, device_words, ports_at, ports_end, register_at, timer_at, timer, counter_at, time_at, drops_start}
+use Rattle.state.specs.State.{State, words, word, put, device_words, ports_at, ports_end, register_at, timer_at, timer, counter_at, time_at, drops_start}
 use Rattle.state.specs.Network.{devices, ports_of, peer}
 use Rattle.state.specs.Sound.{Sound}
 use Rattle.bench.specs.Round.{World, nothing, sent_words, fall, sent_bytes, arrives, round}
@@ -29,7 +29,7 @@ use Rattle.bench.specs.Inner.Shown.{Leads}
 use Rattle.bench.specs.declared.rounds.Told.{Told}
 use Rattle.bench.proofs.Falls.{fall-other}
 use Rattle.state.proofs.Plans.{few, past-absent, absent-loose}
-use Rattle.state.proofs.Words.{word-past}
+use Rattle.state.proofs.Words.{word-past, length-put, word_same, word-other}
 use Rattle.state.proofs.Parts.{by_place, by-behind}
 use Rattle.bench.proofs.Stepped.{fall-idle, goes-not, chosen_none, post-nothing, arrives-nothing}
 use Rattle.bench.proofs.Following.{world, turns-still, shows-none}
@@ -173,6 +173,21 @@ module _ (from to : ℕ) (old before part : State) (l : from ≤ to) (m : to ≤
         there = inside;
         left = outside;
       }
+
+-- words that are copied, by one store after the other
+pub copies-none : {from to : ℕ} {old s : State} → to ≤ from → Copies from to old s s
+copies-none h = record { size = refl; there = λ i a b. absurd (omega arith); left = λ i o. refl }
+
+pub copies-more : {from i v : ℕ} {old s t : State} → Copies from i old s t → from ≤ i → i < length t → v ≡ word old i → Copies from (i + 1) old s (put t i v)
+copies-more {i = i} {v} {t = t} x l h e =
+    record {
+      size = length-put t i v ∙ x.size;
+      there = λ j a b. elim (ℕ_discrete j i) [
+        | yes z ↦ rw z (word_same t i v h ∙ e)
+        | no n ↦ word-other t i v j n ∙ x.there j a (omega arith)
+      ];
+      left = λ j o. word-other t i v j (λ z. o (omega arith) (omega arith)) ∙ x.left j (λ a b. o a (omega arith));
+    }
 
 -- what is so of every place that is theirs, and of every other, is so of all; those of devices, of ports, of counters, of the ports' Time-Codes, and of
 -- their drops

@@ -334,12 +334,14 @@ fn arrive_all(plan: &Plan, sent: &[u32; SENT], state: &mut Words, told: &mut Tol
 
 // ---- the round
 
-// The words of a state from one place to another.
+// The words of a state from one place to another, one by one, as in `areas::copy`.
 fn copy(from: usize, to: usize, old: &Words, next: &mut Words)
     requires { (from ≤ to) × (to ≤ length old.now) }
     ensures { Copies from to old.now next.old next.new }
 {
-    next[from..to].copy_from_slice(&old[from..to]);
+    for i in from..to {
+        next[i] = old[i];
+    }
 }
 
 // The words of n devices, 32 at most in a held plan, and of their ports, those of Time-Codes and drops too. Both areas are 0
@@ -406,9 +408,9 @@ pub fn round(
     if told.len() != TOLD {
         return Err(Refusal::WrongArea);
     }
-    next.fill(0);
-    sent.fill(NOTHING);
-    told.fill(0);
+    areas::fill(next, 0);
+    areas::fill(sent, NOTHING);
+    areas::fill(told, 0);
     let count = play(&plan, old, next, sent, told);
     Ok(count as u32)
 }

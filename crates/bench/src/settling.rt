@@ -38,6 +38,14 @@ fn quiet(n: usize, state: &Words) -> bool
     true
 }
 
+// An area is made the same as another.
+#[tactic(auto, unfolding(areas::specs::Put::copied))]
+fn copy(from: &Words, to: &mut Words)
+    ensures { to.new ≡ from.now }
+{
+    areas::copy(from, to);
+}
+
 // Two areas that take turns: the state, and the one that the next state is built in.
 #[derive(Drop)]
 struct Turns<'a> {
@@ -66,7 +74,7 @@ impl<'a> Turns<'a> {
         ensures cleared { self.new.next.now ≡ table words (λ _. 0) }
     {
         if n % 2 == 1 {
-            *self.next = *self.now;
+            copy(self.now, self.next);
             std::mem::swap(&mut self.now, &mut self.next);
         }
         *self.next = [0; WORDS];
@@ -133,7 +141,7 @@ pub fn settle(
     if allowance > ROUNDS {
         return Err(Refusal::TooManyRounds);
     }
-    second.fill(0);
+    areas::fill(second, 0);
     // A state that is not refused is as long as a state.
     let state = state.as_mut_array::<WORDS>().unwrap();
     run(&plan, state, second, allowance)

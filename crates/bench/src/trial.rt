@@ -119,8 +119,8 @@ pub fn trials(
     let Some(found) = found.as_mut_array::<FOUND>() else {
         return Err(Refusal::WrongArea);
     };
-    second.fill(0);
+    areas::fill(second, 0);
     try_all(&plan, state, second, found);
-    state.fill(0);
+    areas::fill(state, 0);
     Ok(())
 }

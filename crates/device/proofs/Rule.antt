@@ -1,4 +1,4 @@
--- The rule for a code of a kind: what it takes to be accepted, two of the ways it can end, and one law for them all.
+-- The rule for a code of a kind, one law for each way it can end, and one for them all.
 use mathlib.Core.Path.{◌≡◌, refl, sym, ◌∙◌}
 use mathlib.Core.Bool.{Bool, true, false, cond, not, ◌&&◌, false≢true}
 use Prim.Native.Nat.{ℕ}
@@ -28,15 +28,33 @@ pub record Accepts (side : Side) (register kind k : ℕ) : Type 0 where
   pub stood : bit register k ≡ kind
 
 module _ (side : Side) (register counter kind k : ℕ) (code : Code) where
+  pub stopped : side.running ≡ false → kept register counter (LinkError code) ≡ ruled side register counter kind k code
+  unfolding ruled
+  stopped s = simp s
+
+  pub forbidden : side.running ≡ true → may_receive kind side.permissions ≡ false → kept register counter (Ignored code) ≡ ruled side register counter kind k code
+  unfolding ruled
+  forbidden s m = simp (s, m)
+
   pub barred : side.running ≡ true → may_receive kind side.permissions ≡ true → (bit (bars_of side kind) k ≡ 0 → ⊥)
       → kept register counter (Dropped code) ≡ ruled side register counter kind k code
   unfolding ruled
   barred s m b = simp (s, m, ne_eqb _ _ b)
 
+  pub unused : side.running ≡ true → may_receive kind side.permissions ≡ true → bit (bars_of side kind) k ≡ 0 → is_used side.events kind k ≡ false
+      → kept register counter (Ignored code) ≡ ruled side register counter kind k code
+  unfolding ruled
+  unused s m b u = simp (s, m, eq-eqb _ _ b, u)
+
   pub opposite : side.running ≡ true → may_receive kind side.permissions ≡ true → bit (bars_of side kind) k ≡ 0 → is_used side.events kind k ≡ true
       → (bit register k ≡ kind → ⊥) → kept register counter (Ignored code) ≡ ruled side register counter kind k code
   unfolding ruled
   opposite s m o u b = simp (s, m, eq-eqb _ _ o, u, ne_eqb _ _ b)
+
+  pub taken : (next : ℕ) (action : Action) → Accepts side register kind k → next ≡ marked kind register k
+      → action ≡ passed_on side.router code → record { register = next; counter = counter; action = action } ≡ ruled side register counter kind k code
+  unfolding ruled
+  taken next action o e a = simp (o.runs, o.may, eq-eqb _ _ o.unbarred, o.used, eq-eqb _ _ o.stood) (λ i. record { register = e i; counter = counter; action = a i })
 
 -- two registers that agree on the bit: the rule ends the same way for both, and what is so of each way is so of the rule
 pub ruled-both : (R : Reaction → Reaction → Type 0) (side : Side) (a b m n kind k : ℕ) (code : Code) → bit a k ≡ bit b k

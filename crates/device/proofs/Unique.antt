@@ -4,7 +4,7 @@ use mathlib.Core.Bool.{Bool}
 use Prim.Native.Nat.{ℕ}
 use native.Mathlib.Omega.{arith}
 use Rattle.std.specs.Prelude.{Result, Ok, Err}
-use Rattle.device.specs.Kinds.{Names}
+use Rattle.device.specs.Kinds.{kind_of, Names}
 use Rattle.device.specs.Permissions.{may_send, may_receive}
 use Rattle.device.specs.Reaction.{marked, next_time, is_used, reacts}
 use Rattle.device.specs.declared.Kind.{Kind}
@@ -23,6 +23,9 @@ kind-unique n (Ok Acknowledge) (Err e) p q = absurd (omega arith)
 kind-unique n (Err e) (Ok Interrupt) p q = absurd (omega arith)
 kind-unique n (Err e) (Ok Acknowledge) p q = absurd (omega arith)
 kind-unique n (Err e) (Err f) p q = ap (λ (i : ℕ). Err (record { 0 = i })) (p.0 ∙ sym q.0)
+
+pub kind-number-unique : (kind : Kind) (r s : ℕ) → r ≡ kind_of kind → s ≡ kind_of kind → r ≡ s
+kind-number-unique kind r s p q = p ∙ sym q
 
 pub may-send-unique : (kind permissions : ℕ) (r s : Bool) → r ≡ may_send kind permissions → s ≡ may_send kind permissions → r ≡ s
 may-send-unique kind permissions r s p q = p ∙ sym q

@@ -1,4 +1,4 @@
--- Settling with an area of the call's own: it makes no difference what stands in it at first, only how long it is.
+-- Settling and the text with areas of the call's own: it makes no difference what stands in them at first, only how long they are.
 use mathlib.Core.Path.{◌≡◌, sym, ap, ◌∙◌}
 use mathlib.Core.List.{List}
 use mathlib.Core.Logic.{inl, inr}
@@ -12,8 +12,9 @@ use Rattle.plan.specs.declared.Plan.{Plan}
 use Rattle.plan.proofs.Good.{refusal-numbered}
 use Rattle.state.specs.State.{State, words}
 use Rattle.bench.specs.Settling.{Pair, Settles, pair}
+use Rattle.report.specs.Report.{Areas, Reports, lent}
 use Rattle.door.specs.OnFile.{Gives}
-use Rattle.door.specs.Own.{own, SettlesOwn}
+use Rattle.door.specs.Own.{own, SettlesOwn, ReportsOwn}
 
 own-long : length own ≡ words
 own-long = length-table words (λ i. 0)
@@ -56,3 +57,16 @@ never-3 file before after allowance number value g e =
       | yes z ↦ no-3 (g.accepted z) e
       | no h ↦ omega (arith, (g.refused h).0, refusal-numbered file h)
     ]
+
+module _ {file before after : List ℕ} {number value : ℕ} where
+  pub reports-own : (one other then last : List ℕ) → length one ≡ words → length other ≡ words
+      → Reports file (lent one other before) number value (lent then last after) → ReportsOwn file before number value after
+  reports-own one other then last p q r =
+      record {
+        answers = rw (as_long one p) at (rw (as_long other q) at r.answers);
+        made = λ z. let m = r.made z in (m.0, m.1, m.2, alone m.3);
+        kept = λ z. ((r.kept z).0, alone (r.kept z).1);
+      }
+    where
+      alone : {a b : Areas} → a ≡ b → lent own own a.text ≡ lent own own b.text
+      alone e = ap (λ (x : Areas). lent own own x.text) e

@@ -46,7 +46,9 @@ fn put_line(page: &mut Page, byte: u8)
     requires { page.old.at + length (line byte) ≤ length page.old.area.now }
     ensures { Writes (line byte) page.old page.new }
 {
-    page.then(u32::from(byte), b" ");
+    // In two pieces: `then` would count the digits twice.
+    page.number(u32::from(byte));
+    page.word(b" ");
     put_name(page, codes::read(byte));
     page.word(b"\n");
 }

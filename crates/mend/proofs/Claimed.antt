@@ -22,7 +22,7 @@ use Rattle.plan.specs.Refusals.{count_in}
 use Rattle.mend.specs.Claims.{last, damaged, pointed, claims, claimant, once, uncontested}
 use Rattle.mend.specs.Mended.{ports_for}
 use Rattle.mend.specs.Inner.Steps.{Fronted, marks, peer_in, peers_in, pointed_all, claimant_below, claimants_in, contest_at, contest, lowest, contested, ports_in}
-use Rattle.mend.proofs.Last.{last_found, last-same}
+use Rattle.mend.proofs.Last.{last_found, last-same, last-most}
 use Rattle.mend.proofs.Marked.{marks-at}
 
 -- ---- the loop over the claims: who claims each port, of the first n ports
@@ -118,10 +118,14 @@ module _ (file : List ℕ) where
   pub claimant-at : (t : ℕ) → t < 256 → at (table 256 (claimant file)) t ≡ claimant file t
   claimant-at t h = get_d-table {A = ℕ} 256 (claimant file) t 0 h
 
-  -- the list of claimants, and the ports of a router by it
+  -- the list of claimants, how large they are, and the ports of a router by it
   pub claimants-are : claimants_in (pointed_all file) ≡ table 256 (claimant file)
   unfolding claimants_in claimant claims
   claimants-are = same-table 256 _ _ (λ t h. last-same 256 _ _ nobody (λ q l. ap (λ k. eqb k t) (pointed-at q l)))
+
+  pub claimant-most : (t : ℕ) → claimant file t ≤ 256
+  unfolding claimant
+  claimant-most t = last-most 256 (claims file t) nobody 256 (omega arith) (omega arith)
 
   pub ports-are : (d : ℕ) → d < 32 → ports_in (table 256 (claimant file)) d ≡ ports_for file d
   unfolding ports_in ports_for

@@ -34,7 +34,7 @@ use Rattle.mend.specs.Rescue.{longest, good_tests, claim_tests, result_tests, re
 use Rattle.mend.specs.Told.{Prints}
 use Rattle.mend.specs.Inner.Steps.{Fronted, marks, marked_at, pointed_all, claimants_in, contested, router_in, routers_over, lines_in, Finishes, Ready, rest_tests, Mends}
 use Rattle.mend.proofs.Blocks.{mended-long}
-use Rattle.mend.proofs.Claimed.{claimants-are, claimant-at, ports-are, answer, contested-none, contested-first}
+use Rattle.mend.proofs.Claimed.{claimants-are, claimant-at, claimant-most, ports-are, answer, contested-none, contested-first}
 use Rattle.mend.proofs.Passing.{good-passes}
 use Rattle.mend.proofs.Result.{fronted, reader-says}
 use Rattle.mend.proofs.Texts.{mark-there, lines-text}
@@ -95,6 +95,9 @@ module _ {made claimants : List ℕ} {damaged : List Bool} {before : Lent} {read
 module _ (file : List ℕ) {pointed claimants : List ℕ} (p : pointed ≡ pointed_all file) (c : claimants ≡ claimants_in pointed) where
   pub claimants-is : claimants ≡ table 256 (claimant file)
   claimants-is = c ∙ ap claimants_in p ∙ claimants-are file
+
+  pub claimants-most : (t : ℕ) → t < 256 → at claimants t ≤ 256
+  claimants-most t h = rw (claimants-is, claimant-at file t h) (claimant-most file t)
 
   pub answer-is : {marked : List Bool} {found : Option ℕ} → marked ≡ marks file → found ≡ contested pointed claimants marked → found ≡ answer file
   answer-is m e = e ∙ rw (p, claimants-is, m)

@@ -1,7 +1,7 @@
 -- The last place at which a test is true.
 use mathlib.Core.Path.{◌≡◌, refl, sym, ap, ap₂, ◌∙◌}
 use mathlib.Core.Bool.{Bool, true, false, cond, false≢true}
-use Prim.Native.Nat.{ℕ, zero, suc, ◌≤◌, ◌<◌}
+use Prim.Native.Nat.{ℕ, zero, suc, ◌+◌, ◌≤◌, ◌<◌}
 use native.Mathlib.Decide.{ℕ_discrete}
 use native.Mathlib.Omega.{arith}
 use Rattle.mend.specs.Claims.{last}
@@ -40,3 +40,13 @@ pub last-same : (n : ℕ) (f g : ℕ → Bool) (none : ℕ) → ((i : ℕ) → i
 unfolding last
 last-same zero f g none h = refl
 last-same (suc n) f g none h = ap₂ (λ (b : Bool) (k : ℕ). cond b n k) (h n (omega arith)) (last-same n f g none (λ i l. h i (omega arith)))
+
+-- it is no more than k, if neither a place below n nor what is given is
+pub last-most : (n : ℕ) (f : ℕ → Bool) (none k : ℕ) → n ≤ k + 1 → none ≤ k → last n f none ≤ k
+unfolding last
+last-most zero f none k h l = l
+last-most (suc n) f none k h l = by-test (f n) (last-most n f none k (omega arith) l)
+  where
+    by-test : (b : Bool) → last n f none ≤ k → cond b n (last n f none) ≤ k
+    by-test true r = omega arith
+    by-test false r = r

@@ -4,7 +4,7 @@ use mathlib.Core.List.{List}
 use Prim.Native.Nat.{ℕ}
 use native.Mathlib.Decide.{ℕ_discrete}
 use native.Mathlib.Omega.{arith}
-use Rattle.std.specs.Prelude.{Result, Ok, Err}
+use Rattle.std.specs.Prelude.{Result, Ok, Err, MatchResult}
 use Rattle.answers.specs.Refusals.{number_of, number_in}
 use Rattle.answers.specs.declared.Refusal.{Refusal}
 use Rattle.answers.proofs.Refusals.{positive, refusal-once, done-once}
@@ -36,6 +36,19 @@ read-once (Err f) (Err g) e = ap Err (fault-once f g (ap (λ (r : Read). r.numbe
 
 pub read-unique : (file : List ℕ) (r s : Result Plan Fault) → read_in r ≡ reads file → read_in s ≡ reads file → r ≡ s
 read-unique file r s p q = read-once r s (p ∙ sym q)
+
+-- what is lent holds the plan that was read, or else what it held
+abbrev loads : List ℕ → Plan → Result (Unit {0}) Fault → Plan → Type 0
+loads file before r after = MatchResult r (λ _. read_in (Ok after) ≡ reads file) (λ fault. (read_in (Err fault) ≡ reads file) × (after ≡ before))
+
+pub load-unique : (file : List ℕ) (before a b : Plan) (r s : Result (Unit {0}) Fault) → loads file before r a → loads file before s b → (r ≡ s) × (a ≡ b)
+load-unique file before a b (Ok v) (Ok w) p q = (ap Ok refl, ap (λ (r : Read). r.plan) (p ∙ sym q))
+load-unique file before a b (Ok v) (Err g) p q =
+    let n = positive g.refusal in let z : 0 ≡ number_of g.refusal = ap (λ (r : Read). r.number) (p ∙ sym q.0) in absurd (omega arith)
+load-unique file before a b (Err f) (Ok w) p q =
+    let n = positive f.refusal in let z : number_of f.refusal ≡ 0 = ap (λ (r : Read). r.number) (p.0 ∙ sym q) in absurd (omega arith)
+load-unique file before a b (Err f) (Err g) p q =
+    let e = p.0 ∙ sym q.0 in (ap Err (fault-once f g (ap (λ (r : Read). r.number) e) (ap (λ (r : Read). r.block) e)), p.1 ∙ sym q.1)
 
 pub front-unique : (file : List ℕ) (r s : Result (Unit {0}) Fault) → verdict_in r ≡ first (front_tests file) → verdict_in s ≡ first (front_tests file) → r ≡ s
 front-unique file r s p q = verdict-once r s (p ∙ sym q)

@@ -82,7 +82,7 @@ impl<'a> Net<'a> {
     // Each port of a device is examined, and what it leads to is visited, but for a device that was met
     // before: so no port counts twice.
     #[cycle(device_each_port)]
-    pub fn each_port(&self, device: DeviceNo, start: u32) -> Seen
+    pub(crate) fn each_port(&self, device: DeviceNo, start: u32) -> Seen
         requires { Few self.now.plan.now.core.ports }
         ensures { Finds (λ depth. port_visit self.now.plan.now.core.role self.now.plan.now.core.ports (ahead_in self.now.plan.now self.now.state.now self.now.k) depth device 0 (seen start 0)) (left start + 9) result }
     {

@@ -84,6 +84,10 @@ was-done (Err e) r held fits = elim r.answers [
 
 -- ---- what the call answers
 
+module _ (file state second text : List ℕ) where
+  pub misfits : (Fits (length state) (length second) (length text) → ⊥) → Reports file (lent state second text) 3 0 (lent state second text)
+  misfits m = record { answers = inl (m, refl); made = λ z. absurd (omega (arith, z)); kept = λ _. (refl, refl) }
+
 -- the text was made on a page that goes on at its front
 module _ (file : List ℕ) {p q : Page} (z : p.at ≡ 0) (room : longest ≤ length p.area.now) (v : PutsText file p q) where
   in-front : (q.at ≡ length v.text) × (q.area.now ≡ over v.text p.area.now)

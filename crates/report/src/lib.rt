@@ -32,8 +32,8 @@ pub fn report(
     }
     let mut page = Page { area: text, at: 0 };
     put_text(file, state, second, &mut page);
-    state.fill(0);
-    second.fill(0);
+    areas::fill(state, 0);
+    areas::fill(second, 0);
     Ok(page.at as u32)
 }
 

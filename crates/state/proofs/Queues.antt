@@ -3,10 +3,10 @@ use mathlib.Core.Path.{◌≡◌, refl, sym, ◌∙◌}
 use mathlib.Core.Bool.{Bool, true, false, cond, ◌&&◌}
 use mathlib.Core.List.{List}
 use mathlib.Core.Logic.{◌⊎◌, inl, inr}
-use Prim.Native.Nat.{ℕ, zero, suc, ◌<◌}
+use Prim.Native.Nat.{ℕ, zero, suc, ◌+◌, ◌*◌, ◌<◌}
 use native.Mathlib.Omega.{arith}
 use lib.Dec.{eqb, ltb}
-use lib.ListN.{length}
+use lib.ListN.{length, get_or}
 use borrow.Author.Tests.{eq-eqb, ne_eqb, eqb-true, lt-ltb, ltb-true}
 use Rattle.device.specs.Kinds.{kind_of}
 use Rattle.device.specs.Permissions.{may_send}
@@ -14,9 +14,9 @@ use Rattle.device.specs.declared.Kind.{Kind}
 use Rattle.device.specs.declared.Kind.TheVariants.{Interrupt, Acknowledge}
 use Rattle.state.specs.declared.port.Port.{Port}
 use Rattle.state.specs.State.{State, words, put, port_at, waiting, next, running}
-use Rattle.state.specs.Queue.{queue_at, queue_all_at, queue_in}
+use Rattle.state.specs.Queue.{sends_at, queue_at, queue_but, queue_all_at, queue_in}
 use Rattle.state.specs.Inner.Port.{queued_port}
-use Rattle.state.proofs.Words.{put_word, put-comm}
+use Rattle.state.proofs.Words.{length-put, put_word, put-comm}
 
 -- the number of a kind
 pub kinds : (kind : Kind) → kind_of kind < 2
@@ -64,6 +64,21 @@ queue-may permissions kind k q s h e = by-test (eqb (running s q) 1) refl kind h
 pub queue-stored : (permissions kind k q : ℕ) (s : State) (r : Port) → kind < 2 → may_send kind permissions ≡ true → r ≡ queued_port kind k (port_in s q)
     → stored s q r ≡ queue_at permissions kind k q s
 queue-stored permissions kind k q s r h m e = rw e (sym (queue-may permissions kind k q s h m))
+
+pub length-queue : (permissions kind k q : ℕ) (s : State) → length (queue_at permissions kind k q s) ≡ length s
+unfolding queue_at
+length-queue permissions kind k q s = by-test (sends_at permissions kind q s) refl
+  where
+    by-test : (t : Bool) → sends_at permissions kind q s ≡ t → length (queue_at permissions kind k q s) ≡ length s
+    by-test true p = rw p (length-put _ _ _ ∙ length-put _ _ _)
+    by-test false p = rw p
+
+pub length-but : (permissions : List ℕ) (kind k d but p : ℕ) (s : State) → length (queue_but permissions kind k d but p s) ≡ length s
+length-but permissions kind k d but p s = by-test (eqb (8 * d + p) but)
+  where
+    by-test : (t : Bool) → length (cond t s (queue_at (get_or permissions (8 * d + p) 0) kind k (8 * d + p) s)) ≡ length s
+    by-test true = refl
+    by-test false = length-queue _ _ _ _ _
 
 -- in a state, of a device that it has room for
 pub queued-in : (permissions : List ℕ) (kind k d but : ℕ) (s : State) → length s ≡ words → d < 32 → kind < 2 → queue_in permissions kind k d but s ≡ queue_all_at permissions kind k d but s

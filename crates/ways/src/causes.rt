@@ -55,7 +55,7 @@ impl<'a> Border<'a> {
     }
 
     // The causes at all ports; answers how many there are.
-    pub fn put_causes(&self, causes: &mut [u32; CUT]) -> u32
+    pub(crate) fn put_causes(&self, causes: &mut [u32; CUT]) -> u32
         ensures { (causes.new ≡ table 256 (caused self.now.plan.now self.now.state.now self.now.far.now self.now.k)) × (result ≡ marks 256 (caused self.now.plan.now self.now.state.now self.now.far.now self.now.k)) }
     {
         *causes = std::array::from_fn(|q| self.number(PortNo::new(q).unwrap()));

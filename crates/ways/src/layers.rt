@@ -18,7 +18,7 @@ pub(crate) struct Roads<'a> {
 
 impl<'a> Roads<'a> {
     // The layer of each device, from a first device on. A device that none leads to stays unreached.
-    pub fn walk(&self, from: DeviceNo, far: &mut [u32; CROSSINGS])
+    pub(crate) fn walk(&self, from: DeviceNo, far: &mut [u32; CROSSINGS])
         ensures { far.new ≡ layers self.now.to.now self.now.role.now from }
     {
         *far = [UNREACHED; CROSSINGS];

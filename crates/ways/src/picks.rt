@@ -37,7 +37,7 @@ impl<'a> Slope<'a> {
     }
 
     // The chain from a device on, in front of its area, as many ports as crossings.
-    pub fn follow(&self, from: DeviceNo, ports: &mut [u32; CHAIN])
+    pub(crate) fn follow(&self, from: DeviceNo, ports: &mut [u32; CHAIN])
         requires { (get_or self.now.far.now from 0 < 32) × Downhill self.now.role.now self.now.to.now self.now.far.now }
         ensures { ports.new ≡ picked self.now.role.now self.now.to.now self.now.far.now (get_or self.now.far.now from 0) from ++ drop (get_or self.now.far.now from 0) ports.old }
     {

@@ -3,7 +3,8 @@ use mathlib.Core.Path.{refl, ap, ◌∙◌}
 use native.Mathlib.Omega.{arith}
 use Rattle.std.proofs.Common.{rules}
 use Rattle.answers.proofs.Outcomes.{granted}
-use Rattle.bench.proofs.SettlingLoop.{cleared}
+use Prim.Native.Nat.{ℕ}
+use Rattle.lists.specs.Table.{table}
 use Rattle.report.proofs.Texts.{small, reports}
 use Rattle.report.proofs.report.Goals as goal
 
@@ -19,5 +20,5 @@ pub returns : goal.returns
 returns c =
     let f = granted c.fits.ensures (ap not c.if-not-fits.false) in
     let v = c.put_text in
-    reports _ refl f.1 v.ensures f.0 (cleared (v.auto.state ∙ f.0.0) (c.fill.ensures.after (λ y e. e)))
-    (cleared (v.auto.second ∙ f.0.1) (c.fill-2.ensures.after (λ y e. e))) (search rules)
+    reports _ refl f.1 v.ensures f.0 (c.fill.ensures ∙ ap (λ (k : ℕ). table k (λ _. 0)) (v.auto.state ∙ f.0.0))
+    (c.fill-2.ensures ∙ ap (λ (k : ℕ). table k (λ _. 0)) (v.auto.second ∙ f.0.1)) (search rules)

@@ -3,14 +3,14 @@ use mathlib.Core.Path.{◌≡◌, refl, ap, ◌∙◌}
 use mathlib.Core.List.{List}
 use Prim.Native.Nat.{ℕ}
 use native.Mathlib.Omega.{arith}
-use lib.ListN.{length, replicate}
+use lib.ListN.{length}
 use Rattle.answers.specs.Ordered.{Ordered}
 use Rattle.answers.proofs.Outcomes.{Holds, holds}
 use Rattle.lists.specs.Table.{table}
 use Rattle.plan.specs.declared.Plan.{Plan}
 use Rattle.state.specs.State.{State}
 use Rattle.state.specs.Sound.{state_asks}
-use Rattle.bench.proofs.Idles.{held-laid, sound-idles, zeros-blank, filled, silent-all}
+use Rattle.bench.proofs.Idles.{held-laid, sound-idles, zeros-blank, silent-all}
 use Rattle.bench.proofs.RoundReturns.{sent-long, told-long, plays, count_fits}
 use Rattle.bench.proofs.rounds.round.Goals as goal
 
@@ -19,8 +19,8 @@ ready : (plan : Plan) (old : State) → Ordered (state_asks plan old) 0 → Hold
 ready plan old o = holds (state_asks plan old) refl o refl
 
 -- an area of so many words that was filled
-cleared : {area lent after : List ℕ} {n : ℕ} (v : ℕ) → lent ≡ area → length area ≡ n → after ≡ replicate (length lent) v → after ≡ table n (λ _. v)
-cleared {n = n} v same long e = filled n v (e ∙ ap (λ (k : ℕ). replicate k v) (ap length same ∙ long))
+cleared : {area lent after : List ℕ} {n : ℕ} (v : ℕ) → lent ≡ area → length area ≡ n → after ≡ table (length lent) (λ _. v) → after ≡ table n (λ _. v)
+cleared v same long e = e ∙ ap (λ (k : ℕ). table k (λ _. v)) (ap length same ∙ long)
 
 pub returns-in_default-as_mut_array : goal.returns-in_default-as_mut_array
 returns-in_default-as_mut_array c =
@@ -41,8 +41,8 @@ play-count-requires c =
     let sent = c.in-Some-as_mut_array.ensures.cases in (
       held-laid _ r.0,
       rw old.same (sound-idles _ r.0 r.1.0),
-      zeros-blank _ (cleared _ next.same next.long (c.fill.ensures.after (λ y e. e))),
-      silent-all _ _ (cleared _ sent.same sent.long (c.fill-2.ensures.after (λ y e. e))),
+      zeros-blank _ (cleared _ next.same next.long c.fill.ensures),
+      silent-all _ _ (cleared _ sent.same sent.long c.fill-2.ensures),
     )
 
 pub overflow_cast-result : goal.overflow_cast-result
@@ -51,4 +51,4 @@ overflow_cast-result c = omega (arith, count_fits (ready _ _ c.in_ok-refusal.ens
 pub returns : goal.returns
 returns c =
     let old = rw c.unwrap-old.ensures at c.as_array.ensures.cases in
-    plays _ _ _ (ready _ _ c.in_ok-refusal.ensures) c.in-Some.ensures.cases.long c.in-Some-as_mut_array.ensures.cases.long c.if-told-ne-TOLD.false (filled _ _ (c.fill-3.ensures.after (λ y e. e))) (rw old.same at c.play-count.ensures)
+    plays _ _ _ (ready _ _ c.in_ok-refusal.ensures) c.in-Some.ensures.cases.long c.in-Some-as_mut_array.ensures.cases.long c.if-told-ne-TOLD.false c.fill-3.ensures (rw old.same at c.play-count.ensures)

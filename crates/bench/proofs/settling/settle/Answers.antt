@@ -1,5 +1,7 @@
 use Rattle.std.proofs.Common.{ap, ◌∙◌, arith, length}
-use Rattle.bench.proofs.SettlingLoop.{ready, cleared, not-ready, too_many, ends}
+use Prim.Native.Nat.{ℕ}
+use Rattle.lists.specs.Table.{table}
+use Rattle.bench.proofs.SettlingLoop.{ready, not-ready, too_many, ends}
 use Rattle.bench.proofs.settling.settle.Goals as goal
 
 pub returns-in_err-refusal : goal.returns-in_err-refusal
@@ -15,7 +17,7 @@ run-requires c =
     let r = ready _ _ c.in_ok-refusal.ensures in
     let second = c.in-Some.ensures.cases in
     let state = rw c.unwrap-state.ensures at c.as_mut_array-2.ensures.cases in
-    (r.0, rw state.same r.1.0, cleared (ap length second.same ∙ second.long) (c.fill.ensures.after (λ y e. e)), omega arith)
+    (r.0, rw state.same r.1.0, c.fill.ensures ∙ ap (λ (k : ℕ). table k (λ _. 0)) (ap length second.same ∙ second.long), omega arith)
 
 pub returns : goal.returns
 returns c =

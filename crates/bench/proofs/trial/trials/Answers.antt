@@ -1,5 +1,6 @@
 use Rattle.std.proofs.Common.{ap, ◌∙◌, arith, length}
-use Rattle.bench.proofs.SettlingLoop.{cleared}
+use Prim.Native.Nat.{ℕ}
+use Rattle.lists.specs.Table.{table}
 use Rattle.bench.proofs.Tried.{misfits, finds}
 use Rattle.bench.proofs.trial.trials.Goals as goal
 
@@ -17,11 +18,11 @@ returns-in_default-as_mut_array-2 c =
 pub try_all-requires : goal.try_all-requires
 try_all-requires c =
     let second = c.in-Some-as_mut_array.ensures.cases in
-    (c.is_held.ensures.only c.if-not-is_held.false, cleared (ap length second.same ∙ second.long) (c.fill.ensures.after (λ y e. e)))
+    (c.is_held.ensures.only c.if-not-is_held.false, c.fill.ensures ∙ ap (λ (k : ℕ). table k (λ _. 0)) (ap length second.same ∙ second.long))
 
 pub returns : goal.returns
 returns c =
     let state = c.in-Some.ensures.cases in
     finds _ _ _ _ (c.is_held.ensures.only c.if-not-is_held.false) ((state.long, c.in-Some-as_mut_array.ensures.cases.long), c.in-Some-as_mut_array-2.ensures.cases.long) c.try_all.ensures.0
-    (cleared (omega arith) (c.fill-2.ensures.after (λ y e. e)))
+    (c.fill-2.ensures ∙ ap (λ (k : ℕ). table k (λ _. 0)) (omega arith))
     c.try_all.ensures.1
