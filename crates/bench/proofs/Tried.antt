@@ -5,7 +5,8 @@ use mathlib.Core.Logic.{inl, inr}
 use Prim.Native.Nat.{ℕ, zero, suc, ◌+◌, ◌-◌, ◌*◌, ◌/◌, ◌%◌, ◌≤◌, ◌<◌}
 use native.Mathlib.Numerals.{add-one}
 use native.Mathlib.Omega.{arith}
-use lib.ListN.{length, get_or}
+use lib.ListN.{length, get_or, set, length-set}
+use lib.Seq.{get_or-set_same, get_or-set_other}
 use borrow.Rule.Slice.PartMut.{mid_of, put_mid, mid_len, same_len_mid}
 use Rattle.std.proofs.lemmas.Grind.{elements}
 use Rattle.std.specs.Prelude.{Result, Ok, Err}
@@ -183,6 +184,42 @@ module _ {plan : Plan} {found : List ℕ} where
             each = below_more _ i (λ j l. same (f.each j l) (before (3 * j) (omega arith)) (before (3 * j + 1) (omega arith)) (before (3 * j + 2) (omega arith)))
                 (same t (first (here 0 (omega arith))) (here 1 (omega arith)) (here 2 (omega arith)));
           }
+
+module _ {plan : Plan} {found : List ℕ} {i : ℕ} (f : Found plan i found) where
+  -- the words of place i are stored one by one
+  module _ (h : i < 1024) {a b c : ℕ} (t : Tries plan (i / 32) (i % 32) a b c) where
+    abbrev one : List ℕ
+    one = set found (3 * i) a
+
+    abbrev two : List ℕ
+    two = set one (3 * i + 1) b
+
+    abbrev stored-three : List ℕ
+    stored-three = set two (3 * i + 2) c
+
+    before-three : (m : ℕ) → m < 3 * i → get_or found m 0 ≡ get_or stored-three m 0
+    before-three m l =
+        sym (get_or-set_other two (3 * i + 2) m c 0 (λ e. omega arith) ∙ get_or-set_other one (3 * i + 1) m b 0 (λ e. omega arith) ∙ get_or-set_other found (3 * i) m a 0 (λ e. omega arith))
+
+    size-one : length one ≡ found_words
+    size-one = length-set found (3 * i) a ∙ f.size
+
+    size-two : length two ≡ found_words
+    size-two = length-set one (3 * i + 1) b ∙ size-one
+
+    here-three : FoundAt plan stored-three i
+    here-three =
+        same t
+        (sym (get_or-set_other two (3 * i + 2) (3 * i) c 0 (λ e. omega arith) ∙ get_or-set_other one (3 * i + 1) (3 * i) b 0 (λ e. omega arith) ∙ get_or-set_same found (3 * i) a 0 (omega (arith, f.size))))
+        (sym (get_or-set_other two (3 * i + 2) (3 * i + 1) c 0 (λ e. omega arith) ∙ get_or-set_same one (3 * i + 1) b 0 (omega (arith, size-one))))
+        (sym (get_or-set_same two (3 * i + 2) c 0 (omega (arith, size-two))))
+
+    pub found-three : Found plan (i + 1) stored-three
+    found-three =
+        record {
+          size = length-set two (3 * i + 2) c ∙ size-two;
+          each = below_more _ i (λ j l. same (f.each j l) (before-three (3 * j) (omega arith)) (before-three (3 * j + 1) (omega arith)) (before-three (3 * j + 2) (omega arith))) here-three;
+        }
 
 -- ---- the promise, at each return
 

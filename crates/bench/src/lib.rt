@@ -1,5 +1,6 @@
 // The bench: what hosts and links may do between the rounds of a network, one round, and rounds until
-// nothing waits. Areas are the caller's; a refusal changes none of them.
+// nothing waits. Areas are the caller's; a refusal changes none of them. Settling's 12, that something waits
+// still, has a name among refusals and is none.
 #![tactic(auto)]
 
 mod rounds;

@@ -88,7 +88,10 @@ fn try_all(plan: &Plan, state: &mut Words, second: &mut Words, found: &mut [u32;
 {
     for i in 0..1024 {
         let place = three_words(attempt(plan, state, second, i / 32, (i % 32) as u32));
-        found[3 * i..3 * i + 3].copy_from_slice(&place);
+        // One by one: copied as a part they would wait in memory first.
+        found[3 * i] = place[0];
+        found[3 * i + 1] = place[1];
+        found[3 * i + 2] = place[2];
     }
 }
 
